@@ -1,0 +1,13 @@
+pub mod Table
+pub mod Valid
+pub mod Value
+pub mod Answer
+pub mod Octets
+pub mod Read
+pub mod Rows
+pub mod Judge
+pub mod Write
+pub mod Cut
+pub mod Calls
+pub mod Samples
+pub mod Programs

@@ -1,0 +1,199 @@
+-- The type table: its rows and fields by name.
+use Prim.Native.Nat.{ℕ, zero, suc, _+_, _*_, _/_, _%_}
+use mathlib.Core.List.{List, [], _∷_}
+use mathlib.Core.Bool.{Bool, true, false, _&&_, _||_, not}
+use mathlib.Core.Option.{Option, none, some}
+use lib.Dec.{eqb, ltb, leb}
+use lib.ListN.{length, getD, take, drop}
+use Rattle.json.specs.Bytes.{Row, on, pick}
+
+-- 01, Type table: "Rows of eight 32-bit numbers, fields 0 to 7." The rows are one list of numbers; the names are bytes beside it.
+pub record Table : Type 0 where
+  pub rows : List ℕ
+  pub names : List ℕ
+
+unfoldable pub rowCount : Table → ℕ
+rowCount t = length (t .rows) / 8
+
+unfoldable pub field : Table → ℕ → ℕ → ℕ
+field t r i = getD (t .rows) (r * 8 + i) 0
+
+-- ---- kinds
+
+-- 01, Type table: "Type kinds (field 0): 0 BOOLEAN, 1 INTEGER, 2 ENUMERATED, 3 NULL, 4 OCTET STRING, 5 UTF8String, 6 SEQUENCE,
+-- 7 SEQUENCE OF, 8 CHOICE." "A member row has kind 9".
+abbrev pub BOOLEAN : ℕ
+BOOLEAN = 0
+
+abbrev pub INTEGER : ℕ
+INTEGER = 1
+
+abbrev pub ENUMERATED : ℕ
+ENUMERATED = 2
+
+abbrev pub NULL : ℕ
+NULL = 3
+
+abbrev pub OCTET-STRING : ℕ
+OCTET-STRING = 4
+
+abbrev pub UTF8String : ℕ
+UTF8String = 5
+
+abbrev pub SEQUENCE : ℕ
+SEQUENCE = 6
+
+abbrev pub SEQUENCE-OF : ℕ
+SEQUENCE-OF = 7
+
+abbrev pub CHOICE : ℕ
+CHOICE = 8
+
+abbrev pub MEMBER : ℕ
+MEMBER = 9
+
+unfoldable pub kindOf : Table → ℕ → ℕ
+kindOf t r = field t r 0
+
+unfoldable pub isType : Table → ℕ → Bool
+isType t r = leb (kindOf t r) CHOICE
+
+-- ---- marks
+
+-- 01, Type table: "Field 1, sum of marks: 1 = BASE64 (4), ARRAY (6), UNWRAPPED (8); 2 = extensible (2, 6, 8)."
+unfoldable pub marksOf : Table → ℕ → ℕ
+marksOf t r = field t r 1
+
+unfoldable pub formMark : Table → ℕ → Bool
+formMark t r = eqb (marksOf t r % 2) 1
+
+unfoldable pub extensible : Table → ℕ → Bool
+extensible t r = eqb (marksOf t r / 2 % 2) 1
+
+unfoldable pub isBase64 : Table → ℕ → Bool
+isBase64 t r = eqb (kindOf t r) OCTET-STRING && formMark t r
+
+unfoldable pub isArray : Table → ℕ → Bool
+isArray t r = eqb (kindOf t r) SEQUENCE && formMark t r
+
+unfoldable pub isUnwrapped : Table → ℕ → Bool
+isUnwrapped t r = eqb (kindOf t r) CHOICE && formMark t r
+
+-- ---- members
+
+-- 01, Type table: "Field 2: first member row (2, 6, 8) or element type row (7)."
+unfoldable pub firstOf : Table → ℕ → ℕ
+firstOf t r = field t r 2
+
+unfoldable pub elementOf : Table → ℕ → ℕ
+elementOf t r = field t r 2
+
+-- "Field 3: how many members, in consecutive rows"
+unfoldable pub countOf : Table → ℕ → ℕ
+countOf t r = field t r 3
+
+-- "Field 4: how many of them are root, the rest are additions"
+unfoldable pub rootOf : Table → ℕ → ℕ
+rootOf t r = field t r 4
+
+-- the row of the member at the position i of the type at r
+unfoldable pub memberRow : Table → ℕ → ℕ → ℕ
+memberRow t r i = firstOf t r + i
+
+-- "field 1 is 1 if OPTIONAL (SEQUENCE only)"
+unfoldable pub optional : Table → ℕ → ℕ → Bool
+optional t r i = eqb (field t (memberRow t r i) 1) 1
+
+-- "field 2 its type row (0 for an enumeration item)"
+unfoldable pub typeAt : Table → ℕ → ℕ → ℕ
+typeAt t r i = field t (memberRow t r i) 2
+
+-- "fields 3 and 4 start and length of its name"
+unfoldable pub nameIn : Table → ℕ → List ℕ
+nameIn t m = take (field t m 4) (drop (field t m 3) (t .names))
+
+unfoldable pub nameAt : Table → ℕ → ℕ → List ℕ
+nameAt t r i = nameIn t (memberRow t r i)
+
+unfoldable pub addition : Table → ℕ → ℕ → Bool
+addition t r i = leb (rootOf t r) i
+
+-- 01, Value table: "an absent one, OPTIONAL or an addition"
+unfoldable pub mayMiss : Table → ℕ → ℕ → Bool
+mayMiss t r i = optional t r i || addition t r i
+
+-- ---- searching the members of a type
+
+-- the first position, of n from i on, that passes the test
+unfoldable pub firstWhere : (ℕ → Bool) → ℕ → ℕ → Option ℕ
+firstWhere f i zero = none
+firstWhere f i (suc n) = elim (f i) [ true ↦ some i | false ↦ firstWhere f (suc i) n ]
+
+unfoldable pub sameBytes : List ℕ → List ℕ → Bool
+sameBytes [] [] = true
+sameBytes [] (b ∷ bs) = false
+sameBytes (a ∷ xs) [] = false
+sameBytes (a ∷ xs) (b ∷ bs) = elim (eqb a b) [ true ↦ sameBytes xs bs | false ↦ false ]
+
+-- the position of a name
+-- 01, Reading: "Names and strings are compared as the characters they denote"
+unfoldable pub position : Table → ℕ → List ℕ → Option ℕ
+position t r s = firstWhere (λ i. sameBytes (nameAt t r i) s) 0 (countOf t r)
+
+-- ---- tokens
+
+pub data Token : Type 0 where
+  tNull tBoolean tNumber tString tArray tObject : Token
+
+unfoldable pub tokenCode : Token → ℕ
+tokenCode tNull = 0
+tokenCode tBoolean = 1
+tokenCode tNumber = 2
+tokenCode tString = 3
+tokenCode tArray = 4
+tokenCode tObject = 5
+
+unfoldable pub sameToken : Token → Token → Bool
+sameToken a b = eqb (tokenCode a) (tokenCode b)
+
+unfoldable pub tokenPick : Bool → Token → Token → Token
+tokenPick true a b = a
+tokenPick false a b = b
+
+-- the token that a value of the type at r begins with, if it is not UNWRAPPED
+-- 01, Type table: "ARRAY sequences and SEQUENCE OF make arrays; other sequences and wrapped choices make objects."
+unfoldable pub tokenOf : Table → ℕ → Token
+tokenOf t r =
+    pick (kindOf t r)
+    (on BOOLEAN BOOLEAN (λ k. tBoolean)
+    ∷ on INTEGER INTEGER (λ k. tNumber)
+    ∷ on ENUMERATED ENUMERATED (λ k. tString)
+    ∷ on NULL NULL (λ k. tNull)
+    ∷ on OCTET-STRING UTF8String (λ k. tString)
+    ∷ on SEQUENCE SEQUENCE (λ k. tokenPick (formMark t r) tArray tObject)
+    ∷ on SEQUENCE-OF SEQUENCE-OF (λ k. tArray)
+    ∷ [])
+    tObject
+
+-- the alternative of an UNWRAPPED choice that a token picks
+-- 01, Reading: "UNWRAPPED: the token's kind picks the alternative."
+unfoldable pub alternative : Table → ℕ → Token → Option ℕ
+alternative t r k = firstWhere (λ i. sameToken (tokenOf t (typeAt t r i)) k) 0 (countOf t r)
+
+-- ---- null
+
+unfoldable pub isSome : {A : Type 0} → Option A → Bool
+isSome none = false
+isSome (some a) = true
+
+-- 01, Type table: "a type that can be null (NULL, or UNWRAPPED with a NULL alternative)"
+unfoldable pub canBeNull : Table → ℕ → Bool
+canBeNull t r = eqb (kindOf t r) NULL || (isUnwrapped t r && isSome (alternative t r tNull))
+
+-- "an extensible UNWRAPPED choice"
+unfoldable pub openUnwrapped : Table → ℕ → Bool
+openUnwrapped t r = isUnwrapped t r && extensible t r
+
+-- X.697 14.2 and 27.3.4: null cannot stand for absence where it is, or may become, a value
+unfoldable pub nullTaken : Table → ℕ → Bool
+nullTaken t r = canBeNull t r || openUnwrapped t r

@@ -1,0 +1,17 @@
+pub mod Alive
+pub mod AliveSteps
+pub mod Rebase
+pub mod PlacesRun
+pub mod Places
+pub mod Feed
+pub mod TakesString
+pub mod TakesValue
+pub mod TakesNumber
+pub mod TakesTree
+pub mod Takes
+pub mod SoundRows
+pub mod SoundString
+pub mod SoundNumber
+pub mod SoundRest
+pub mod SoundSpace
+pub mod Sound

@@ -1,0 +1,5 @@
+pub mod Bytes
+pub mod Tree
+pub mod Utf8
+pub mod Grammar
+pub mod Machine

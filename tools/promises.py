@@ -1,0 +1,26 @@
+#!/usr/bin/env python3
+"""Checks docs/PROMISES.md: a theorem is named as `name` (`path`), and the file at that path must declare it."""
+import pathlib
+import re
+import sys
+
+ROOT = pathlib.Path(__file__).resolve().parent.parent
+
+
+def main():
+    page = (ROOT / "docs/PROMISES.md").read_text()
+    named = re.findall(r"`([^`\s]+)` \(`(crates/[^`]+)`\)", page)
+    wrong = []
+    for name, path in named:
+        file = ROOT / path
+        declared = file.is_file() and re.search(rf"^\s*(?:unfoldable |abbrev )?pub (?:fn |record |data )?{re.escape(name)}[ (:]", file.read_text(), re.M)
+        if not declared:
+            wrong.append(f"{name} is not declared in {path}")
+    for line in wrong:
+        print(line)
+    print(f"docs/PROMISES.md names {len(named)} theorems and definitions, {len(wrong)} of them missing")
+    return 1 if wrong or not named else 0
+
+
+if __name__ == "__main__":
+    sys.exit(main())
