@@ -6,6 +6,7 @@ pub mod Octets
 pub mod Read
 pub mod Rows
 pub mod Judge
+pub mod Fits
 pub mod Write
 pub mod Cut
 pub mod Calls

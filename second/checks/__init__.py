@@ -1,0 +1,1 @@
+"""Checks without reference answers, and against the answers that the papers print."""
