@@ -1,1 +1,12 @@
 pub mod Sane
+pub mod ValidLaws
+pub mod ValidRows
+pub mod ValidSane
+pub mod WeightGot
+pub mod Weight
+pub mod WeightMeasure
+pub mod WeightSum
+pub mod WeightLeaf
+pub mod WeightParts
+pub mod WeightMembers
+pub mod WeightLaws

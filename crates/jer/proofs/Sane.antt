@@ -16,7 +16,7 @@ pub record Sane (t : Table) : Type 0 where
   pub member : (r i : ℕ) → isType t r ≡ true → i < countOf t r → isType t (typeAt t r i) ≡ true
   pub named : (r i : ℕ) → isType t r ≡ true → i < countOf t r → utf8 (nameAt t r i) ≡ true
   pub differ : (r i j : ℕ) → isType t r ≡ true → i < j → j < countOf t r → sameBytes (nameAt t r i) (nameAt t r j) ≡ false
-  -- members of an ENUMERATED or CHOICE are not OPTIONAL
+  -- the members of a CHOICE are not OPTIONAL
   pub required : (r i : ℕ) → kindOf t r ≡ CHOICE → i < countOf t r → optional t r i ≡ false
   -- X.697 14.2
   pub array : (r i : ℕ) → isArray t r ≡ true → i < countOf t r → mayMiss t r i ≡ true → nullTaken t (typeAt t r i) ≡ false
