@@ -1,6 +1,6 @@
 """Makes the stored cases anew, or compares them with what is stored.
 
-python3 second/make.py                                  writes second/cases
+python3 second/make.py                                  writes stdin and stdout of crates/*_cases
 python3 second/make.py --check                          compares, exit 1 on a difference
 python3 second/make.py --seed N --count M --out DIR     another set, for comparisons
 """
@@ -13,24 +13,24 @@ from gen import annexes, big, hand_lines, hand_read, hand_table, hand_text, hand
 from gen import formats, random_cases
 
 HERE = os.path.dirname(os.path.abspath(__file__))
-STORED = os.path.join(HERE, 'cases')
+CRATES = os.path.join(os.path.dirname(HERE), 'crates')
 README = os.path.join(HERE, 'README.md')
 COUNTS_START = '<!-- counts -->'
 COUNTS_END = '<!-- end of counts -->'
 SEED = 697
 COUNT = 200
 
-# A random case with a longer line is left out of the ordinary files.
+# A random case with a longer line is left out; only the size limits have longer ones.
 LONGEST_LINE = 32768
 
 # The numbers that each side can answer with; make.py fails if one of them has no case.
 REACHABLE = (
-    ('reading', ('read', 'read-big'), (0, 1, 2, 3, 4, 5, 6, 7, 8, 9, 10, 11, 14)),
-    ('writing', ('write', 'write-big'), (0, 1, 12, 13, 14)),
-    ('table', ('table', 'table-big'), (0, 1)),
-    ('text', ('text', 'text-big'), (0, 2, 3, 4)),
-    ('jerread', ('jerread', 'jerread-big'), (0, 1, 3, 14, 15)),
-    ('jerwrite', ('jerwrite', 'jerwrite-big'), (0, 1, 12, 13, 15)),
+    ('read', (0, 1, 2, 3, 4, 5, 6, 7, 8, 9, 10, 11, 14)),
+    ('write', (0, 1, 12, 13, 14)),
+    ('table', (0, 1)),
+    ('text', (0, 2, 3, 4)),
+    ('jerread', (0, 1, 3, 14, 15)),
+    ('jerwrite', (0, 1, 12, 13, 15)),
 )
 
 
@@ -50,12 +50,13 @@ def ordinary_cases(seed, count):
 
 
 def big_cases():
-    yield 'table-big', formats.table_case, big.tables()
-    yield 'text-big', formats.text_case, singles(big.texts())
-    yield 'read-big', formats.read_case, big.reads()
-    yield 'write-big', formats.write_case, big.writes()
-    yield 'jerread-big', formats.input_case, singles(hand_lines.read_limits())
-    yield 'jerwrite-big', formats.input_case, singles(hand_lines.write_limits())
+    """The size limits, which stand after the ordinary cases."""
+    yield 'table', formats.table_case, big.tables()
+    yield 'text', formats.text_case, singles(big.texts())
+    yield 'read', formats.read_case, big.reads()
+    yield 'write', formats.write_case, big.writes()
+    yield 'jerread', formats.input_case, singles(hand_lines.read_limits())
+    yield 'jerwrite', formats.input_case, singles(hand_lines.write_limits())
 
 
 def chain(*sources):
@@ -70,22 +71,27 @@ def singles(*sources):
 
 
 def make_files(seed, count):
-    """By file name without its ending: the two files' contents and the counts."""
+    """By name: the input, the answers and the counts."""
     made = {}
-    for name, line_up, cases in chain(ordinary_cases(seed, count), big_cases()):
-        _, answer_to = formats.FORMATS[name.replace('-big', '')]
-        questions, answers, counts = [], [], {}
-        for case in cases:
-            lines = line_up(*case)
-            if not name.endswith('-big') and max(map(len, lines)) > LONGEST_LINE:
-                continue
-            answer = answer_to(lines)
-            questions += [line + '\n' for line in lines]
-            answers.append(answer)
-            number = formats.refusal_number(answer)
-            counts[number] = counts.get(number, 0) + 1
-        made[name] = (''.join(questions), ''.join(answers), counts)
-    return made
+    for name, line_up, cases in ordinary_cases(seed, count):
+        short = (lines for lines in (line_up(*case) for case in cases)
+                 if max(map(len, lines)) <= LONGEST_LINE)
+        add_cases(made, name, short)
+    for name, line_up, cases in big_cases():
+        add_cases(made, name, (line_up(*case) for case in cases))
+    return {name: (''.join(questions), ''.join(answers), counts)
+            for name, (questions, answers, counts) in made.items()}
+
+
+def add_cases(made, name, cases):
+    _, answer_to = formats.FORMATS[name]
+    questions, answers, counts = made.setdefault(name, ([], [], {}))
+    for lines in cases:
+        answer = answer_to(lines)
+        questions += [line + '\n' for line in lines]
+        answers.append(answer)
+        number = formats.refusal_number(answer)
+        counts[number] = counts.get(number, 0) + 1
 
 
 def count_lines(made):
@@ -113,20 +119,27 @@ def with_counts(readme, lines):
 def missing_numbers(made):
     """Prints each reachable number without a case, and tells whether there is one."""
     lacking = False
-    for side, names, numbers in REACHABLE:
+    for name, numbers in REACHABLE:
         for number in numbers:
-            if not any(number in made[name][2] for name in names):
-                print('%s: no case of %d' % (side, number))
+            if number not in made[name][2]:
+                print('%s: no case of %d' % (name, number))
                 lacking = True
     return lacking
 
 
+def paths(name, folder):
+    """Where a file's input and answers are kept: in a folder of one's own, or as what the program NAME_cases is run on and must write."""
+    if folder:
+        return os.path.join(folder, name + '.in'), os.path.join(folder, name + '.out')
+    crate = os.path.join(CRATES, name + '_cases')
+    return os.path.join(crate, 'stdin'), os.path.join(crate, 'stdout')
+
+
 def write_files(made, folder):
-    os.makedirs(folder, exist_ok=True)
     for name, (questions, answers, _) in made.items():
-        for ending, text in (('.in', questions), ('.out', answers)):
-            with open(os.path.join(folder, name + ending), 'w', encoding='ascii',
-                      newline='\n') as file:
+        for path, text in zip(paths(name, folder), (questions, answers)):
+            os.makedirs(os.path.dirname(path), exist_ok=True)
+            with open(path, 'w', encoding='ascii', newline='\n') as file:
                 file.write(text)
 
 
@@ -134,10 +147,9 @@ def differing_files(made, folder):
     """Prints each file that is not stored as made, and tells whether there is one."""
     differ = False
     for name, (questions, answers, _) in made.items():
-        for ending, text in (('.in', questions), ('.out', answers)):
-            path = os.path.join(folder, name + ending)
+        for path, text in zip(paths(name, folder), (questions, answers)):
             if not os.path.exists(path) or open(path, 'rb').read() != text.encode('ascii'):
-                print('differs: %s' % (name + ending))
+                print('differs: %s' % path)
                 differ = True
     return differ
 
@@ -161,7 +173,7 @@ def main():
     parser.add_argument('--check', action='store_true')
     parser.add_argument('--seed', type=int, default=SEED)
     parser.add_argument('--count', type=int, default=COUNT)
-    parser.add_argument('--out', default=STORED)
+    parser.add_argument('--out')
     options = parser.parse_args()
     made = make_files(options.seed, options.count)
     lines = list(count_lines(made))
@@ -171,7 +183,7 @@ def main():
         bad = differing_files(made, options.out) or bad
     else:
         write_files(made, options.out)
-    if options.out == STORED:
+    if not options.out:
         bad = keep_readme(lines, options.check) or bad
     return 1 if bad else 0
 

@@ -1,11 +1,11 @@
 #!/usr/bin/env python3
 """Runs the definitions of specs/ on the stored cases of the second program, by the prover.
 
-    python3 tools/run-definitions.py [--every N] [FOLDER]
+    python3 tools/run-definitions.py [--every N]
 
-Each case becomes an equation between two closed terms that antt computes. FOLDER holds the cases (default
-second/cases); of each file every N-th case is taken (default 1: all). The crates json and jer are copied
-without their proofs to a temporary folder, and the equations are checked beside them.
+Each case becomes an equation between two closed terms that antt computes. Of each of crates/*_cases every
+N-th case is taken (default 1: all), but for the long ones at the size limits. The crates json and jer are
+copied without their proofs to a temporary folder, and the equations are checked beside them.
 """
 import argparse
 import pathlib
@@ -18,6 +18,7 @@ import tempfile
 ROOT = pathlib.Path(__file__).resolve().parent.parent
 CRATES = ["json", "jer"]
 PER_FILE = 40
+LONGEST_LINE = 32768
 # file, lines of input a case, the function of Runs and what each line is
 KINDS = {
     "table": (2, "runTable", ["numbers", "bytes"]),
@@ -145,15 +146,18 @@ def printed(name, lines, count):
     return result
 
 
-def cases(folder, every):
+def cases(every):
     for name, (lines_each, function, kinds) in KINDS.items():
-        source = folder / f"{name}.in"
-        given = source.read_text().split("\n")[:-1]
-        out = (folder / f"{name}.out").read_text().split("\n")[:-1]
+        folder = ROOT / f"crates/{name}_cases"
+        given = (folder / "stdin").read_text().split("\n")[:-1]
+        out = (folder / "stdout").read_text().split("\n")[:-1]
         count = len(given) // lines_each
         expected = (printed if name.startswith("jer") else answers)(name, out, count)
         for i in range(0, count, every):
-            words = [argument(k, w) for k, w in zip(kinds, given[i * lines_each:(i + 1) * lines_each])]
+            lines = given[i * lines_each:(i + 1) * lines_each]
+            if max(map(len, lines)) > LONGEST_LINE:
+                continue
+            words = [argument(k, w) for k, w in zip(kinds, lines)]
             yield f"{name} case {i + 1}", f"{function} {' '.join(words)}", as_list(expected[i])
 
 
@@ -184,10 +188,9 @@ def write_modules(specs, chosen):
 
 def main():
     parser = argparse.ArgumentParser()
-    parser.add_argument("folder", nargs="?", default=str(ROOT / "second/cases"))
     parser.add_argument("--every", type=int, default=1)
     options = parser.parse_args()
-    chosen = list(cases(pathlib.Path(options.folder), options.every))
+    chosen = list(cases(options.every))
     with tempfile.TemporaryDirectory() as there:
         top = pathlib.Path(there)
         for crate in CRATES:

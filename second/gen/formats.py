@@ -86,7 +86,7 @@ def jerwrite_answer(lines):
     return jerwrite(io.BytesIO(bytes.fromhex(lines[0])))
 
 
-# By file name without `-big`: the lines a case has in `.in`, and the answer for `.out`.
+# By name: the lines a case has, and the answer to them.
 FORMATS = {
     'table': (2, table_answer), 'text': (1, text_answer), 'read': (5, read_answer),
     'write': (5, write_answer), 'jerread': (1, jerread_answer),
