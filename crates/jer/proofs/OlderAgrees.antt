@@ -7,7 +7,7 @@ use Rattle.jer.specs.declared.Cause.the-variants.{Unknown}
 use Rattle.jer.specs.declared.Refusal.{Refusal}
 use Rattle.jer.specs.Table.{Table, typeAt}
 use Rattle.jer.specs.Value.{Val, Parts, pnil, absent, present}
-use Rattle.jer.specs.Answer.{Res, ok, no, bind, at, causeNumber, valuesOf, numberOf}
+use Rattle.jer.specs.Answer.{Res, ok, no, bind, at, valuesOf, numberOf}
 use Rattle.jer.specs.Read.{Meaning, Element, Entry, withAbsent, withPresent}
 use Rattle.jer.specs.Cut.{cut, lacks, cutParts, lacksParts}
 use Rattle.jer.proofs.WeightGot.{got, steps}
@@ -19,7 +19,7 @@ pub data Agrees {A : Type 0} : Res A → A → Bool → Type 0 where
 
 -- an item or alternative unknown
 pub unknown : {A : Type 0} {a : A} (p : ℕ) → Agrees (at Unknown p) a true
-unfolding numberOf valuesOf causeNumber
+unfolding numberOf
 unknown p = eleven refl
 
 pub agrees-map : {A B : Type 0} {x : Res A} {a : A} {c : Bool} (f : A → B) → Agrees x a c → Agrees (bind x (λ a. ok (f a))) (f a) c

@@ -25,7 +25,7 @@ abbrev pub at : {A : Type 0} → Cause → ℕ → Res A
 at c p = no (AtByte c p)
 
 -- 01, Refusal numbers: the column "No."; 2 to 11
-unfoldable pub causeNumber : Cause → ℕ
+abbrev pub causeNumber : Cause → ℕ
 causeNumber TooLong = 2
 causeNumber NotJson = 3
 causeNumber TooDeep = 4
@@ -40,12 +40,12 @@ causeNumber NotOne = 10
 causeNumber Unknown = 11
 
 -- 1 and 12
-unfoldable pub tableNumber : Which → ℕ
+abbrev pub tableNumber : Which → ℕ
 tableNumber TypeTable = 1
 tableNumber ValueTable = 12
 
 -- 13 and 14
-unfoldable pub limitNumber : Limit → ℕ
+abbrev pub limitNumber : Limit → ℕ
 limitNumber HouseSize = 13
 limitNumber LentRoom = 14
 
@@ -58,7 +58,7 @@ pub record Values : Type 0 where
 abbrev pub values : ℕ → ℕ → ℕ → Values
 values n a b = record { number = n; first = a; second = b }
 
-unfoldable pub valuesOf : Refusal → Values
+abbrev pub valuesOf : Refusal → Values
 valuesOf (AtByte c p) = values (causeNumber c) p 0
 valuesOf (AtRow w r) = values (tableNumber w) r 0
 valuesOf (Amounts l a b) = values (limitNumber l) a b

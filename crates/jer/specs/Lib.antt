@@ -2,6 +2,7 @@ pub mod Table
 pub mod Valid
 pub mod Value
 pub mod Answer
+pub mod Reports
 pub mod Octets
 pub mod Read
 pub mod Rows

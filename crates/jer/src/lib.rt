@@ -1,5 +1,8 @@
 // ASN.1 values in JSON (X.697) as document 01 lays them down: the answers of the calls, and in `specs/` what they mean.
 // Contracts of the crates above cite `specs/`; `specs/Answer.antt` gives document 01's number and values for each case.
+ghost use mathlib.Core.Path.{_≡_};
+ghost use Rattle.jer.specs.Answer.{causeNumber, tableNumber, limitNumber, valuesOf};
+ghost use Rattle.jer.specs.Reports.{reportedOf};
 
 // Why a text is refused at one of its bytes.
 pub enum Cause {
@@ -64,4 +67,71 @@ pub enum Reading {
 pub enum Writing {
     Written(usize),
     Refused(Refusal),
+}
+
+// Document 01's number of a refusal, with its first and second amount.
+pub struct Reported {
+    pub number: u32,
+    pub first: u64,
+    pub second: u64,
+}
+
+fn cause_number(c: Cause) -> u32
+    ensures { λ r. ⌜ r ≡ causeNumber c ⌝ }
+{
+    match c {
+        Cause::TooLong => 2,
+        Cause::NotJson => 3,
+        Cause::TooDeep => 4,
+        Cause::OtherKind => 5,
+        Cause::BadNumber => 6,
+        Cause::BadString => 7,
+        Cause::UnknownName => 8,
+        Cause::RepeatedName => 9,
+        Cause::Missing(_) => 10,
+        Cause::Surplus => 10,
+        Cause::NotOne => 10,
+        Cause::Unknown => 11,
+    }
+}
+
+fn table_number(w: Which) -> u32
+    ensures { λ r. ⌜ r ≡ tableNumber w ⌝ }
+{
+    match w {
+        Which::TypeTable => 1,
+        Which::ValueTable => 12,
+    }
+}
+
+fn limit_number(l: Limit) -> u32
+    ensures { λ r. ⌜ r ≡ limitNumber l ⌝ }
+{
+    match l {
+        Limit::HouseSize => 13,
+        Limit::LentRoom => 14,
+    }
+}
+
+// What document 01's table of refusals gives for a refusal.
+pub fn report(e: Refusal) -> Reported
+    ensures { λ r. ⌜ r ≡ reportedOf (valuesOf e) ⌝ }
+{
+    match e {
+        Refusal::AtByte(c, p) => Reported {
+            number: cause_number(c),
+            first: p as u64,
+            second: 0,
+        },
+        Refusal::AtRow(w, row) => Reported {
+            number: table_number(w),
+            first: row as u64,
+            second: 0,
+        },
+        Refusal::Amounts(l, a, b) => Reported {
+            number: limit_number(l),
+            first: a,
+            second: b,
+        },
+    }
 }

@@ -1,0 +1,3 @@
+// Octets as hexadecimal and as Base64, from the strings of a text and into one, and the other leaves of writing.
+// Contracts cite `specs/` here and the definitions of octets and texts in `jer`.
+pub mod decode;

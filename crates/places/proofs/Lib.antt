@@ -1,0 +1,9 @@
+pub mod MeaningStands
+pub mod MeaningFirst
+pub mod MeaningLists
+pub mod MeaningBits
+pub mod MeaningNames
+pub mod MeaningObjects
+pub mod MeaningChoices
+pub mod MeaningLeaves
+pub mod MeaningAt

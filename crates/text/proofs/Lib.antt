@@ -1,0 +1,9 @@
+pub mod Tables
+pub mod Alike
+pub mod Outlined
+pub mod Opened
+pub mod Strings
+pub mod Steps
+pub mod Faithful
+pub mod Texts
+pub mod Turns

@@ -1,0 +1,5 @@
+pub mod Places
+pub mod Strings
+pub mod Skip
+pub mod Numbers
+pub mod Enums
