@@ -1,9 +1,12 @@
-// Lines of hexadecimal, for the programs that run stored cases: a line's end, its octets and numbers, and what is printed.
-// Reads past the end give 0 and stores past the end do nothing, so that no function has a `requires`.
+// Lines of hexadecimal on standard input and output, for the programs that run stored cases.
+// What a program reads and prints is tested and not proved; these functions are proved safe, and that they end.
+// Reads past the end of a buffer give 0 and stores past its end do nothing, so that no function has a `requires`.
 use jer::Judged;
+use jer::Refusal;
 use jer::report;
+use libc::STDIN_FILENO;
 use libc::STDOUT_FILENO;
-ghost use Prim.Native.Nat.{ℕ, _≤_, _<_, _+_};
+ghost use Prim.Native.Nat.{ℕ, _≤_};
 ghost use mathlib.Core.Path.{_≡_};
 ghost use lib.ListN.{length, take};
 
@@ -46,23 +49,55 @@ pub fn first_numbers(s: &[u32], n: usize) -> &[u32]
     &s[..n]
 }
 
-// The place of the first line feed from `at` on, or the end.
-pub fn line_end(s: &[u8], at: usize) -> usize
-    requires { ⌜ at ≤ length (now s) ⌝ }
-    ensures { λ r. ⌜ (at ≤ r) × (r ≤ length (now (s .entry))) ⌝ }
-{
-    let mut i = at;
-    while i < s.len() {
-        if s[i] == 0x0A {
-            return i;
-        }
-        i += 1;
+// Where in its buffer the input stands.
+pub struct Input {
+    pub at: usize,
+    pub end: usize,
+}
+
+// The next byte, or 256 at the end of the input.
+pub struct Next {
+    pub byte: u32,
+    pub input: Input,
+}
+
+// A line's octets or numbers, counted; `over` if no byte was left where it would begin.
+pub struct Line {
+    pub count: usize,
+    pub over: bool,
+    pub input: Input,
+}
+
+pub fn next_byte(buf: &mut [u8], input: Input) -> Next {
+    let at = input.at;
+    let end = input.end;
+    if at < end {
+        let i = Input {
+            at: at + 1,
+            end: end,
+        };
+        return Next {
+            byte: byte_at(buf, at) as u32,
+            input: i,
+        };
     }
-    i
+    let n = io::read_full(STDIN_FILENO, buf);
+    if n == 0 {
+        let i = Input { at: 0, end: 0 };
+        return Next {
+            byte: 256,
+            input: i,
+        };
+    }
+    let i = Input { at: 1, end: n };
+    Next {
+        byte: byte_at(buf, 0) as u32,
+        input: i,
+    }
 }
 
 // A hexadecimal digit's value, 0 for any other byte.
-fn digit(b: u8) -> u8
+fn digit(b: u32) -> u32
     ensures { λ r. ⌜ r ≤ 15 ⌝ }
 {
     match b {
@@ -73,57 +108,76 @@ fn digit(b: u8) -> u8
     }
 }
 
-// The octet of the two digits at a place.
-fn octet(s: &[u8], i: usize) -> u8 {
-    if s.len() <= i {
-        return 0;
-    }
-    let high = digit(byte_at(s, i));
-    let low = digit(byte_at(s, i + 1));
-    high * 16 + low
+// Whether a line ends at a byte.
+fn ends(b: u32) -> bool {
+    b == 0x0A || b == 256
 }
 
-// The octets of n pairs of digits from `at` on.
-pub fn octets(s: &[u8], at: usize, n: usize, out: &mut [u8]) {
+// The octets of a line.
+pub fn octets(buf: &mut [u8], input: Input, out: &mut [u8]) -> Line {
+    let mut i = input;
     let mut k = 0;
-    let mut i = at;
-    while i < s.len() {
-        if n <= k {
-            return;
+    while k < out.len() {
+        let a = next_byte(buf, i);
+        let high = a.byte;
+        let rest = a.input;
+        if ends(high) {
+            return Line {
+                count: k,
+                over: k == 0 && high == 256,
+                input: rest,
+            };
         }
-        let b = octet(s, i);
-        put(out, k, b);
+        let b = next_byte(buf, rest);
+        put(out, k, (digit(high) * 16 + digit(b.byte)) as u8);
+        i = b.input;
         k += 1;
-        i += 2;
+    }
+    Line {
+        count: k,
+        over: false,
+        input: i,
     }
 }
 
-// The number of the eight digits at a place.
-pub fn number(s: &[u8], i: usize) -> u32 {
-    if s.len() <= i {
-        return 0;
-    }
-    let mut x: u32 = 0;
-    let mut k = 0;
+// One number of eight digits whose first is given.
+fn number(buf: &mut [u8], input: Input, high: u32) -> Next {
+    let mut i = input;
+    let mut x = digit(high);
+    let mut k: u32 = 1;
     while k < 8 {
-        x = x % 268435456 * 16 + digit(byte_at(s, i + k)) as u32;
+        let a = next_byte(buf, i);
+        x = x % 268435456 * 16 + digit(a.byte);
+        i = a.input;
         k += 1;
     }
-    x
+    Next { byte: x, input: i }
 }
 
-// The numbers of n times eight digits from `at` on.
-pub fn numbers(s: &[u8], at: usize, n: usize, out: &mut [u32]) {
+// The numbers of a line.
+pub fn numbers(buf: &mut [u8], input: Input, out: &mut [u32]) -> Line {
+    let mut i = input;
     let mut k = 0;
-    let mut i = at;
-    while i < s.len() {
-        if n <= k {
-            return;
+    while k < out.len() {
+        let a = next_byte(buf, i);
+        let high = a.byte;
+        let rest = a.input;
+        if ends(high) {
+            return Line {
+                count: k,
+                over: k == 0 && high == 256,
+                input: rest,
+            };
         }
-        let x = number(s, i);
-        put_number(out, k, x);
+        let b = number(buf, rest, high);
+        put_number(out, k, b.byte);
+        i = b.input;
         k += 1;
-        i += 8;
+    }
+    Line {
+        count: k,
+        over: false,
+        input: i,
     }
 }
 
@@ -138,7 +192,7 @@ fn digit_of(x: u32) -> u8 {
 }
 
 // The eight digits of a number, at a place.
-pub fn put8(out: &mut [u8], at: usize, x: u32) {
+fn put8(out: &mut [u8], at: usize, x: u32) {
     if out.len() <= at {
         return;
     }
@@ -148,14 +202,6 @@ pub fn put8(out: &mut [u8], at: usize, x: u32) {
         k -= 1;
         put(out, at + k, digit_of(rest));
         rest = rest / 16;
-    }
-}
-
-// The two digits of an octet, at a place.
-pub fn put2(out: &mut [u8], at: usize, b: u8) {
-    if at < out.len() {
-        put(out, at, digit_of((b / 16) as u32));
-        put(out, at + 1, digit_of(b as u32));
     }
 }
 
@@ -172,5 +218,61 @@ pub fn print_judged(j: Judged) {
             put8(&mut line, 12, (r.first % 4294967296) as u32);
             io::write_all(STDOUT_FILENO, &line);
         }
+    }
+}
+
+// Prints the line of a refusal: FFFFFFFF, number, first and second amount.
+pub fn print_refusal(e: Refusal) {
+    let r = report(e);
+    let mut line = *b"FFFFFFFF000000000000000000000000\n";
+    put8(&mut line, 8, r.number);
+    put8(&mut line, 16, (r.first % 4294967296) as u32);
+    put8(&mut line, 24, (r.second % 4294967296) as u32);
+    io::write_all(STDOUT_FILENO, &line);
+}
+
+// Prints octets as one line.
+pub fn print_octets(s: &[u8]) {
+    let mut i = 0;
+    while i < s.len() {
+        let b = byte_at(s, i) as u32;
+        let mut two = [0u8; 2];
+        two[0] = digit_of(b / 16);
+        two[1] = digit_of(b);
+        io::write_all(STDOUT_FILENO, &two);
+        i += 1;
+    }
+    io::write_all(STDOUT_FILENO, b"\n");
+}
+
+// Prints the four numbers of the row at a place as one line.
+fn print_row(rows: &[u32], at: usize) {
+    if rows.len() <= at {
+        return;
+    }
+    let mut line = *b"00000000000000000000000000000000\n";
+    put8(&mut line, 0, number_at(rows, at));
+    put8(&mut line, 8, number_at(rows, at + 1));
+    put8(&mut line, 16, number_at(rows, at + 2));
+    put8(&mut line, 24, number_at(rows, at + 3));
+    io::write_all(STDOUT_FILENO, &line);
+}
+
+// The number at a place, 0 past the end.
+fn number_at(s: &[u32], i: usize) -> u32 {
+    if i < s.len() { s[i] } else { 0 }
+}
+
+// Prints the first n rows, a line each.
+pub fn print_rows(rows: &[u32], n: usize) {
+    let mut k = 0;
+    let mut at = 0;
+    while at < rows.len() {
+        if n <= k {
+            return;
+        }
+        print_row(rows, at);
+        k += 1;
+        at += 4;
     }
 }

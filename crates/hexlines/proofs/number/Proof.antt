@@ -6,62 +6,58 @@ use Rattle.hexlines.proofs.number.Statement.{statement}
 use Rattle.hexlines.proofs.number.Tie as tie
 use Rattle.hexlines.proofs.number.Reads as reads
 use Rattle.hexlines.proofs.number.Lts as lts
-use Rattle.hexlines.proofs.byte_at.Reads as byte-at-reads
 use Rattle.hexlines.proofs.digit.Reads as digit-reads
+use Rattle.hexlines.proofs.next_byte.Reads as next-byte-reads
 
 abbrev Inv-loop : tie.InvT-loop
-Inv-loop s i x₀ k₀ x k = k ≤ 8
+Inv-loop buf₀ high i₀ x₀ k₀ buf i x k = (k ≤ 8) × (length buf ≡ length buf₀)
 
 abbrev μ-loop : tie.MeasureT-loop
-μ-loop s i x₀ k₀ x k = 8 - k
+μ-loop buf₀ high i₀ x₀ k₀ buf i x k = 8 - k
 
--- src/lib.rt:79:9
-returns : tie.Need-returns Inv-loop μ-loop
-returns c = search needs
-
--- src/lib.rt:83:5
-loop-holds : tie.Need-loop-holds Inv-loop μ-loop
-loop-holds c = search needs
-
--- src/lib.rt:84:13
-mul-x : tie.Need-mul-x Inv-loop μ-loop
-mul-x c = search needs
-
--- src/lib.rt:84:51
-add-byte-at : tie.Need-add-byte-at Inv-loop μ-loop
-add-byte-at c = search needs
-
--- src/lib.rt:84:40
-byte-at-requires : tie.Need-byte-at-requires Inv-loop μ-loop
-byte-at-requires c κs = search needs
-
--- src/lib.rt:84:34
+-- src/lib.rt:140:9
 digit-requires : tie.Need-digit-requires Inv-loop μ-loop
 digit-requires c κs = search needs
 
--- src/lib.rt:84:34
-cast-x : tie.Need-cast-x Inv-loop μ-loop
-cast-x c = search needs
+-- src/lib.rt:142:5
+loop-holds : tie.Need-loop-holds Inv-loop μ-loop
+loop-holds c = search needs
 
--- src/lib.rt:84:13
+-- src/lib.rt:143:13
+next-byte-requires : tie.Need-next-byte-requires Inv-loop μ-loop
+next-byte-requires c κs = search needs
+
+-- src/lib.rt:144:13
+mul-x : tie.Need-mul-x Inv-loop μ-loop
+mul-x c = search needs
+
+-- src/lib.rt:144:34
+digit-requires-2 : tie.Need-digit-requires-2 Inv-loop μ-loop
+digit-requires-2 c κs = search needs
+
+-- src/lib.rt:144:13
 add-x : tie.Need-add-x Inv-loop μ-loop
 add-x c = search needs
 
--- src/lib.rt:85:9
+-- src/lib.rt:146:9
 add-k : tie.Need-add-k Inv-loop μ-loop
 add-k c = search needs
 
--- src/lib.rt:83:5
+-- src/lib.rt:142:5
 loop-less : tie.Need-loop-less Inv-loop μ-loop
 loop-less c = search needs
 
--- src/lib.rt:83:5
+-- src/lib.rt:142:5
 loop-again : tie.Need-loop-again Inv-loop μ-loop
 loop-again c = search needs
 
--- src/lib.rt:77:1
-returns-2 : tie.Need-returns-2 Inv-loop μ-loop
-returns-2 c = search needs
+-- src/lib.rt:138:1
+same-length : tie.Need-same-length Inv-loop μ-loop
+same-length c = search needs
+
+-- src/lib.rt:138:1
+returns : tie.Need-returns Inv-loop μ-loop
+returns c = search needs
 
 pub number-spec : {M : Type 1} → statement M
 number-spec =
@@ -69,15 +65,14 @@ number-spec =
     (tie.spec
     Inv-loop
     μ-loop
-    returns
-    loop-holds
-    mul-x
-    add-byte-at
-    byte-at-requires
     digit-requires
-    cast-x
+    loop-holds
+    next-byte-requires
+    mul-x
+    digit-requires-2
     add-x
     add-k
     loop-less
     loop-again
-    returns-2)
+    same-length
+    returns)

@@ -6,58 +6,84 @@ use Rattle.hexlines.proofs.numbers.Statement.{statement}
 use Rattle.hexlines.proofs.numbers.Tie as tie
 use Rattle.hexlines.proofs.numbers.Reads as reads
 use Rattle.hexlines.proofs.numbers.Lts as lts
+use Rattle.hexlines.proofs.ends.Reads as ends-reads
+use Rattle.hexlines.proofs.next_byte.Reads as next-byte-reads
 use Rattle.hexlines.proofs.number.Reads as number-reads
 use Rattle.hexlines.proofs.put_number.Reads as put-number-reads
 
 abbrev Inv-loop : tie.InvT-loop
-Inv-loop s at n out₀ k₀ i₀ out k i = (length out ≡ length out₀) × (k ≤ i)
+Inv-loop buf₀ out₀ i₀ k₀ buf out i k = (length buf ≡ length buf₀) × (length out ≡ length out₀)
 
 abbrev μ-loop : tie.MeasureT-loop
-μ-loop s at n out₀ k₀ i₀ out k i = length s - i
+μ-loop buf₀ out₀ i₀ k₀ buf out i k = length out - k
 
--- src/lib.rt:94:5
+-- src/lib.rt:155:5
 loop-holds : tie.Need-loop-holds Inv-loop μ-loop
 loop-holds c = search needs
 
--- src/lib.rt:96:13
+-- src/lib.rt:156:13
+next-byte-requires : tie.Need-next-byte-requires Inv-loop μ-loop
+next-byte-requires c κs = search needs
+
+-- src/lib.rt:159:12
+ends-requires : tie.Need-ends-requires Inv-loop μ-loop
+ends-requires c κs = search needs
+
+-- src/lib.rt:160:13
 same-length : tie.Need-same-length Inv-loop μ-loop
 same-length c = search needs
 
--- src/lib.rt:96:13
-returns : tie.Need-returns Inv-loop μ-loop
-returns c = search needs
-
--- src/lib.rt:98:13
-number-requires : tie.Need-number-requires Inv-loop μ-loop
-number-requires c κs = search needs
-
--- src/lib.rt:99:9
-put-number-requires : tie.Need-put-number-requires Inv-loop μ-loop
-put-number-requires c κs = search needs
-
--- src/lib.rt:100:9
-add-k : tie.Need-add-k Inv-loop μ-loop
-add-k c = search needs
-
--- src/lib.rt:101:9
-add-i : tie.Need-add-i Inv-loop μ-loop
-add-i c = search needs
-
--- src/lib.rt:94:5
-loop-less : tie.Need-loop-less Inv-loop μ-loop
-loop-less c = search needs
-
--- src/lib.rt:94:5
-loop-again : tie.Need-loop-again Inv-loop μ-loop
-loop-again c = search needs
-
--- src/lib.rt:91:1
+-- src/lib.rt:160:13
 same-length-2 : tie.Need-same-length-2 Inv-loop μ-loop
 same-length-2 c = search needs
 
--- src/lib.rt:91:1
+-- src/lib.rt:160:13
+returns : tie.Need-returns Inv-loop μ-loop
+returns c = search needs
+
+-- src/lib.rt:160:13
+same-length-3 : tie.Need-same-length-3 Inv-loop μ-loop
+same-length-3 c = search needs
+
+-- src/lib.rt:160:13
+same-length-4 : tie.Need-same-length-4 Inv-loop μ-loop
+same-length-4 c = search needs
+
+-- src/lib.rt:160:13
 returns-2 : tie.Need-returns-2 Inv-loop μ-loop
 returns-2 c = search needs
+
+-- src/lib.rt:166:13
+number-requires : tie.Need-number-requires Inv-loop μ-loop
+number-requires c κs = search needs
+
+-- src/lib.rt:167:9
+put-number-requires : tie.Need-put-number-requires Inv-loop μ-loop
+put-number-requires c κs = search needs
+
+-- src/lib.rt:169:9
+add-k : tie.Need-add-k Inv-loop μ-loop
+add-k c = search needs
+
+-- src/lib.rt:155:5
+loop-less : tie.Need-loop-less Inv-loop μ-loop
+loop-less c = search needs
+
+-- src/lib.rt:155:5
+loop-again : tie.Need-loop-again Inv-loop μ-loop
+loop-again c = search needs
+
+-- src/lib.rt:152:1
+same-length-5 : tie.Need-same-length-5 Inv-loop μ-loop
+same-length-5 c = search needs
+
+-- src/lib.rt:152:1
+same-length-6 : tie.Need-same-length-6 Inv-loop μ-loop
+same-length-6 c = search needs
+
+-- src/lib.rt:152:1
+returns-3 : tie.Need-returns-3 Inv-loop μ-loop
+returns-3 c = search needs
 
 pub numbers-spec : {M : Type 1} → statement M
 numbers-spec =
@@ -66,13 +92,19 @@ numbers-spec =
     Inv-loop
     μ-loop
     loop-holds
+    next-byte-requires
+    ends-requires
     same-length
+    same-length-2
     returns
+    same-length-3
+    same-length-4
+    returns-2
     number-requires
     put-number-requires
     add-k
-    add-i
     loop-less
     loop-again
-    same-length-2
-    returns-2)
+    same-length-5
+    same-length-6
+    returns-3)

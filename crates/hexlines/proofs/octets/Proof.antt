@@ -6,58 +6,104 @@ use Rattle.hexlines.proofs.octets.Statement.{statement}
 use Rattle.hexlines.proofs.octets.Tie as tie
 use Rattle.hexlines.proofs.octets.Reads as reads
 use Rattle.hexlines.proofs.octets.Lts as lts
-use Rattle.hexlines.proofs.octet.Reads as octet-reads
+use Rattle.hexlines.proofs.digit.Reads as digit-reads
+use Rattle.hexlines.proofs.ends.Reads as ends-reads
+use Rattle.hexlines.proofs.next_byte.Reads as next-byte-reads
 use Rattle.hexlines.proofs.put.Reads as put-reads
 
 abbrev Inv-loop : tie.InvT-loop
-Inv-loop s at n out₀ k₀ i₀ out k i = (length out ≡ length out₀) × (k ≤ i)
+Inv-loop buf₀ out₀ i₀ k₀ buf out i k = (length buf ≡ length buf₀) × (length out ≡ length out₀)
 
 abbrev μ-loop : tie.MeasureT-loop
-μ-loop s at n out₀ k₀ i₀ out k i = length s - i
+μ-loop buf₀ out₀ i₀ k₀ buf out i k = length out - k
 
--- src/lib.rt:65:5
+-- src/lib.rt:114:5
 loop-holds : tie.Need-loop-holds Inv-loop μ-loop
 loop-holds c = search needs
 
--- src/lib.rt:67:13
+-- src/lib.rt:115:13
+next-byte-requires : tie.Need-next-byte-requires Inv-loop μ-loop
+next-byte-requires c κs = search needs
+
+-- src/lib.rt:118:12
+ends-requires : tie.Need-ends-requires Inv-loop μ-loop
+ends-requires c κs = search needs
+
+-- src/lib.rt:119:13
 same-length : tie.Need-same-length Inv-loop μ-loop
 same-length c = search needs
 
--- src/lib.rt:67:13
-returns : tie.Need-returns Inv-loop μ-loop
-returns c = search needs
-
--- src/lib.rt:69:13
-octet-requires : tie.Need-octet-requires Inv-loop μ-loop
-octet-requires c κs = search needs
-
--- src/lib.rt:70:9
-put-requires : tie.Need-put-requires Inv-loop μ-loop
-put-requires c κs = search needs
-
--- src/lib.rt:71:9
-add-k : tie.Need-add-k Inv-loop μ-loop
-add-k c = search needs
-
--- src/lib.rt:72:9
-add-i : tie.Need-add-i Inv-loop μ-loop
-add-i c = search needs
-
--- src/lib.rt:65:5
-loop-less : tie.Need-loop-less Inv-loop μ-loop
-loop-less c = search needs
-
--- src/lib.rt:65:5
-loop-again : tie.Need-loop-again Inv-loop μ-loop
-loop-again c = search needs
-
--- src/lib.rt:62:1
+-- src/lib.rt:119:13
 same-length-2 : tie.Need-same-length-2 Inv-loop μ-loop
 same-length-2 c = search needs
 
--- src/lib.rt:62:1
+-- src/lib.rt:119:13
+returns : tie.Need-returns Inv-loop μ-loop
+returns c = search needs
+
+-- src/lib.rt:119:13
+same-length-3 : tie.Need-same-length-3 Inv-loop μ-loop
+same-length-3 c = search needs
+
+-- src/lib.rt:119:13
+same-length-4 : tie.Need-same-length-4 Inv-loop μ-loop
+same-length-4 c = search needs
+
+-- src/lib.rt:119:13
 returns-2 : tie.Need-returns-2 Inv-loop μ-loop
 returns-2 c = search needs
+
+-- src/lib.rt:125:13
+next-byte-requires-2 : tie.Need-next-byte-requires-2 Inv-loop μ-loop
+next-byte-requires-2 c κs = search needs
+
+-- src/lib.rt:126:22
+digit-requires : tie.Need-digit-requires Inv-loop μ-loop
+digit-requires c κs = search needs
+
+-- src/lib.rt:126:22
+mul-put : tie.Need-mul-put Inv-loop μ-loop
+mul-put c = search needs
+
+-- src/lib.rt:126:41
+digit-requires-2 : tie.Need-digit-requires-2 Inv-loop μ-loop
+digit-requires-2 c κs = search needs
+
+-- src/lib.rt:126:22
+add-put : tie.Need-add-put Inv-loop μ-loop
+add-put c = search needs
+
+-- src/lib.rt:126:21
+cast-put : tie.Need-cast-put Inv-loop μ-loop
+cast-put c = search needs
+
+-- src/lib.rt:126:9
+put-requires : tie.Need-put-requires Inv-loop μ-loop
+put-requires c κs = search needs
+
+-- src/lib.rt:128:9
+add-k : tie.Need-add-k Inv-loop μ-loop
+add-k c = search needs
+
+-- src/lib.rt:114:5
+loop-less : tie.Need-loop-less Inv-loop μ-loop
+loop-less c = search needs
+
+-- src/lib.rt:114:5
+loop-again : tie.Need-loop-again Inv-loop μ-loop
+loop-again c = search needs
+
+-- src/lib.rt:111:1
+same-length-5 : tie.Need-same-length-5 Inv-loop μ-loop
+same-length-5 c = search needs
+
+-- src/lib.rt:111:1
+same-length-6 : tie.Need-same-length-6 Inv-loop μ-loop
+same-length-6 c = search needs
+
+-- src/lib.rt:111:1
+returns-3 : tie.Need-returns-3 Inv-loop μ-loop
+returns-3 c = search needs
 
 pub octets-spec : {M : Type 1} → statement M
 octets-spec =
@@ -66,13 +112,24 @@ octets-spec =
     Inv-loop
     μ-loop
     loop-holds
+    next-byte-requires
+    ends-requires
     same-length
+    same-length-2
     returns
-    octet-requires
+    same-length-3
+    same-length-4
+    returns-2
+    next-byte-requires-2
+    digit-requires
+    mul-put
+    digit-requires-2
+    add-put
+    cast-put
     put-requires
     add-k
-    add-i
     loop-less
     loop-again
-    same-length-2
-    returns-2)
+    same-length-5
+    same-length-6
+    returns-3)

@@ -1,0 +1,100 @@
+use mathlib.Core.Path.{_≡_, ap, _∙_}
+use mathlib.Core.List.{List}
+use mathlib.Core.Bool.{Bool}
+use Prim.Native.Nat.{ℕ, _+_, _-_}
+use native.Mathlib.Omega.{arith}
+use Rattle.jer.specs.Table.{firstWhere, position}
+use Rattle.tokens.specs.Strings.{denoted}
+use Rattle.types.specs.Rows.{table, foundOf}
+use Rattle.types.proofs.LoopLaws.{first-next, first-found, first-ends}
+use Rattle.scan.proofs.NameLaws.{named, named-is, position-starts}
+use borrow.Author.Needs.{needs}
+use Rattle.scan.proofs.names.position.Statement.{statement}
+use Rattle.scan.proofs.names.position.Tie as tie
+
+-- the test of a member
+abbrev test : List ℕ → List ℕ → List ℕ → ℕ → ℕ → ℕ → Bool
+test types names s row q = named (table types names) row (denoted s (q + 1))
+
+abbrev Inv-loop : tie.InvT-loop
+Inv-loop types names s row q count i₀ i = firstWhere (test types names s row q) i (count - i) ≡ position (table types names) row (denoted s (q + 1))
+
+abbrev μ-loop : tie.MeasureT-loop
+μ-loop types names s row q count i₀ i = count - i
+
+compared : (c : tie.After-same Inv-loop μ-loop) → let a = c .before .before .before .before .before .before .before .before .before .before .before .before .args in test (a .types .now) (a .names .now) (a .s .now) (a .row) (a .q) (c .before .before .before .before .before .before .before .loop .i) ≡ c .same .result
+compared c =
+    let a = c .before .before .before .before .before .before .before .before .before .before .before .before .args in
+    let ns = a .names .now in
+    named-is (a .types .now) ns (a .row) (c .before .before .before .before .before .before .before .loop .i) (denoted (a .s .now) (a .q + 1)) (c .before .before .before .before .before .member-row .ensures ns) (c .before .before .before .before .field2 .ensures ns) (c .before .before .before .wide .ensures .0) (c .before .before .field3 .ensures ns) (c .before .wide2 .ensures .0) (c .same .ensures)
+
+field-requires : tie.Need-field-requires Inv-loop μ-loop
+field-requires c κs = search needs
+
+loop-holds : tie.Need-loop-holds Inv-loop μ-loop
+loop-holds c = let a = c .before .before .before .before .args in position-starts (table (a .types .now) (a .names .now)) (a .row) (denoted (a .s .now) (a .q + 1)) (c .field .ensures (a .names .now))
+
+member-row-requires : tie.Need-member-row-requires Inv-loop μ-loop
+member-row-requires c κs = search needs
+
+field-requires-2 : tie.Need-field-requires-2 Inv-loop μ-loop
+field-requires-2 c κs = search needs
+
+wide-requires : tie.Need-wide-requires Inv-loop μ-loop
+wide-requires c κs = search needs
+
+field-requires-3 : tie.Need-field-requires-3 Inv-loop μ-loop
+field-requires-3 c κs = search needs
+
+wide-requires-2 : tie.Need-wide-requires-2 Inv-loop μ-loop
+wide-requires-2 c κs = search needs
+
+add-same : tie.Need-add-same Inv-loop μ-loop
+add-same c = search needs
+
+same-requires : tie.Need-same-requires Inv-loop μ-loop
+same-requires c κs = search needs
+
+returns : tie.Need-returns Inv-loop μ-loop
+unfolding foundOf
+returns c =
+    let a = c .before .before .before .before .before .before .before .before .before .before .before .before .before .args in
+    ap foundOf (first-found (test (a .types .now) (a .names .now) (a .s .now) (a .row) (a .q)) (c .before .before .before .before .before .before .before .before .loop .i) (c .before .before .before .before .before .before .before .before .before .field .result) (c .before .before .before .before .before .before .before .loop-test .taken) (compared (c .before) ∙ c .if1 .taken) ∙ c .before .before .before .before .before .before .before .before .loop .inv)
+
+add-i : tie.Need-add-i Inv-loop μ-loop
+add-i c = search needs
+
+loop-less : tie.Need-loop-less Inv-loop μ-loop
+loop-less c = omega arith
+
+loop-again : tie.Need-loop-again Inv-loop μ-loop
+loop-again c =
+    let a = c .before .before .before .before .before .before .before .before .before .before .before .before .before .args in
+    first-next (test (a .types .now) (a .names .now) (a .s .now) (a .row) (a .q)) (c .before .before .before .before .before .before .before .before .loop .i) (c .before .before .before .before .before .before .before .before .before .field .result) (c .before .before .before .before .before .before .before .loop-test .taken) (compared (c .before) ∙ c .if1 .left) ∙ c .before .before .before .before .before .before .before .before .loop .inv
+
+returns-2 : tie.Need-returns-2 Inv-loop μ-loop
+unfolding foundOf
+returns-2 c =
+    let a = c .before .before .before .before .before .before .args in
+    ap foundOf (first-ends (test (a .types .now) (a .names .now) (a .s .now) (a .row) (a .q)) (c .before .loop .i) (c .before .before .field .result) (c .loop-test .left) ∙ c .before .loop .inv)
+
+pub position-spec : {M : Type 1} → statement M
+position-spec =
+    tie.close
+    (tie.spec
+    Inv-loop
+    μ-loop
+    field-requires
+    loop-holds
+    member-row-requires
+    field-requires-2
+    wide-requires
+    field-requires-3
+    wide-requires-2
+    add-same
+    same-requires
+    returns
+    add-i
+    loop-less
+    loop-again
+    returns-2)

@@ -1,0 +1,46 @@
+// The name of a member at a place: its position in the type, and where its value stands.
+use tokens::cursor::Cursor;
+use tokens::strings::same;
+use tokens::strings::string_end;
+use types::row::field;
+use types::row::member_row;
+use types::row::wide;
+use types::token::Found;
+ghost use mathlib.Core.Path.{_≡_};
+ghost use Prim.Native.Nat.{_+_, _≤_};
+ghost use lib.ListN.{length};
+ghost use Rattle.jer.specs.Table.{position};
+ghost use Rattle.types.specs.Rows.{table, foundOf};
+ghost use Rattle.tokens.specs.Strings.{denoted};
+ghost use Rattle.places.specs.ByPlaces.{valuePlace};
+
+// The value of the member whose name stands at q.
+pub fn value_place(s: &[u8], q: usize) -> usize
+    requires { ⌜ (length (now s) ≤ 65536) × (q ≤ 65536) ⌝ }
+    ensures { λ r. ⌜ (r ≡ valuePlace (now (s .entry)) q) × (r ≤ 65538) ⌝ }
+{
+    let name = Cursor {
+        at: string_end(s, q + 1),
+    };
+    let value = name.skip_space(s).advance(1).skip_space(s);
+    value.at
+}
+
+// The position, in the type at `row`, of the member whose name stands at q.
+pub fn position(types: &[u32], names: &[u8], s: &[u8], row: usize, q: usize) -> Found
+    requires { ⌜ (length (now s) ≤ 65536) × (q ≤ 65536) ⌝ }
+    ensures { λ r. ⌜ r ≡ foundOf (position (table (now (types .entry)) (now (names .entry))) row (denoted (now (s .entry)) (q + 1))) ⌝ }
+{
+    let count = field(types, row, 3);
+    let mut i: u32 = 0;
+    while i < count {
+        let m = member_row(types, row, i);
+        let start = wide(field(types, m, 3));
+        let len = wide(field(types, m, 4));
+        if same(s, q + 1, names, start, len) {
+            return Found::At(i);
+        }
+        i += 1;
+    }
+    Found::Nothing
+}

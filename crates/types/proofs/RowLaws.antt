@@ -1,0 +1,49 @@
+-- Rows and their fields. Assumes nothing.
+use mathlib.Core.Path.{_≡_, sym, ap, _∙_}
+use mathlib.Core.List.{List}
+use mathlib.Core.Bool.{Bool, _&&_, _||_}
+use Prim.Native.Nat.{ℕ, _+_, _*_, _≤_}
+use lib.Dec.{eqb, leb}
+use lib.ListN.{length, take, drop, List·getD-eq-default}
+use Rattle.jer.specs.Table.{Table, field, kindOf, marksOf, formMark, firstOf, countOf, rootOf, memberRow, optional, addition, mayMiss, nameIn}
+use Rattle.types.specs.declared.row.Row.{Row}
+use Rattle.types.specs.Rows.{table, rowOf}
+
+-- a field past the end
+pub field-out : (rows ns : List ℕ) (r i : ℕ) → length rows ≤ r * 8 + i → 0 ≡ field (table rows ns) r i
+unfolding field
+field-out rows ns r i h = sym (List·getD-eq-default rows 0 h)
+
+-- a row by its fields
+module _ (rows ns : List ℕ) (r : ℕ) where
+  pub row-of : {a b c d e : ℕ} → a ≡ field (table rows ns) r 0 → b ≡ field (table rows ns) r 1 → c ≡ field (table rows ns) r 2
+      → d ≡ field (table rows ns) r 3 → e ≡ field (table rows ns) r 4
+      → _≡_ {A = Row} (record { kind = a; marks = b; first = c; members = d; root = e }) (rowOf (table rows ns) r)
+  unfolding kindOf marksOf firstOf countOf rootOf
+  row-of p q u v w = rw (p, q, u, v, w)
+
+  pub member-row : (i : ℕ) {f a b : ℕ} → f ≡ field (table rows ns) r 2 → a ≡ f → b ≡ i → a + b ≡ memberRow (table rows ns) r i
+  unfolding memberRow firstOf
+  member-row i p q u = rw (q, u, p)
+
+  pub may-miss : (i : ℕ) {o : Bool} {n : ℕ} → o ≡ optional (table rows ns) r i → n ≡ field (table rows ns) r 4
+      → (o || leb n i) ≡ mayMiss (table rows ns) r i
+  unfolding mayMiss addition rootOf
+  may-miss i p q = rw (p, q)
+
+pub name-in : (rows names : List ℕ) (m : ℕ) {f g a b : ℕ} {s : List ℕ} → f ≡ field (table rows names) m 3 → g ≡ field (table rows names) m 4
+    → a ≡ f → b ≡ g → s ≡ take b (drop a names) → s ≡ nameIn (table rows names) m
+unfolding nameIn
+name-in rows names m p q u v e = e ∙ rw (u, v, p, q)
+
+pub kind-form : (t : Table) (r k : ℕ) {w : Row} {b : Bool} → w ≡ rowOf t r → b ≡ formMark t r → (eqb (w .kind) k && b) ≡ (eqb (kindOf t r) k && formMark t r)
+kind-form t r k e p = rw (e, p)
+
+pub kind-of : (t : Table) (r : ℕ) {w : Row} → w ≡ rowOf t r → w .kind ≡ kindOf t r
+kind-of t r e = ap (λ (w : Row). w .kind) e
+
+pub kind-is : (t : Table) (r : ℕ) {k : ℕ} {w : Row} → w ≡ rowOf t r → w .kind ≡ k → kindOf t r ≡ k
+kind-is t r e h = sym (kind-of t r e) ∙ h
+
+pub kind-not : (t : Table) (r : ℕ) {w : Row} → w ≡ rowOf t r → (k : ℕ) → (w .kind ≡ k → ⊥) → kindOf t r ≡ k → ⊥
+kind-not t r e k h q = h (kind-of t r e ∙ q)

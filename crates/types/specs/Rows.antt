@@ -1,0 +1,20 @@
+-- The type table as the code holds it: two lent slices, a row as a struct, and a position that may be missing.
+use Prim.Native.Nat.{ℕ}
+use mathlib.Core.List.{List}
+use mathlib.Core.Option.{Option, none, some}
+use Rattle.jer.specs.Table.{Table, kindOf, marksOf, firstOf, countOf, rootOf}
+use Rattle.types.specs.declared.row.Row.{Row}
+use Rattle.types.specs.declared.token.Found.{Found}
+use Rattle.types.specs.declared.token.Found.the-variants.{At, Nothing}
+
+-- the table whose rows and names are lent
+abbrev pub table : List ℕ → List ℕ → Table
+table rows names = record { rows = rows; names = names }
+
+-- the row r of a table, by the accessors of `jer`; a member's row has its type row, and its name's start and length, in fields 2 to 4
+abbrev pub rowOf : Table → ℕ → Row
+rowOf t r = record { kind = kindOf t r; marks = marksOf t r; first = firstOf t r; members = countOf t r; root = rootOf t r }
+
+unfoldable pub foundOf : Option ℕ → Found
+foundOf none = Nothing
+foundOf (some i) = At i

@@ -1,0 +1,168 @@
+// A row of the type table: its fields by name, its kinds and marks, the tests of its marks, and the rows that it points to.
+use crate::bytes::part;
+ghost use mathlib.Core.Path.{_≡_};
+ghost use mathlib.Core.List.{List};
+ghost use Prim.Native.Nat.{ℕ, _<_};
+ghost use Rattle.jer.specs.Table.{Table, rowCount, field, isType, formMark, extensible, isBase64, isArray, isUnwrapped, memberRow, optional, typeAt, nameIn, mayMiss};
+ghost use Rattle.types.specs.Rows.{table, rowOf};
+
+// Fields 0 to 4; the last three have another use in a member's row.
+pub struct Row {
+    pub kind: u32,
+    pub marks: u32,
+    // The first member's row, or the element's type row; of a member, its type row.
+    pub first: u32,
+    // How many members; of a member, where its name starts.
+    pub members: u32,
+    // How many of them are root; of a member, its name's length.
+    pub root: u32,
+}
+
+// Field i of row r, or 0 past the end.
+pub fn field(rows: &[u32], r: usize, i: usize) -> u32
+    ensures { λ n. ⌜ ((ns : List ℕ) → n ≡ field (table (now (rows .entry)) ns) r i) ⌝ }
+{
+    let end = rows.len();
+    if end / 8 < r {
+        return 0;
+    }
+    let k = r * 8;
+    if end - k <= i {
+        return 0;
+    }
+    rows[k + i]
+}
+
+// A number of the table as a row, a position or a place.
+pub fn wide(n: u32) -> usize
+    ensures { λ w. ⌜ (w ≡ n) × (n < 4294967296) ⌝ }
+{
+    n as usize
+}
+
+pub fn row_count(rows: &[u32]) -> usize
+    ensures { λ n. ⌜ ((ns : List ℕ) → n ≡ rowCount (table (now (rows .entry)) ns)) ⌝ }
+{
+    rows.len() / 8
+}
+
+impl Row {
+    // Kinds, field 0.
+    pub const BOOLEAN: u32 = 0;
+
+    pub const INTEGER: u32 = 1;
+
+    pub const ENUMERATED: u32 = 2;
+
+    pub const NULL: u32 = 3;
+
+    pub const OCTET_STRING: u32 = 4;
+
+    pub const UTF8_STRING: u32 = 5;
+
+    pub const SEQUENCE: u32 = 6;
+
+    pub const SEQUENCE_OF: u32 = 7;
+
+    pub const CHOICE: u32 = 8;
+
+    pub const MEMBER: u32 = 9;
+
+    // Marks, field 1: BASE64, ARRAY or UNWRAPPED by kind; extensible; of a member, OPTIONAL.
+    pub const FORM: u32 = 1;
+
+    pub const EXTENSIBLE: u32 = 2;
+
+    pub const OPTIONAL: u32 = 1;
+
+    // Row r, with 0 past the end.
+    pub fn at(rows: &[u32], r: usize) -> Row
+        ensures { λ w. ⌜ ((ns : List ℕ) → w ≡ rowOf (table (now (rows .entry)) ns) r) ⌝ }
+    {
+        Row {
+            kind: field(rows, r, 0),
+            marks: field(rows, r, 1),
+            first: field(rows, r, 2),
+            members: field(rows, r, 3),
+            root: field(rows, r, 4),
+        }
+    }
+
+    pub fn is_type(self) -> bool
+        ensures { λ b. ⌜ ((t : Table) (r : ℕ) → self ≡ rowOf t r → b ≡ isType t r) ⌝ }
+    {
+        self.kind <= Row::CHOICE
+    }
+
+    pub fn form(self) -> bool
+        ensures { λ b. ⌜ ((t : Table) (r : ℕ) → self ≡ rowOf t r → b ≡ formMark t r) ⌝ }
+    {
+        self.marks % 2 == Row::FORM
+    }
+
+    pub fn extensible(self) -> bool
+        ensures { λ b. ⌜ ((t : Table) (r : ℕ) → self ≡ rowOf t r → b ≡ extensible t r) ⌝ }
+    {
+        self.marks / Row::EXTENSIBLE % 2 == 1
+    }
+
+    pub fn is_base64(self) -> bool
+        ensures { λ b. ⌜ ((t : Table) (r : ℕ) → self ≡ rowOf t r → b ≡ isBase64 t r) ⌝ }
+    {
+        (self.kind == Row::OCTET_STRING) & self.form()
+    }
+
+    pub fn is_array(self) -> bool
+        ensures { λ b. ⌜ ((t : Table) (r : ℕ) → self ≡ rowOf t r → b ≡ isArray t r) ⌝ }
+    {
+        (self.kind == Row::SEQUENCE) & self.form()
+    }
+
+    pub fn is_unwrapped(self) -> bool
+        ensures { λ b. ⌜ ((t : Table) (r : ℕ) → self ≡ rowOf t r → b ≡ isUnwrapped t r) ⌝ }
+    {
+        (self.kind == Row::CHOICE) & self.form()
+    }
+
+    // Of the row of a member.
+    pub fn optional(self) -> bool
+        ensures { λ b. ⌜ ((t : Table) (r i : ℕ) → self ≡ rowOf t (memberRow t r i) → b ≡ optional t r i) ⌝ }
+    {
+        self.marks == Row::OPTIONAL
+    }
+}
+
+// The row of the member at the position i of the type at r.
+pub fn member_row(rows: &[u32], r: usize, i: u32) -> usize
+    ensures { λ m. ⌜ ((ns : List ℕ) → m ≡ memberRow (table (now (rows .entry)) ns) r i) ⌝ }
+{
+    wide(field(rows, r, 2)) + wide(i)
+}
+
+// Its own row.
+pub fn member_at(rows: &[u32], r: usize, i: u32) -> Row
+    ensures { λ w. ⌜ ((ns : List ℕ) → w ≡ rowOf (table (now (rows .entry)) ns) (memberRow (table (now (rows .entry)) ns) r i)) ⌝ }
+{
+    Row::at(rows, member_row(rows, r, i))
+}
+
+// Its type's row.
+pub fn type_at(rows: &[u32], r: usize, i: u32) -> usize
+    ensures { λ m. ⌜ ((ns : List ℕ) → m ≡ typeAt (table (now (rows .entry)) ns) r i) ⌝ }
+{
+    wide(field(rows, member_row(rows, r, i), 2))
+}
+
+// OPTIONAL, or an addition.
+pub fn may_miss(rows: &[u32], r: usize, i: u32) -> bool
+    ensures { λ b. ⌜ ((ns : List ℕ) → b ≡ mayMiss (table (now (rows .entry)) ns) r i) ⌝ }
+{
+    member_at(rows, r, i).optional() | (field(rows, r, 4) <= i)
+}
+
+// The name in the member's row m.
+pub fn name_in<'a>(rows: &[u32], names: &'a [u8], m: usize) -> &'a [u8]
+    ensures { λ s. ⌜ now s ≡ nameIn (table (now (rows .entry)) (now (names .entry))) m ⌝ }
+{
+    part(names, wide(field(rows, m, 3)), wide(field(rows, m, 4)))
+}
