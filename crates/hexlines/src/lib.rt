@@ -1,6 +1,8 @@
 // Lines of hexadecimal on standard input and output, for the programs that run stored cases.
 // What a program reads and prints is tested and not proved; these functions are proved safe, and that they end.
 // Reads past the end of a buffer give 0 and stores past its end do nothing, so that no function has a `requires`.
+pub mod decode; // decode.rt: the lines that a program is given, judged
+
 use jer::Judged;
 use jer::Refusal;
 use jer::report;
@@ -11,19 +13,19 @@ ghost use mathlib.Core.Path.{_≡_};
 ghost use lib.ListN.{length, take};
 
 // The byte at a place, 0 past the end.
-fn byte_at(s: &[u8], i: usize) -> u8 {
+pub fn byte_at(s: &[u8], i: usize) -> u8 {
     if i < s.len() { s[i] } else { 0 }
 }
 
 // Stores a byte, if there is room.
-fn put(out: &mut [u8], i: usize, b: u8) {
+pub fn put(out: &mut [u8], i: usize, b: u8) {
     if i < out.len() {
         out[i] = b;
     }
 }
 
 // Stores a number, if there is room.
-fn put_number(out: &mut [u32], i: usize, x: u32) {
+pub fn put_number(out: &mut [u32], i: usize, x: u32) {
     if i < out.len() {
         out[i] = x;
     }
@@ -81,7 +83,7 @@ pub fn next_byte(buf: &mut [u8], input: Input) -> Next {
             input: i,
         };
     }
-    let n = io::read_full(STDIN_FILENO, buf);
+    let n = io::count(libc::read(STDIN_FILENO, buf), buf);
     if n == 0 {
         let i = Input { at: 0, end: 0 };
         return Next {
@@ -97,7 +99,7 @@ pub fn next_byte(buf: &mut [u8], input: Input) -> Next {
 }
 
 // A hexadecimal digit's value, 0 for any other byte.
-fn digit(b: u32) -> u32
+pub fn digit(b: u32) -> u32
     ensures { λ r. ⌜ r ≤ 15 ⌝ }
 {
     match b {
@@ -229,6 +231,13 @@ pub fn print_refusal(e: Refusal) {
     put8(&mut line, 16, (r.first % 4294967296) as u32);
     put8(&mut line, 24, (r.second % 4294967296) as u32);
     io::write_all(STDOUT_FILENO, &line);
+}
+
+// Prints the line of refusal 15 at an input line.
+pub fn print_bad_line(line: u32) {
+    let mut out = *b"FFFFFFFF0000000F0000000000000000\n";
+    put8(&mut out, 16, line);
+    io::write_all(STDOUT_FILENO, &out);
 }
 
 // Prints octets as one line.

@@ -13,3 +13,7 @@ pub mod Cut
 pub mod Calls
 pub mod Samples
 pub mod Programs
+pub mod Moved
+pub mod Skipped
+pub mod Replaced
+pub mod Respelled

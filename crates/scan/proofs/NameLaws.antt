@@ -1,5 +1,5 @@
 -- The name of a member: its value's place, and its position in the type. Assumes nothing.
-use mathlib.Core.Path.{_≡_, refl, sym, _∙_}
+use mathlib.Core.Path.{_≡_, refl, _∙_}
 use mathlib.Core.List.{List}
 use mathlib.Core.Bool.{Bool}
 use mathlib.Core.Option.{Option, none, some}
@@ -40,9 +40,9 @@ abbrev pub named : Table → ℕ → List ℕ → ℕ → Bool
 named t r x i = sameBytes (nameAt t r i) x
 
 pub named-is : (rows names : List ℕ) (r i : ℕ) (x : List ℕ) {m f g a n : ℕ} {b : Bool} → m ≡ memberRow (table rows names) r i → f ≡ field (table rows names) m 3 → a ≡ f
-    → g ≡ field (table rows names) m 4 → n ≡ g → b ≡ sameBytes (take n (drop a names)) x → named (table rows names) r x i ≡ b
+    → g ≡ field (table rows names) m 4 → n ≡ g → b ≡ sameBytes (take n (drop a names)) x → b ≡ named (table rows names) r x i
 unfolding nameAt nameIn
-named-is rows names r i x p f a g n b = sym (b ∙ rw (n, a, g, f, p))
+named-is rows names r i x p f a g n b = b ∙ rw (n, a, g, f, p)
 
 pub position-starts : (t : Table) (r : ℕ) (x : List ℕ) {n : ℕ} → n ≡ field t r 3 → firstWhere (named t r x) 0 (n - 0) ≡ position t r x
 unfolding position countOf

@@ -65,11 +65,8 @@ pub fn scan(types: &[u32], names: &[u8], s: &[u8], row: usize, p: usize, depth: 
     loop {
         match next {
             Follows::Shut(q) => {
-                return Scanned {
-                    end: Ended::Closed(q),
-                    met: met,
-                    places: places,
-                };
+                let end = Ended::Closed(q);
+                return Scanned { end, met, places };
             }
             Follows::Part(q) => {
                 let value = value_place(s, q);

@@ -1,59 +1,43 @@
+use borrow.Author.Needs.{needs}
 use mathlib.Core.Path.{subst}
-use native.Mathlib.Omega.{arith}
 use Rattle.jer.specs.Octets.{base64Value}
 use Rattle.tokens.specs.Strings.{denoted}
-use Rattle.octets.specs.Decode.{Digit, Reads}
+use Rattle.octets.specs.Decode.{Reads}
 use Rattle.octets.proofs.DigitLaws.{base64-below}
 use Rattle.octets.proofs.GroupLaws.{no-first, base64-end, base64-none, base64-half, base64-first}
-use borrow.Author.Needs.{needs}
 use Rattle.octets.proofs.decode.base64_group.Statement.{statement}
 use Rattle.octets.proofs.decode.base64_group.Tie as tie
-use Rattle.octets.proofs.decode.base64_group.Reads as reads
-use Rattle.octets.proofs.decode.base64_group.Lts as lts
-use Rattle.octets.proofs.decode.base64_digit.Reads as base64-digit-reads
-use Rattle.octets.proofs.decode.base64_tail.Reads as base64-tail-reads
 
--- src/decode.rt:145:11
 base64-digit-requires : tie.Need-base64-digit-requires
 base64-digit-requires c κs = search needs
 
--- src/decode.rt:146:22
 enum-told : tie.Need-enum-told
 enum-told c = search needs
 
--- src/decode.rt:147:24
 enum-told-2 : tie.Need-enum-told-2
 enum-told-2 c = search needs
 
--- src/decode.rt:148:18
 enum-known-x : tie.Need-enum-known-x
 enum-known-x c = search needs
 
--- src/decode.rt:149:34
 base64-digit-requires-2 : tie.Need-base64-digit-requires-2
 base64-digit-requires-2 c κs = search needs
 
--- src/decode.rt:149:26
 enum-known-y : tie.Need-enum-known-y
 enum-known-y c = search needs
 
--- src/decode.rt:150:17
 returns : tie.Need-returns
 returns c = base64-half (c .before .before .before .before .before .before .before .args .s .now) (c .before .before .before .before .before .before .before .args .i) (c .before .before .before .x .given .0 .0) (c .before .before .before .x .given .0 .1 .0) (subst (Reads base64Value (c .before .before .before .before .before .before .before .args .s .now) (c .before .before .before .before .before .before .before .args .i)) (c .before .before .before .x .given .1) (c .before .before .before .before .before .base64-digit .ensures)) (no-first base64Value (c .before .before .before .before .before .before .before .args .s .now) (c .before .before .before .x .given .0 .1 .0) (c .before .base64-digit2 .result) (c .match2 .keys2) (c .before .base64-digit2 .ensures))
 
--- src/decode.rt:152:13
 base64-tail-requires : tie.Need-base64-tail-requires
 base64-tail-requires c κs = (c .before .before .before .before .before .before .before .before .before .pre, base64-below ((subst (Reads base64Value (c .before .before .before .before .before .before .before .before .before .args .s .now) (c .before .before .before .before .before .before .before .before .before .args .i)) (c .before .before .before .before .before .x .given .1) (c .before .before .before .before .before .before .before .base64-digit .ensures)) .char) (c .before .before .before .before .before .x .given .0 .0) ((subst (Reads base64Value (c .before .before .before .before .before .before .before .before .before .args .s .now) (c .before .before .before .before .before .before .before .before .before .args .i)) (c .before .before .before .before .before .x .given .1) (c .before .before .before .before .before .before .before .base64-digit .ensures)) .is), base64-below ((subst (Reads base64Value (c .before .before .before .before .before .before .before .before .before .args .s .now) (c .before .before .before .before .before .x .given .0 .1 .0)) (c .before .y .given .1) (c .before .before .before .base64-digit2 .ensures)) .char) (c .before .y .given .0 .0) ((subst (Reads base64Value (c .before .before .before .before .before .before .before .before .before .args .s .now) (c .before .before .before .before .before .x .given .0 .1 .0)) (c .before .y .given .1) (c .before .before .before .base64-digit2 .ensures)) .is))
 
--- src/decode.rt:141:1
 returns-2 : tie.Need-returns-2
 returns-2 c = base64-end (denoted (c .before .before .before .before .args .s .now) (c .before .before .before .before .args .i)) (subst (Reads base64Value (c .before .before .before .before .args .s .now) (c .before .before .before .before .args .i)) (c .enum-told .given .1) (c .before .before .base64-digit .ensures))
 
--- src/decode.rt:141:1
 returns-3 : tie.Need-returns-3
 returns-3 c = base64-none (c .before .before .before .before .args .s .now) (c .before .before .before .before .args .i) (subst (Reads base64Value (c .before .before .before .before .args .s .now) (c .before .before .before .before .args .i)) (c .enum-told2 .given .1) (c .before .before .base64-digit .ensures))
 
--- src/decode.rt:141:1
 returns-4 : tie.Need-returns-4
 returns-4 c = base64-first (c .before .before .before .before .before .before .before .before .before .before .args .s .now) (c .before .before .before .before .before .before .before .before .before .before .args .i) (c .before .before .before .before .before .before .x .given .0 .0) (c .before .before .before .before .before .before .x .given .0 .1 .0) (subst (Reads base64Value (c .before .before .before .before .before .before .before .before .before .before .args .s .now) (c .before .before .before .before .before .before .before .before .before .before .args .i)) (c .before .before .before .before .before .before .x .given .1) (c .before .before .before .before .before .before .before .before .base64-digit .ensures)) (c .before .before .y .given .0 .0) (c .before .before .y .given .0 .1 .0) (subst (Reads base64Value (c .before .before .before .before .before .before .before .before .before .before .args .s .now) (c .before .before .before .before .before .before .x .given .0 .1 .0)) (c .before .before .y .given .1) (c .before .before .before .before .base64-digit2 .ensures)) (c .base64-tail .result) (c .base64-tail .ensures)
 

@@ -1,123 +1,92 @@
-use mathlib.Core.Path.{subst, sym, _∙_}
+use borrow.Author.Needs.{needs}
+use mathlib.Core.Path.{sym, subst, _∙_}
 use native.Mathlib.Omega.{arith}
 use borrow.Author.Tests.{not-true, not-false}
 use Rattle.jer.specs.Octets.{base64Value}
-use Rattle.octets.specs.Decode.{Digit, Reads}
+use Rattle.octets.specs.Decode.{Reads}
 use Rattle.octets.proofs.DigitLaws.{base64-below}
 use Rattle.octets.proofs.GroupLaws.{no-first, tail-bits, tail-other, tail-one, tail-bits-2, tail-other-2, tail-two, tail-three}
-use borrow.Author.Needs.{needs}
 use Rattle.octets.proofs.decode.base64_tail.Statement.{statement}
 use Rattle.octets.proofs.decode.base64_tail.Tie as tie
-use Rattle.octets.proofs.decode.base64_tail.Reads as reads
-use Rattle.octets.proofs.decode.base64_tail.Lts as lts
-use Rattle.octets.proofs.decode.base64_digit.Reads as base64-digit-reads
-use Rattle.tokens.proofs.strings.same_as.Reads as same-as-reads
 
--- src/decode.rt:119:26
 base64-digit-requires : tie.Need-base64-digit-requires
 base64-digit-requires c κs = search needs
 
--- src/decode.rt:119:18
 enum-known-z : tie.Need-enum-known-z
 enum-known-z c = search needs
 
--- src/decode.rt:121:13
 returns : tie.Need-returns
 returns c = tail-bits (c .before .before .before .before .args .s .now) (c .before .before .before .before .args .i) (c .before .before .before .before .args .x) (c .before .before .before .before .args .y) (no-first base64Value (c .before .before .before .before .args .s .now) (c .before .before .before .before .args .i) (c .before .before .base64-digit .result) (c .before .match .keys2) (c .before .before .base64-digit .ensures)) (c .if1 .taken)
 
--- src/decode.rt:123:27
 slice-aggregate-same-as : tie.Need-slice-aggregate-same-as
 slice-aggregate-same-as c = search needs
 
--- src/decode.rt:123:13
 same-as-requires : tie.Need-same-as-requires
 same-as-requires c κs = search needs
 
--- src/decode.rt:124:13
 returns-2 : tie.Need-returns-2
 returns-2 c = tail-other (c .before .before .before .before .before .before .before .args .s .now) (c .before .before .before .before .before .before .before .args .i) (c .before .before .before .before .before .before .before .args .x) (c .before .before .before .before .before .before .before .args .y) (no-first base64Value (c .before .before .before .before .before .before .before .args .s .now) (c .before .before .before .before .before .before .before .args .i) (c .before .before .before .before .before .base64-digit .result) (c .before .before .before .before .match .keys2) (c .before .before .before .before .before .base64-digit .ensures)) (sym (c .before .same-as .ensures) ∙ not-true (c .before .same-as .result) (c .if2 .taken))
 
--- src/decode.rt:126:30
 mul-t12 : tie.Need-mul-t12
 mul-t12 c = search needs
 
--- src/decode.rt:126:30
 add-t18 : tie.Need-add-t18
 add-t18 c = search needs
 
--- src/decode.rt:126:9
 returns-3 : tie.Need-returns-3
 returns-3 c = tail-one (c .before .before .before .before .before .before .before .args .s .now) (c .before .before .before .before .before .before .before .args .i) (c .before .before .before .before .before .before .before .args .x) (c .before .before .before .before .before .before .before .args .y) (omega arith) (sym (c .before .same-as .ensures) ∙ not-false (c .before .same-as .result) (c .if2 .left))
 
--- src/decode.rt:128:26
 base64-digit-requires-2 : tie.Need-base64-digit-requires-2
 base64-digit-requires-2 c κs = search needs
 
--- src/decode.rt:128:18
 enum-known-w : tie.Need-enum-known-w
 enum-known-w c = search needs
 
--- src/decode.rt:130:13
 returns-4 : tie.Need-returns-4
 returns-4 c = tail-bits-2 (c .before .before .before .before .before .before .before .before .args .s .now) (c .before .before .before .before .before .before .before .before .args .i) (c .before .before .before .before .before .before .before .before .args .x) (c .before .before .before .before .before .before .before .before .args .y) (c .before .before .before .before .z .given .0 .0) (c .before .before .before .before .z .given .0 .1 .0) (subst (Reads base64Value (c .before .before .before .before .before .before .before .before .args .s .now) (c .before .before .before .before .before .before .before .before .args .i)) (c .before .before .before .before .z .given .1) (c .before .before .before .before .before .before .base64-digit .ensures)) (no-first base64Value (c .before .before .before .before .before .before .before .before .args .s .now) (c .before .before .before .before .z .given .0 .1 .0) (c .before .before .base64-digit2 .result) (c .before .match2 .keys2) (c .before .before .base64-digit2 .ensures)) (c .if3 .taken)
 
--- src/decode.rt:132:27
 slice-aggregate-same-as-2 : tie.Need-slice-aggregate-same-as-2
 slice-aggregate-same-as-2 c = search needs
 
--- src/decode.rt:132:13
 same-as-requires-2 : tie.Need-same-as-requires-2
 same-as-requires-2 c κs = search needs
 
--- src/decode.rt:133:13
 returns-5 : tie.Need-returns-5
 returns-5 c = tail-other-2 (c .before .before .before .before .before .before .before .before .before .before .before .args .s .now) (c .before .before .before .before .before .before .before .before .before .before .before .args .i) (c .before .before .before .before .before .before .before .before .before .before .before .args .x) (c .before .before .before .before .before .before .before .before .before .before .before .args .y) (c .before .before .before .before .before .before .before .z .given .0 .0) (c .before .before .before .before .before .before .before .z .given .0 .1 .0) (subst (Reads base64Value (c .before .before .before .before .before .before .before .before .before .before .before .args .s .now) (c .before .before .before .before .before .before .before .before .before .before .before .args .i)) (c .before .before .before .before .before .before .before .z .given .1) (c .before .before .before .before .before .before .before .before .before .base64-digit .ensures)) (no-first base64Value (c .before .before .before .before .before .before .before .before .before .before .before .args .s .now) (c .before .before .before .before .before .before .before .z .given .0 .1 .0) (c .before .before .before .before .before .base64-digit2 .result) (c .before .before .before .before .match2 .keys2) (c .before .before .before .before .before .base64-digit2 .ensures)) (sym (c .before .same-as2 .ensures) ∙ not-true (c .before .same-as2 .result) (c .if4 .taken))
 
--- src/decode.rt:135:30
 mul-t21 : tie.Need-mul-t21
 mul-t21 c = search needs
 
--- src/decode.rt:135:30
 add-t27 : tie.Need-add-t27
 add-t27 c = search needs
 
--- src/decode.rt:135:46
 mul-t29 : tie.Need-mul-t29
 mul-t29 c = search needs
 
--- src/decode.rt:135:46
 add-t31 : tie.Need-add-t31
 add-t31 c = omega (arith, base64-below ((subst (Reads base64Value (c .before .before .before .before .before .before .before .before .before .before .before .args .s .now) (c .before .before .before .before .before .before .before .before .before .before .before .args .i)) (c .before .before .before .before .before .before .before .z .given .1) (c .before .before .before .before .before .before .before .before .before .base64-digit .ensures)) .char) (c .before .before .before .before .before .before .before .z .given .0 .0) ((subst (Reads base64Value (c .before .before .before .before .before .before .before .before .before .before .before .args .s .now) (c .before .before .before .before .before .before .before .before .before .before .before .args .i)) (c .before .before .before .before .before .before .before .z .given .1) (c .before .before .before .before .before .before .before .before .before .base64-digit .ensures)) .is))
 
--- src/decode.rt:135:9
 returns-6 : tie.Need-returns-6
 returns-6 c = tail-two (c .before .before .before .before .before .before .before .before .before .before .before .args .s .now) (c .before .before .before .before .before .before .before .before .before .before .before .args .i) (c .before .before .before .before .before .before .before .before .before .before .before .args .x) (c .before .before .before .before .before .before .before .before .before .before .before .args .y) (c .before .before .before .before .before .before .before .z .given .0 .0) (c .before .before .before .before .before .before .before .z .given .0 .1 .0) (subst (Reads base64Value (c .before .before .before .before .before .before .before .before .before .before .before .args .s .now) (c .before .before .before .before .before .before .before .before .before .before .before .args .i)) (c .before .before .before .before .before .before .before .z .given .1) (c .before .before .before .before .before .before .before .before .before .base64-digit .ensures)) (omega arith) (sym (c .before .same-as2 .ensures) ∙ not-false (c .before .same-as2 .result) (c .if4 .left))
 
--- src/decode.rt:137:19
 mul-t33 : tie.Need-mul-t33
 mul-t33 c = search needs
 
--- src/decode.rt:137:19
 add-t35 : tie.Need-add-t35
 add-t35 c = search needs
 
--- src/decode.rt:137:35
 mul-t37 : tie.Need-mul-t37
 mul-t37 c = search needs
 
--- src/decode.rt:137:35
 add-t39 : tie.Need-add-t39
 add-t39 c = omega (arith, base64-below ((subst (Reads base64Value (c .before .before .before .before .before .before .before .before .before .args .s .now) (c .before .before .before .before .before .before .before .before .before .args .i)) (c .before .before .before .before .before .z .given .1) (c .before .before .before .before .before .before .before .base64-digit .ensures)) .char) (c .before .before .before .before .before .z .given .0 .0) ((subst (Reads base64Value (c .before .before .before .before .before .before .before .before .before .args .s .now) (c .before .before .before .before .before .before .before .before .before .args .i)) (c .before .before .before .before .before .z .given .1) (c .before .before .before .before .before .before .before .base64-digit .ensures)) .is))
 
--- src/decode.rt:137:56
 mul-t41 : tie.Need-mul-t41
 mul-t41 c = search needs
 
--- src/decode.rt:137:56
 add-t42 : tie.Need-add-t42
 add-t42 c = omega (arith, base64-below ((subst (Reads base64Value (c .before .before .before .before .before .before .before .before .before .args .s .now) (c .before .before .before .before .before .before .before .before .before .args .i)) (c .before .before .before .before .before .z .given .1) (c .before .before .before .before .before .before .before .base64-digit .ensures)) .char) (c .before .before .before .before .before .z .given .0 .0) ((subst (Reads base64Value (c .before .before .before .before .before .before .before .before .before .args .s .now) (c .before .before .before .before .before .before .before .before .before .args .i)) (c .before .before .before .before .before .z .given .1) (c .before .before .before .before .before .before .before .base64-digit .ensures)) .is), base64-below ((subst (Reads base64Value (c .before .before .before .before .before .before .before .before .before .args .s .now) (c .before .before .before .before .before .z .given .0 .1 .0)) (c .before .w .given .1) (c .before .before .before .base64-digit2 .ensures)) .char) (c .before .w .given .0 .0) ((subst (Reads base64Value (c .before .before .before .before .before .before .before .before .before .args .s .now) (c .before .before .before .before .before .z .given .0 .1 .0)) (c .before .w .given .1) (c .before .before .before .base64-digit2 .ensures)) .is))
 
--- src/decode.rt:115:1
 returns-7 : tie.Need-returns-7
 returns-7 c = tail-three (c .before .before .before .before .before .before .before .before .before .args .s .now) (c .before .before .before .before .before .before .before .before .before .args .i) (c .before .before .before .before .before .before .before .before .before .args .x) (c .before .before .before .before .before .before .before .before .before .args .y) (c .before .before .before .before .before .z .given .0 .0) (c .before .before .before .before .before .z .given .0 .1 .0) (subst (Reads base64Value (c .before .before .before .before .before .before .before .before .before .args .s .now) (c .before .before .before .before .before .before .before .before .before .args .i)) (c .before .before .before .before .before .z .given .1) (c .before .before .before .before .before .before .before .base64-digit .ensures)) (c .before .w .given .0 .0) (c .before .w .given .0 .1 .0) (subst (Reads base64Value (c .before .before .before .before .before .before .before .before .before .args .s .now) (c .before .before .before .before .before .z .given .0 .1 .0)) (c .before .w .given .1) (c .before .before .before .base64-digit2 .ensures))
 

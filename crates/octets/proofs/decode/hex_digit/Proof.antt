@@ -1,72 +1,54 @@
+use borrow.Author.Needs.{needs}
 use mathlib.Core.Path.{subst}
 use native.Mathlib.Omega.{arith}
 use Rattle.jer.specs.Octets.{hexValue}
 use Rattle.octets.specs.Decode.{asciiValue, Reads}
-use Rattle.octets.proofs.DigitLaws.{digit-some, digit-none, digit-wide, hex-wide, hex-decimal, hex-upper, hex-lower, hex-other}
-use borrow.Author.Needs.{needs}
+use Rattle.octets.proofs.DigitLaws.{digit-some, digit-none, digit-wide, hex-decimal, hex-upper, hex-lower, hex-other, hex-wide}
 use Rattle.octets.proofs.decode.hex_digit.Statement.{statement}
 use Rattle.octets.proofs.decode.hex_digit.Tie as tie
-use Rattle.octets.proofs.decode.hex_digit.Reads as reads
-use Rattle.octets.proofs.decode.hex_digit.Lts as lts
-use Rattle.octets.proofs.decode.next_char.Reads as next-char-reads
 
--- src/decode.rt:66:11
 next-char-requires : tie.Need-next-char-requires
 next-char-requires c κs = search needs
 
--- src/decode.rt:67:22
 enum-told : tie.Need-enum-told
 enum-told c = search needs
 
--- src/decode.rt:68:24
 enum-told-2 : tie.Need-enum-told-2
 enum-told-2 c = search needs
 
--- src/decode.rt:69:18
 enum-known-b : tie.Need-enum-known-b
 enum-known-b c = search needs
 
--- src/decode.rt:71:37
 sub-t10 : tie.Need-sub-t10
 sub-t10 c = search needs
 
--- src/decode.rt:72:37
 sub-t11 : tie.Need-sub-t11
 sub-t11 c = search needs
 
--- src/decode.rt:62:1
 returns : tie.Need-returns
 returns c = subst (Reads asciiValue (c .before .before .before .before .args .s .now) (c .before .before .before .before .args .i)) (c .enum-told .given .1) (c .before .before .next-char .ensures)
 
--- src/decode.rt:62:1
 returns-2 : tie.Need-returns-2
 returns-2 c = digit-wide hexValue (c .before .before .before .before .args .s .now) (c .before .before .before .before .args .i) hex-wide (subst (Reads asciiValue (c .before .before .before .before .args .s .now) (c .before .before .before .before .args .i)) (c .enum-told2 .given .1) (c .before .before .next-char .ensures))
 
--- src/decode.rt:62:1
 returns-3 : tie.Need-returns-3
 returns-3 c = digit-some hexValue (c .before .before .before .before .before .before .before .args .s .now) (c .before .before .before .before .before .before .before .args .i) (subst (Reads asciiValue (c .before .before .before .before .before .before .before .args .s .now) (c .before .before .before .before .before .before .before .args .i)) (c .before .before .before .b .given .1) (c .before .before .before .before .before .next-char .ensures)) _ (hex-decimal (c .before .before .before .b .given .0 .0) (omega arith))
 
--- src/decode.rt:62:1
 returns-4 : tie.Need-returns-4
 returns-4 c = digit-some hexValue (c .before .before .before .before .before .before .before .before .before .args .s .now) (c .before .before .before .before .before .before .before .before .before .args .i) (subst (Reads asciiValue (c .before .before .before .before .before .before .before .before .before .args .s .now) (c .before .before .before .before .before .before .before .before .before .args .i)) (c .before .before .before .before .before .b .given .1) (c .before .before .before .before .before .before .before .next-char .ensures)) _ (hex-upper (c .before .before .before .before .before .b .given .0 .0) (omega arith))
 
--- src/decode.rt:62:1
 returns-5 : tie.Need-returns-5
 returns-5 c = digit-some hexValue (c .before .before .before .before .before .before .before .before .before .before .before .args .s .now) (c .before .before .before .before .before .before .before .before .before .before .before .args .i) (subst (Reads asciiValue (c .before .before .before .before .before .before .before .before .before .before .before .args .s .now) (c .before .before .before .before .before .before .before .before .before .before .before .args .i)) (c .before .before .before .before .before .before .before .b .given .1) (c .before .before .before .before .before .before .before .before .before .next-char .ensures)) _ (hex-lower (c .before .before .before .before .before .before .before .b .given .0 .0) (omega arith))
 
--- src/decode.rt:62:1
 returns-6 : tie.Need-returns-6
 returns-6 c = digit-none hexValue (c .before .before .before .before .before .before .args .s .now) (c .before .before .before .before .before .before .args .i) (subst (Reads asciiValue (c .before .before .before .before .before .before .args .s .now) (c .before .before .before .before .before .before .args .i)) (c .before .before .b .given .1) (c .before .before .before .before .next-char .ensures)) (hex-other (c .before .before .b .given .0 .0) (λ i. omega arith) (λ i. omega arith) (λ i. omega arith))
 
--- src/decode.rt:62:1
 returns-7 : tie.Need-returns-7
 returns-7 c = digit-none hexValue (c .before .before .before .before .before .before .before .before .args .s .now) (c .before .before .before .before .before .before .before .before .args .i) (subst (Reads asciiValue (c .before .before .before .before .before .before .before .before .args .s .now) (c .before .before .before .before .before .before .before .before .args .i)) (c .before .before .before .before .b .given .1) (c .before .before .before .before .before .before .next-char .ensures)) (hex-other (c .before .before .before .before .b .given .0 .0) (λ i. omega arith) (λ i. omega arith) (λ i. omega arith))
 
--- src/decode.rt:62:1
 returns-8 : tie.Need-returns-8
 returns-8 c = digit-none hexValue (c .before .before .before .before .before .before .before .before .before .before .args .s .now) (c .before .before .before .before .before .before .before .before .before .before .args .i) (subst (Reads asciiValue (c .before .before .before .before .before .before .before .before .before .before .args .s .now) (c .before .before .before .before .before .before .before .before .before .before .args .i)) (c .before .before .before .before .before .before .b .given .1) (c .before .before .before .before .before .before .before .before .next-char .ensures)) (hex-other (c .before .before .before .before .before .before .b .given .0 .0) (λ i. omega arith) (λ i. omega arith) (λ i. omega arith))
 
--- src/decode.rt:62:1
 returns-9 : tie.Need-returns-9
 returns-9 c = digit-none hexValue (c .before .before .before .before .before .before .before .before .before .before .before .args .s .now) (c .before .before .before .before .before .before .before .before .before .before .before .args .i) (subst (Reads asciiValue (c .before .before .before .before .before .before .before .before .before .before .before .args .s .now) (c .before .before .before .before .before .before .before .before .before .before .before .args .i)) (c .before .before .before .before .before .before .before .b .given .1) (c .before .before .before .before .before .before .before .before .before .next-char .ensures)) (hex-other (c .before .before .before .before .before .before .before .b .given .0 .0) (λ i. omega arith) (λ i. omega arith) (λ i. omega arith))
 

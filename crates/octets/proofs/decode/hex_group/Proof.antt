@@ -1,62 +1,47 @@
+use borrow.Author.Needs.{needs}
 use mathlib.Core.Path.{subst}
 use native.Mathlib.Omega.{arith}
 use Rattle.jer.specs.Octets.{hexValue}
 use Rattle.tokens.specs.Strings.{denoted}
-use Rattle.octets.specs.Decode.{Digit, Reads}
+use Rattle.octets.specs.Decode.{Reads}
 use Rattle.octets.proofs.DigitLaws.{hex-below}
 use Rattle.octets.proofs.GroupLaws.{no-first, hex-end, hex-none, hex-half, hex-octet}
-use borrow.Author.Needs.{needs}
 use Rattle.octets.proofs.decode.hex_group.Statement.{statement}
 use Rattle.octets.proofs.decode.hex_group.Tie as tie
-use Rattle.octets.proofs.decode.hex_group.Reads as reads
-use Rattle.octets.proofs.decode.hex_group.Lts as lts
-use Rattle.octets.proofs.decode.hex_digit.Reads as hex-digit-reads
 
--- src/decode.rt:83:11
 hex-digit-requires : tie.Need-hex-digit-requires
 hex-digit-requires c κs = search needs
 
--- src/decode.rt:84:22
 enum-told : tie.Need-enum-told
 enum-told c = search needs
 
--- src/decode.rt:85:24
 enum-told-2 : tie.Need-enum-told-2
 enum-told-2 c = search needs
 
--- src/decode.rt:86:18
 enum-known-x : tie.Need-enum-known-x
 enum-known-x c = search needs
 
--- src/decode.rt:87:34
 hex-digit-requires-2 : tie.Need-hex-digit-requires-2
 hex-digit-requires-2 c κs = search needs
 
--- src/decode.rt:87:26
 enum-known-y : tie.Need-enum-known-y
 enum-known-y c = search needs
 
--- src/decode.rt:88:17
 returns : tie.Need-returns
 returns c = hex-half (c .before .before .before .before .before .before .before .args .s .now) (c .before .before .before .before .before .before .before .args .i) (c .before .before .before .x .given .0 .0) (c .before .before .before .x .given .0 .1 .0) (subst (Reads hexValue (c .before .before .before .before .before .before .before .args .s .now) (c .before .before .before .before .before .before .before .args .i)) (c .before .before .before .x .given .1) (c .before .before .before .before .before .hex-digit .ensures)) (no-first hexValue (c .before .before .before .before .before .before .before .args .s .now) (c .before .before .before .x .given .0 .1 .0) (c .before .hex-digit2 .result) (c .match2 .keys2) (c .before .hex-digit2 .ensures))
 
--- src/decode.rt:90:27
 mul-t10 : tie.Need-mul-t10
 mul-t10 c = omega (arith, hex-below ((subst (Reads hexValue (c .before .before .before .before .before .before .before .before .before .args .s .now) (c .before .before .before .before .before .before .before .before .before .args .i)) (c .before .before .before .before .before .x .given .1) (c .before .before .before .before .before .before .before .hex-digit .ensures)) .char) (c .before .before .before .before .before .x .given .0 .0) ((subst (Reads hexValue (c .before .before .before .before .before .before .before .before .before .args .s .now) (c .before .before .before .before .before .before .before .before .before .args .i)) (c .before .before .before .before .before .x .given .1) (c .before .before .before .before .before .before .before .hex-digit .ensures)) .is))
 
--- src/decode.rt:90:27
 add-t11 : tie.Need-add-t11
 add-t11 c = omega (arith, hex-below ((subst (Reads hexValue (c .before .before .before .before .before .before .before .before .before .args .s .now) (c .before .before .before .before .before .before .before .before .before .args .i)) (c .before .before .before .before .before .x .given .1) (c .before .before .before .before .before .before .before .hex-digit .ensures)) .char) (c .before .before .before .before .before .x .given .0 .0) ((subst (Reads hexValue (c .before .before .before .before .before .before .before .before .before .args .s .now) (c .before .before .before .before .before .before .before .before .before .args .i)) (c .before .before .before .before .before .x .given .1) (c .before .before .before .before .before .before .before .hex-digit .ensures)) .is), hex-below ((subst (Reads hexValue (c .before .before .before .before .before .before .before .before .before .args .s .now) (c .before .before .before .before .before .x .given .0 .1 .0)) (c .before .y .given .1) (c .before .before .before .hex-digit2 .ensures)) .char) (c .before .y .given .0 .0) ((subst (Reads hexValue (c .before .before .before .before .before .before .before .before .before .args .s .now) (c .before .before .before .before .before .x .given .0 .1 .0)) (c .before .y .given .1) (c .before .before .before .hex-digit2 .ensures)) .is))
 
--- src/decode.rt:79:1
 returns-2 : tie.Need-returns-2
 returns-2 c = hex-end (denoted (c .before .before .before .before .args .s .now) (c .before .before .before .before .args .i)) (subst (Reads hexValue (c .before .before .before .before .args .s .now) (c .before .before .before .before .args .i)) (c .enum-told .given .1) (c .before .before .hex-digit .ensures))
 
--- src/decode.rt:79:1
 returns-3 : tie.Need-returns-3
 returns-3 c = hex-none (c .before .before .before .before .args .s .now) (c .before .before .before .before .args .i) (subst (Reads hexValue (c .before .before .before .before .args .s .now) (c .before .before .before .before .args .i)) (c .enum-told2 .given .1) (c .before .before .hex-digit .ensures))
 
--- src/decode.rt:79:1
 returns-4 : tie.Need-returns-4
 returns-4 c = hex-octet (c .before .before .before .before .before .before .before .before .before .args .s .now) (c .before .before .before .before .before .before .before .before .before .args .i) (c .before .before .before .before .before .x .given .0 .0) (c .before .before .before .before .before .x .given .0 .1 .0) (subst (Reads hexValue (c .before .before .before .before .before .before .before .before .before .args .s .now) (c .before .before .before .before .before .before .before .before .before .args .i)) (c .before .before .before .before .before .x .given .1) (c .before .before .before .before .before .before .before .hex-digit .ensures)) (c .before .y .given .0 .0) (c .before .y .given .0 .1 .0) (subst (Reads hexValue (c .before .before .before .before .before .before .before .before .before .args .s .now) (c .before .before .before .before .before .x .given .0 .1 .0)) (c .before .y .given .1) (c .before .before .before .hex-digit2 .ensures))
 

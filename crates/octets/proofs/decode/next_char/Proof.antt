@@ -1,56 +1,42 @@
+use borrow.Author.Needs.{needs}
 use mathlib.Core.Path.{sym, ap, _∙_}
 use native.Mathlib.Omega.{arith}
 use Rattle.tokens.specs.Enums.{pieceOf}
 use Rattle.tokens.proofs.StringLaws.{bare-inside, denoted-close}
 use Rattle.octets.proofs.DigitLaws.{char-bare, char-wide, escape-ascii, escape-wide}
-use borrow.Author.Needs.{needs}
 use Rattle.octets.proofs.decode.next_char.Statement.{statement}
 use Rattle.octets.proofs.decode.next_char.Tie as tie
-use Rattle.octets.proofs.decode.next_char.Reads as reads
-use Rattle.octets.proofs.decode.next_char.Lts as lts
-use Rattle.tokens.proofs.strings.piece_at.Reads as piece-at-reads
 
--- src/decode.rt:50:11
 piece-at-requires : tie.Need-piece-at-requires
 piece-at-requires c κs = search needs
 
--- src/decode.rt:51:25
 enum-told : tie.Need-enum-told
 enum-told c = search needs
 
--- src/decode.rt:52:21
 enum-known-b : tie.Need-enum-known-b
 enum-known-b c = search needs
 
--- src/decode.rt:53:39
 add-t10 : tie.Need-add-t10
 add-t10 c = omega (arith, bare-inside (c .before .before .before .before .before .before .args .s .now) (c .before .before .before .before .before .before .args .i) (sym (ap pieceOf (c .before .before .b .given .1)) ∙ c .before .before .before .before .piece-at .ensures .0), c .before .before .before .before .before .before .pre)
 
--- src/decode.rt:55:24
 enum-known-x : tie.Need-enum-known-x
 enum-known-x c = search needs
 
--- src/decode.rt:56:36
 cast-t13 : tie.Need-cast-t13
 cast-t13 c = search needs
 
--- src/decode.rt:46:1
 returns : tie.Need-returns
 returns c = denoted-close (c .before .before .before .before .args .s .now) (c .before .before .before .before .args .i) (sym (ap pieceOf (c .enum-told .given .1)) ∙ c .before .before .piece-at .ensures .0)
 
--- src/decode.rt:46:1
 returns-2 : tie.Need-returns-2
 returns-2 c = char-bare (c .before .before .before .before .before .before .args .s .now) (c .before .before .before .before .before .before .args .i) (c .before .before .b .given .0 .0) (sym (ap pieceOf (c .before .before .b .given .1)) ∙ c .before .before .before .before .piece-at .ensures .0) (c .if1 .taken)
 
--- src/decode.rt:46:1
 returns-3 : tie.Need-returns-3
 returns-3 c = char-wide (c .before .before .before .before .before .before .args .s .now) (c .before .before .before .before .before .before .args .i) (c .before .before .b .given .0 .0) (sym (ap pieceOf (c .before .before .b .given .1)) ∙ c .before .before .before .before .piece-at .ensures .0) (c .if1 .left)
 
--- src/decode.rt:46:1
 returns-4 : tie.Need-returns-4
 returns-4 c = escape-ascii (c .before .before .before .before .before .before .args .s .now) (c .before .before .before .before .before .before .args .i) (c .before .before .x .given .0 .0) (c .before .before .x .given .0 .1 .0) (sym (ap pieceOf (c .before .before .x .given .1)) ∙ c .before .before .before .before .piece-at .ensures .0) (c .if2 .taken)
 
--- src/decode.rt:46:1
 returns-5 : tie.Need-returns-5
 returns-5 c = escape-wide (c .before .before .before .before .before .before .args .s .now) (c .before .before .before .before .before .before .args .i) (c .before .before .x .given .0 .0) (c .before .before .x .given .0 .1 .0) (sym (ap pieceOf (c .before .before .x .given .1)) ∙ c .before .before .before .before .piece-at .ensures .0) (c .if2 .left)
 

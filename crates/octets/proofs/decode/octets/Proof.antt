@@ -1,16 +1,12 @@
+use borrow.Author.Needs.{needs}
 use Prim.Native.Nat.{_-_}
 use mathlib.Core.Path.{_≡_, refl, subst, _∙_}
 use native.Mathlib.Omega.{arith}
 use lib.ListN.{length}
-use Rattle.octets.specs.Decode.{Grouped, Groups, decoding}
+use Rattle.octets.specs.Decode.{Groups, decoding}
 use Rattle.octets.proofs.GroupLaws.{Decoding, decoding-start, decoding-end, decoding-bad, decoding-more}
-use borrow.Author.Needs.{needs}
 use Rattle.octets.proofs.decode.octets.Statement.{statement}
 use Rattle.octets.proofs.decode.octets.Tie as tie
-use Rattle.octets.proofs.decode.octets.Reads as reads
-use Rattle.octets.proofs.decode.octets.Lts as lts
-use Rattle.octets.proofs.decode.next_group.Reads as next-group-reads
-use Rattle.octets.proofs.decode.put_some.Reads as put-some-reads
 
 abbrev Inv-loop : tie.InvT-loop
 Inv-loop s p pool₀ j base64 i₀ n₀ pool i n = Decoding (decoding base64) s p pool₀ pool j i n × (length pool ≡ length pool₀)
@@ -18,59 +14,45 @@ Inv-loop s p pool₀ j base64 i₀ n₀ pool i n = Decoding (decoding base64) s 
 abbrev μ-loop : tie.MeasureT-loop
 μ-loop s p pool₀ j base64 i₀ n₀ pool i n = length s - i
 
--- src/decode.rt:192:5
 loop-holds : tie.Need-loop-holds Inv-loop μ-loop
 loop-holds c = (decoding-start (decoding (c .before .before .args .base64)) (c .before .before .args .s .now) (c .before .before .args .p) (c .before .before .args .pool .now) (c .before .before .args .j), refl)
 
--- src/decode.rt:193:15
 next-group-requires : tie.Need-next-group-requires Inv-loop μ-loop
 next-group-requires c κs = search needs
 
--- src/decode.rt:195:17
 enum-told : tie.Need-enum-told Inv-loop μ-loop
 enum-told c = search needs
 
--- src/decode.rt:195:17
 same-length : tie.Need-same-length Inv-loop μ-loop
 same-length c = c .before .before .before .loop .inv .1
 
--- src/decode.rt:195:17
 returns : tie.Need-returns Inv-loop μ-loop
 returns c = decoding-end (decoding (c .before .before .before .before .before .before .args .base64)) (c .before .before .before .before .before .before .args .s .now) (c .before .before .before .before .before .before .args .p) (c .before .before .before .before .before .before .args .pool .now) (c .before .before .before .before .before .before .args .j) (c .before .before .before .loop .pool) (c .before .before .before .loop .i) (c .before .before .before .loop .n) (c .before .before .before .loop .inv .0) (subst (Groups (decoding (c .before .before .before .before .before .before .args .base64)) (c .before .before .before .before .before .before .args .s .now) (c .before .before .before .loop .i)) (c .enum-told .given .1) (c .before .before .next-group .ensures))
 
--- src/decode.rt:198:17
 enum-told-2 : tie.Need-enum-told-2 Inv-loop μ-loop
 enum-told-2 c = search needs
 
--- src/decode.rt:198:17
 same-length-2 : tie.Need-same-length-2 Inv-loop μ-loop
 same-length-2 c = c .before .before .before .loop .inv .1
 
--- src/decode.rt:198:17
 returns-2 : tie.Need-returns-2 Inv-loop μ-loop
 returns-2 c = decoding-bad (decoding (c .before .before .before .before .before .before .args .base64)) (c .before .before .before .before .before .before .args .s .now) (c .before .before .before .before .before .before .args .p) (c .before .before .before .before .before .before .args .pool .now) (c .before .before .before .before .before .before .args .j) (c .before .before .before .loop .pool) (c .before .before .before .loop .i) (c .before .before .before .loop .n) (c .before .before .before .loop .inv .0) (subst (Groups (decoding (c .before .before .before .before .before .before .args .base64)) (c .before .before .before .before .before .before .args .s .now) (c .before .before .before .loop .i)) (c .enum-told2 .given .1) (c .before .before .next-group .ensures))
 
--- src/decode.rt:200:27
 enum-known-x : tie.Need-enum-known-x Inv-loop μ-loop
 enum-known-x c = search needs
 
--- src/decode.rt:201:32
 add-put-some : tie.Need-add-put-some Inv-loop μ-loop
 add-put-some c = omega (arith, (subst (Groups (decoding (c .before .before .before .before .before .before .before .before .args .base64)) (c .before .before .before .before .before .before .before .before .args .s .now) (c .before .before .before .before .before .loop .i)) (c .before .before .x .given .1) (c .before .before .before .before .next-group .ensures)) .inside, c .before .before .before .before .before .loop .inv .0 .few, c .before .before .before .before .before .before .before .before .pre)
 
--- src/decode.rt:201:17
 put-some-requires : tie.Need-put-some-requires Inv-loop μ-loop
 put-some-requires c κs = (omega (arith, (subst (Groups (decoding (c .before .before .before .before .before .before .before .before .args .base64)) (c .before .before .before .before .before .before .before .before .args .s .now) (c .before .before .before .before .before .loop .i)) (c .before .before .x .given .1) (c .before .before .before .before .next-group .ensures)) .inside, c .before .before .before .before .before .loop .inv .0 .few, c .before .before .before .before .before .before .before .before .pre), (subst (Groups (decoding (c .before .before .before .before .before .before .before .before .args .base64)) (c .before .before .before .before .before .before .before .before .args .s .now) (c .before .before .before .before .before .loop .i)) (c .before .before .x .given .1) (c .before .before .before .before .next-group .ensures)) .few)
 
--- src/decode.rt:202:17
 add-n : tie.Need-add-n Inv-loop μ-loop
 add-n c = omega (arith, (subst (Groups (decoding (c .before .before .before .before .before .before .before .before .before .before .before .args .base64)) (c .before .before .before .before .before .before .before .before .before .before .before .args .s .now) (c .before .before .before .before .before .before .before .before .loop .i)) (c .before .before .before .before .before .x .given .1) (c .before .before .before .before .before .before .before .next-group .ensures)) .inside, (subst (Groups (decoding (c .before .before .before .before .before .before .before .before .before .before .before .args .base64)) (c .before .before .before .before .before .before .before .before .before .before .before .args .s .now) (c .before .before .before .before .before .before .before .before .loop .i)) (c .before .before .before .before .before .x .given .1) (c .before .before .before .before .before .before .before .next-group .ensures)) .few, c .before .before .before .before .before .before .before .before .loop .inv .0 .few, c .before .before .before .before .before .before .before .before .before .before .before .pre)
 
--- src/decode.rt:192:5
 loop-less : tie.Need-loop-less Inv-loop μ-loop
 loop-less c = omega (arith, (subst (Groups (decoding (c .before .before .before .before .before .before .before .before .before .before .before .args .base64)) (c .before .before .before .before .before .before .before .before .before .before .before .args .s .now) (c .before .before .before .before .before .before .before .before .loop .i)) (c .before .before .before .before .before .x .given .1) (c .before .before .before .before .before .before .before .next-group .ensures)) .inside, (subst (Groups (decoding (c .before .before .before .before .before .before .before .before .before .before .before .args .base64)) (c .before .before .before .before .before .before .before .before .before .before .before .args .s .now) (c .before .before .before .before .before .before .before .before .loop .i)) (c .before .before .before .before .before .x .given .1) (c .before .before .before .before .before .before .before .next-group .ensures)) .ahead)
 
--- src/decode.rt:192:5
 loop-again : tie.Need-loop-again Inv-loop μ-loop
 loop-again c = (decoding-more (decoding (c .before .before .before .before .before .before .before .before .before .before .before .args .base64)) (c .before .before .before .before .before .before .before .before .before .before .before .args .s .now) (c .before .before .before .before .before .before .before .before .before .before .before .args .p) (c .before .before .before .before .before .before .before .before .before .before .before .args .pool .now) (c .before .before .before .before .before .before .before .before .before .before .before .args .j) (c .before .before .before .before .before .before .before .before .loop .pool) (c .before .before .before .before .before .before .before .before .loop .i) (c .before .before .before .before .before .before .before .before .loop .n) (c .before .before .before .before .before .before .before .before .loop .inv .0) (c .before .before .before .before .before .x .given .0 .0) (c .before .before .before .before .before .x .given .0 .1 .0) (c .before .before .before .before .before .x .given .0 .1 .1 .0) (c .before .before .before .before .before .x .given .0 .1 .1 .1 .0) (c .before .before .before .before .before .x .given .0 .1 .1 .1 .1 .0) (subst (Groups (decoding (c .before .before .before .before .before .before .before .before .before .before .before .args .base64)) (c .before .before .before .before .before .before .before .before .before .before .before .args .s .now) (c .before .before .before .before .before .before .before .before .loop .i)) (c .before .before .before .before .before .x .given .1) (c .before .before .before .before .before .before .before .next-group .ensures)) (c .before .before .put-some .last .0) (c .before .before .put-some .ensures), c .before .before .put-some .kept .0 ∙ c .before .before .before .before .before .before .before .before .loop .inv .1)
 

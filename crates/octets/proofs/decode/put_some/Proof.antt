@@ -1,57 +1,42 @@
+use borrow.Author.Needs.{needs}
 use native.Mathlib.Omega.{arith}
 use Rattle.octets.proofs.GroupLaws.{some-one, some-two, some-three}
-use borrow.Author.Needs.{needs}
 use Rattle.octets.proofs.decode.put_some.Statement.{statement}
 use Rattle.octets.proofs.decode.put_some.Tie as tie
-use Rattle.octets.proofs.decode.put_some.Reads as reads
-use Rattle.octets.proofs.decode.put_some.Lts as lts
-use Rattle.tokens.proofs.slices.put.Reads as put-reads
 
--- src/decode.rt:171:9
 returns : tie.Need-returns
 returns c = search needs
 
--- src/decode.rt:173:5
 put-requires : tie.Need-put-requires
 put-requires c κs = search needs
 
--- src/decode.rt:175:9
 same-length : tie.Need-same-length
 same-length c = search needs
 
--- src/decode.rt:175:9
 returns-2 : tie.Need-returns-2
 returns-2 c = some-one (c .before .before .before .before .before .before .before .args .pool .now) (c .before .before .before .before .before .before .before .args .k) (c .before .before .before .before .before .before .before .args .x) (c .before .before .before .before .before .before .before .args .y) (c .before .before .before .before .before .before .before .args .z) (c .before .before .before .before .before .before .before .args .n) (c .if2 .taken) (c .before .before .before .put .last .0) (c .before .before .before .put .ensures)
 
--- src/decode.rt:177:15
 add-put : tie.Need-add-put
 add-put c = search needs
 
--- src/decode.rt:177:5
 put-requires-2 : tie.Need-put-requires-2
 put-requires-2 c κs = search needs
 
--- src/decode.rt:179:9
 same-length-2 : tie.Need-same-length-2
 same-length-2 c = search needs
 
--- src/decode.rt:179:9
 returns-3 : tie.Need-returns-3
 returns-3 c = some-two (c .before .before .before .before .before .before .before .before .before .before .before .before .args .pool .now) (c .before .before .before .before .before .before .before .before .before .before .before .before .args .k) (c .before .before .before .before .before .before .before .before .before .before .before .before .args .x) (c .before .before .before .before .before .before .before .before .before .before .before .before .args .y) (c .before .before .before .before .before .before .before .before .before .before .before .before .args .z) (c .before .before .before .before .before .before .before .before .before .before .before .before .args .n) (c .before .before .before .before .before .before .before .before .put .last .0) (c .before .before .before .before .before .before .before .before .put .ensures) (c .if3 .taken) (c .before .before .before .put2 .last .0) (c .before .before .before .put2 .ensures)
 
--- src/decode.rt:181:15
 add-put-2 : tie.Need-add-put-2
 add-put-2 c = search needs
 
--- src/decode.rt:181:5
 put-requires-3 : tie.Need-put-requires-3
 put-requires-3 c κs = search needs
 
--- src/decode.rt:166:1
 same-length-3 : tie.Need-same-length-3
 same-length-3 c = search needs
 
--- src/decode.rt:166:1
 returns-4 : tie.Need-returns-4
 returns-4 c = some-three (c .before .before .before .before .before .before .before .before .before .before .before .before .before .before .before .before .args .pool .now) (c .before .before .before .before .before .before .before .before .before .before .before .before .before .before .before .before .args .k) (c .before .before .before .before .before .before .before .before .before .before .before .before .before .before .before .before .args .x) (c .before .before .before .before .before .before .before .before .before .before .before .before .before .before .before .before .args .y) (c .before .before .before .before .before .before .before .before .before .before .before .before .before .before .before .before .args .z) (c .before .before .before .before .before .before .before .before .before .before .before .before .before .before .before .before .args .n) (c .before .before .before .before .before .before .before .before .before .before .before .before .put .last .0) (c .before .before .before .before .before .before .before .before .before .before .before .before .put .ensures) (omega (arith, c .before .before .before .before .before .before .before .before .before .before .before .before .before .before .before .before .pre, c .before .before .before .before .before .before .before .before .before .before .before .before .before .before .if1 .left, c .before .before .before .before .before .before .before .before .before .if2 .left, c .before .before .before .before .if3 .left)) (c .before .before .before .before .before .before .before .put2 .last .0) (c .before .before .before .before .before .before .before .put2 .ensures) (c .before .before .put3 .last .0) (c .before .before .put3 .ensures)
 

@@ -1,4 +1,4 @@
-use mathlib.Core.Path.{_≡_, ap, _∙_}
+use mathlib.Core.Path.{_≡_, ap}
 use mathlib.Core.List.{List}
 use mathlib.Core.Bool.{Bool}
 use Prim.Native.Nat.{ℕ, _+_, _-_}
@@ -22,7 +22,7 @@ Inv-loop types names s row q count i₀ i = firstWhere (test types names s row q
 abbrev μ-loop : tie.MeasureT-loop
 μ-loop types names s row q count i₀ i = count - i
 
-compared : (c : tie.After-same Inv-loop μ-loop) → let a = c .before .before .before .before .before .before .before .before .before .before .before .before .args in test (a .types .now) (a .names .now) (a .s .now) (a .row) (a .q) (c .before .before .before .before .before .before .before .loop .i) ≡ c .same .result
+compared : (c : tie.After-same Inv-loop μ-loop) → let a = c .before .before .before .before .before .before .before .before .before .before .before .before .args in c .same .result ≡ test (a .types .now) (a .names .now) (a .s .now) (a .row) (a .q) (c .before .before .before .before .before .before .before .loop .i)
 compared c =
     let a = c .before .before .before .before .before .before .before .before .before .before .before .before .args in
     let ns = a .names .now in
@@ -59,7 +59,7 @@ returns : tie.Need-returns Inv-loop μ-loop
 unfolding foundOf
 returns c =
     let a = c .before .before .before .before .before .before .before .before .before .before .before .before .before .args in
-    ap foundOf (first-found (test (a .types .now) (a .names .now) (a .s .now) (a .row) (a .q)) (c .before .before .before .before .before .before .before .before .loop .i) (c .before .before .before .before .before .before .before .before .before .field .result) (c .before .before .before .before .before .before .before .loop-test .taken) (compared (c .before) ∙ c .if1 .taken) ∙ c .before .before .before .before .before .before .before .before .loop .inv)
+    ap foundOf (first-found (test (a .types .now) (a .names .now) (a .s .now) (a .row) (a .q)) (c .before .before .before .before .before .before .before .before .loop .i) (c .before .before .before .before .before .before .before .before .before .field .result) (c .before .before .before .before .before .before .before .loop-test .taken) (compared (c .before)) (c .if1 .taken) (c .before .before .before .before .before .before .before .before .loop .inv))
 
 add-i : tie.Need-add-i Inv-loop μ-loop
 add-i c = search needs
@@ -70,13 +70,13 @@ loop-less c = omega arith
 loop-again : tie.Need-loop-again Inv-loop μ-loop
 loop-again c =
     let a = c .before .before .before .before .before .before .before .before .before .before .before .before .before .args in
-    first-next (test (a .types .now) (a .names .now) (a .s .now) (a .row) (a .q)) (c .before .before .before .before .before .before .before .before .loop .i) (c .before .before .before .before .before .before .before .before .before .field .result) (c .before .before .before .before .before .before .before .loop-test .taken) (compared (c .before) ∙ c .if1 .left) ∙ c .before .before .before .before .before .before .before .before .loop .inv
+    first-next (test (a .types .now) (a .names .now) (a .s .now) (a .row) (a .q)) (c .before .before .before .before .before .before .before .before .loop .i) (c .before .before .before .before .before .before .before .before .before .field .result) (c .before .before .before .before .before .before .before .loop-test .taken) (compared (c .before)) (c .if1 .left) (c .before .before .before .before .before .before .before .before .loop .inv)
 
 returns-2 : tie.Need-returns-2 Inv-loop μ-loop
 unfolding foundOf
 returns-2 c =
     let a = c .before .before .before .before .before .before .args in
-    ap foundOf (first-ends (test (a .types .now) (a .names .now) (a .s .now) (a .row) (a .q)) (c .before .loop .i) (c .before .before .field .result) (c .loop-test .left) ∙ c .before .loop .inv)
+    ap foundOf (first-ends (test (a .types .now) (a .names .now) (a .s .now) (a .row) (a .q)) (c .before .loop .i) (c .before .before .field .result) (c .loop-test .left) (c .before .loop .inv))
 
 pub position-spec : {M : Type 1} → statement M
 position-spec =

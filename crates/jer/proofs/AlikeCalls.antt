@@ -1,0 +1,53 @@
+-- The reading call on two texts: a text respelled with other options of its sender has the same value; texts that differ only inside
+-- the values of skipped members get the same rows and pool, or the same refusal number.
+use Prim.Native.Nat.{ℕ, _≤_}
+use mathlib.Core.Path.{_≡_, refl, sym, _∙_}
+use mathlib.Core.List.{List}
+use mathlib.Core.Option.{none}
+use lib.ListN.{length}
+use borrow.Author.Tests.{le-leb}
+use Rattle.json.specs.Tree.{Json}
+use Rattle.json.specs.Grammar.{Text}
+use Rattle.json.specs.Machine.{parse}
+use Rattle.json.proofs.Takes.{takes-text}
+use Rattle.jer.specs.Table.{Table}
+use Rattle.jer.specs.Valid.{firstBad}
+use Rattle.jer.specs.Value.{Val}
+use Rattle.jer.specs.Answer.{Res, ok, bind}
+use Rattle.jer.specs.Read.{read}
+use Rattle.jer.specs.Calls.{tableOf, goodTable, treeOf, goodText, readText, readAnswer, rowsAfter, poolAfter}
+use Rattle.jer.specs.Skipped.{SameAnswer, sameValue, sameNumber, SameCall, sameReading, sameRefusal, SkipAlike}
+use Rattle.jer.specs.Respelled.{Respelled}
+use Rattle.jer.proofs.ValidSane.{valid-sane}
+use Rattle.jer.proofs.AlikeSkipped.{skipped-alike}
+use Rattle.jer.proofs.AlikeRespelled.{respelled-reads}
+
+good-text : {j : Json} (s : List ℕ) → Text 32 j s → length s ≤ 65536 → goodText s ≡ ok j
+unfolding goodText parse treeOf
+good-text {j} s t h = rw (le-leb (length s) 65536 h, goodText, takes-text 32 j s t)
+
+-- a good table reads a text within the sizes as its tree
+pub read-text : {j : Json} (t : Table) (s : List ℕ) → firstBad t ≡ none → Text 32 j s → length s ≤ 65536 → readText t s ≡ read j t 0
+unfolding readText goodTable tableOf bind
+read-text t s good x h = rw (good, goodTable) (rw (good-text s x h, bind))
+
+-- Demand 2: "A text is read as the value that X.697 gives it, whatever options its sender chose". Of texts that are refused the numbers
+-- may differ, since 8 and 9 go by the order of the names in the text.
+pub respelled-texts : {t : Table} {j k : Json} {v : Val} (s u : List ℕ) → firstBad t ≡ none → Text 32 j s → Text 32 k u → length s ≤ 65536 → length u ≤ 65536 → Respelled t 0 j k
+    → readText t s ≡ ok v → readText t u ≡ ok v
+respelled-texts {t} s u good x y l m h e = read-text t u good y m ∙ respelled-reads (valid-sane t good) h (sym (read-text t s good x l) ∙ e)
+
+pub skipped-texts : {t : Table} {j k : Json} (s u : List ℕ) → firstBad t ≡ none → Text 32 j s → Text 32 k u → length s ≤ 65536 → length u ≤ 65536 → SkipAlike t 0 j k
+    → SameAnswer (readText t s) (readText t u)
+skipped-texts {t} s u good x y l m h = rw (read-text t s good x l, read-text t u good y m) (skipped-alike (valid-sane t good) h)
+
+-- ---- the buffers
+
+pub same-call : (t : Table) (rows pool : List ℕ) {x y : Res Val} → SameAnswer x y → SameCall t rows pool x y
+unfolding readAnswer rowsAfter poolAfter
+same-call t rows pool sameValue = record { answer = sameReading; rows-same = refl; pool-same = refl }
+same-call t rows pool (sameNumber n) = record { answer = sameRefusal n; rows-same = refl; pool-same = refl }
+
+pub skipped-stores : {t : Table} {j k : Json} (s u rows pool : List ℕ) → firstBad t ≡ none → Text 32 j s → Text 32 k u → length s ≤ 65536 → length u ≤ 65536 → SkipAlike t 0 j k
+    → SameCall t rows pool (readText t s) (readText t u)
+skipped-stores {t} s u rows pool good x y l m h = same-call t rows pool (skipped-texts s u good x y l m h)
