@@ -91,7 +91,10 @@ pub fn octets_line(s: &[u8], at: usize, out: &mut [u8]) -> Decoded {
         k += 1;
         i += 2;
     }
-    Decoded::Count { count: k, next: end + 1 }
+    Decoded::Count {
+        count: k,
+        next: end + 1,
+    }
 }
 
 // The numbers of the line at a place, eight digits each.
@@ -110,5 +113,8 @@ pub fn numbers_line(s: &[u8], at: usize, out: &mut [u32]) -> Decoded {
         k += 1;
         i += 8;
     }
-    Decoded::Count { count: k, next: end + 1 }
+    Decoded::Count {
+        count: k,
+        next: end + 1,
+    }
 }

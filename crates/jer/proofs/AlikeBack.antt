@@ -49,7 +49,7 @@ mutual
   pub respelled-back : {t : Table} {r : ℕ} {j k : Json} → Respelled t r j k → Respelled t r k j
   respelled-back (spell.moved h) = spell.moved (moved-back h)
   respelled-back spell.minusZero = spell.minusZero
-  respelled-back (spell.letterCase c b e) = spell.letterCase c b (sym e)
+  respelled-back (spell.letterCase c e) = spell.letterCase c (sym e)
   respelled-back (spell.items c h) = spell.items c (back-items h)
   respelled-back (spell.elements c h) = spell.elements c (back-elements h)
   respelled-back (spell.members c a m n h) = spell.members c a n m (back-members h)

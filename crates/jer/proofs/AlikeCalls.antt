@@ -21,6 +21,7 @@ use Rattle.jer.specs.Respelled.{Respelled}
 use Rattle.jer.proofs.ValidSane.{valid-sane}
 use Rattle.jer.proofs.AlikeSkipped.{skipped-alike}
 use Rattle.jer.proofs.AlikeRespelled.{respelled-reads}
+use Rattle.jer.proofs.AlikeExactly.{respelled-only}
 
 good-text : {j : Json} (s : List ℕ) → Text 32 j s → length s ≤ 65536 → goodText s ≡ ok j
 unfolding goodText parse treeOf
@@ -31,12 +32,18 @@ pub read-text : {j : Json} (t : Table) (s : List ℕ) → firstBad t ≡ none �
 unfolding readText goodTable tableOf bind
 read-text t s good x h = rw (good, goodTable) (rw (good-text s x h, bind))
 
--- Demand 2: "A text is read as the value that X.697 gives it, whatever options its sender chose". Of texts that are refused the numbers
--- may differ, since 8 and 9 go by the order of the names in the text.
+-- Demand 2: "A text is read as the value that X.697 gives it, whatever options its sender chose"
 pub respelled-texts : {t : Table} {j k : Json} {v : Val} (s u : List ℕ) → firstBad t ≡ none → Text 32 j s → Text 32 k u → length s ≤ 65536 → length u ≤ 65536 → Respelled t 0 j k
     → readText t s ≡ ok v → readText t u ≡ ok v
 respelled-texts {t} s u good x y l m h e = read-text t u good y m ∙ respelled-reads (valid-sane t good) h (sym (read-text t s good x l) ∙ e)
 
+-- no other text is read as that value
+pub only-respelled-texts : {t : Table} {j k : Json} {v : Val} (s u : List ℕ) → firstBad t ≡ none → Text 32 j s → Text 32 k u → length s ≤ 65536 → length u ≤ 65536
+    → readText t s ≡ ok v → readText t u ≡ ok v → Respelled t 0 j k
+only-respelled-texts {t} s u good x y l m e f = respelled-only (valid-sane t good) (sym (read-text t s good x l) ∙ e) (sym (read-text t u good y m) ∙ f)
+
+-- "Two texts that differ only inside the values of skipped members, both JSON within the sizes, get the same rows and pool, or the same
+-- refusal number."
 pub skipped-texts : {t : Table} {j k : Json} (s u : List ℕ) → firstBad t ≡ none → Text 32 j s → Text 32 k u → length s ≤ 65536 → length u ≤ 65536 → SkipAlike t 0 j k
     → SameAnswer (readText t s) (readText t u)
 skipped-texts {t} s u good x y l m h = rw (read-text t s good x l, read-text t u good y m) (skipped-alike (valid-sane t good) h)

@@ -76,7 +76,7 @@ null-kind t r =
     go false e = cc
 
 -- the null value is what null is read as
-value-of-null : (t : Table) (r p : ℕ) (v : Val) → nullValue t r ≡ some v → read (jnull p) t r ≡ ok v
+pub value-of-null : (t : Table) (r p : ℕ) (v : Val) → nullValue t r ≡ some v → read (jnull p) t r ≡ ok v
 unfolding nullValue tokenIn bind
 value-of-null t r p v =
     cases (isUnwrapped t r) (λ w. chosen (alternative t r tNull) refl w) (λ w. cases (eqb (kindOf t r) NULL) (λ k e. null-read t r p (eqb-true _ _ k) ∙ ap ok (found e)) (λ k e. nothing e))

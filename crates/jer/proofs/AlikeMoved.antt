@@ -14,7 +14,7 @@ use Rattle.jer.proofs.AlikeObject.{Twin, twin, braces-same}
 
 -- ---- tokens
 
-null-token : (j : Json) → null? j ≡ sameToken (tokenIn j) tNull
+pub null-token : (j : Json) → null? j ≡ sameToken (tokenIn j) tNull
 unfolding null? tokenIn sameToken tokenCode
 null-token (jnull p) = refl
 null-token (jbool p b) = refl

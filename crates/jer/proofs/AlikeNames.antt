@@ -20,7 +20,7 @@ use Rattle.jer.proofs.AlikeKept.{Keeps, keeps-same, keeps-map, keeps-te
 -- ---- what an object holds under a name
 
 -- a member as the typed reading meets it
-abbrev entryOf : Table → ℕ → List ℕ → Json → Entry
+abbrev pub entryOf : Table → ℕ → List ℕ → Json → Entry
 entryOf t p s j = record { place = p; name = s; isNull = null? j; means = λ r. read j t r }
 
 pub data Holds (t : Table) : Option Json → Option Entry → Type 0 where
@@ -28,11 +28,11 @@ pub data Holds (t : Table) : Option Json → Option Entry → Type 0 where
   holds : {p : ℕ} {s : List ℕ} {j : Json} → Holds t (some j) (some (entryOf t p s j))
 
 -- one member more, looked at by its name: it is found, or what is found without it
-data Ahead (t : Table) (s : List ℕ) (p : ℕ) (u : List ℕ) (j : Json) (ms : Members) : Type 0 where
+pub data Ahead (t : Table) (s : List ℕ) (p : ℕ) (u : List ℕ) (j : Json) (ms : Members) : Type 0 where
   same : u ≡ s → held (mcons p u j ms) s ≡ some j → ((xs : List Entry) → lookup s (entryOf t p u j ∷ xs) ≡ some (entryOf t p u j)) → Ahead t s p u j ms
   other : held (mcons p u j ms) s ≡ held ms s → ((xs : List Entry) → lookup s (entryOf t p u j ∷ xs) ≡ lookup s xs) → Ahead t s p u j ms
 
-ahead : (t : Table) (s : List ℕ) (p : ℕ) (u : List ℕ) (j : Json) (ms : Members) → Ahead t s p u j ms
+pub ahead : (t : Table) (s : List ℕ) (p : ℕ) (u : List ℕ) (j : Json) (ms : Members) → Ahead t s p u j ms
 unfolding held lookup
 ahead t s p u j ms = go (sameBytes u s) refl
   where

@@ -8,10 +8,9 @@ use native.Mathlib.Omega.{arith}
 use borrow.Author.Tests.{eq-eqb, ne-eqb}
 use Rattle.json.specs.Bytes.{pick}
 use Rattle.json.specs.Tree.{Json, jnull, jbool, jint, jreal, jstr, jarr, jobj, Items, Members}
-use Rattle.jer.specs.Table.{Table, OCTET-STRING, SEQUENCE, SEQUENCE-OF, CHOICE, kindOf, isBase64, isArray, isUnwrapped, elementOf, countOf, typeAt, alternative}
+use Rattle.jer.specs.Table.{Table, OCTET-STRING, SEQUENCE, SEQUENCE-OF, CHOICE, kindOf, isArray, isUnwrapped, elementOf, countOf, typeAt, alternative}
 use Rattle.jer.specs.Value.{vSeq, vList, vChoice}
 use Rattle.jer.specs.Answer.{ok, bind}
-use Rattle.jer.specs.Octets.{unhex}
 use Rattle.jer.specs.Read.{readOctets, octetsOf, readString, picked, unwrapping, readObject, readElements, readItems, readArray, readChoice, readBraces, read, elements, entries}
 use Rattle.jer.specs.Moved.{tokenIn}
 use Rattle.jer.proofs.ValidRows.{array-kind}
@@ -22,9 +21,9 @@ unfolding isUnwrapped
 wrapped t r k e h = rw (ne-eqb (kindOf t r) CHOICE (λ z. h (sym e ∙ z)))
 
 module _ (t : Table) (r p : ℕ) where
-  pub octets-as : (s : List ℕ) → kindOf t r ≡ OCTET-STRING → isBase64 t r ≡ false → read (jstr p s) t r ≡ readOctets p (unhex s)
-  unfolding read unwrapping readString pick octetsOf
-  octets-as s k b = rw (wrapped t r OCTET-STRING k (λ z. omega arith), unwrapping, k, b, octetsOf)
+  pub octets-as : (s : List ℕ) → kindOf t r ≡ OCTET-STRING → read (jstr p s) t r ≡ readOctets p (octetsOf t r s)
+  unfolding read unwrapping readString pick
+  octets-as s k = rw (wrapped t r OCTET-STRING k (λ z. omega arith), unwrapping, k)
 
   pub brackets-as : (is : Items) → isUnwrapped t r ≡ false → read (jarr p is) t r ≡ readArray t p (elements is t) r
   unfolding read unwrapping

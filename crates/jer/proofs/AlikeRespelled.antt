@@ -6,11 +6,10 @@ use mathlib.Core.Bool.{Bool, true, false}
 use mathlib.Core.Option.{Option, some}
 use native.Mathlib.Omega.{arith}
 use Rattle.json.specs.Tree.{Json, jint, jstr, jarr, jobj, Items, Members, mnil, mcons, placeOf}
-use Rattle.jer.specs.Table.{Table, INTEGER, OCTET-STRING, SEQUENCE, SEQUENCE-OF, CHOICE, kindOf, isBase64, isArray, isUnwrapped, elementOf, countOf, typeAt, position, alternative, tNumber}
+use Rattle.jer.specs.Table.{Table, INTEGER, OCTET-STRING, SEQUENCE, SEQUENCE-OF, CHOICE, kindOf, isArray, isUnwrapped, elementOf, countOf, typeAt, position, alternative, tNumber}
 use Rattle.jer.specs.Value.{Val, vInt, vChoice}
 use Rattle.jer.specs.Answer.{ok}
-use Rattle.jer.specs.Octets.{unhex}
-use Rattle.jer.specs.Read.{readInt, readChosen, readChoice, null?, read, elements}
+use Rattle.jer.specs.Read.{readInt, octetsOf, readChosen, readChoice, null?, read, elements}
 use Rattle.jer.specs.Moved.{tokenIn}
 use Rattle.jer.specs.Skipped.{sameValue}
 use Rattle.jer.specs.Respelled as spell
@@ -28,7 +27,7 @@ pub respelled-token : {t : Table} {r : ℕ} {j k : Json} → Respelled t r j k �
 unfolding tokenIn
 respelled-token (spell.moved h) = moved-token h
 respelled-token spell.minusZero = refl
-respelled-token (spell.letterCase c b e) = refl
+respelled-token (spell.letterCase c e) = refl
 respelled-token (spell.items c h) = refl
 respelled-token (spell.elements c h) = refl
 respelled-token (spell.members c a m n h) = refl
@@ -50,8 +49,8 @@ module _ (t : Table) (g : Sane t) (r : ℕ) where
   unfolding read
   zero-case p q m n = keeps-same (unwrapping-same t p q tNumber _ _ (λ r. kind-same t p q INTEGER r (rw (zero-read p m, zero-read q n) sameValue)) r)
 
-  octets-case : (p q : ℕ) (s u : List ℕ) → kindOf t r ≡ OCTET-STRING → isBase64 t r ≡ false → unhex s ≡ unhex u → Keeps (read (jstr p s) t r) (read (jstr q u) t r)
-  octets-case p q s u c b e = rw (octets-as t r p s c b, octets-as t r q u c b, e) (keeps-same (octets-same t p q (unhex u)))
+  octets-case : (p q : ℕ) (s u : List ℕ) → kindOf t r ≡ OCTET-STRING → octetsOf t r s ≡ octetsOf t r u → Keeps (read (jstr p s) t r) (read (jstr q u) t r)
+  octets-case p q s u c e = rw (octets-as t r p s c, octets-as t r q u c, e) (keeps-same (octets-same t p q (octetsOf t r u)))
 
   items-case : (p q : ℕ) (is js : Items) → kindOf t r ≡ SEQUENCE-OF → Each (KeptAt (elementOf t r)) (elements is t) (elements js t) → Keeps (read (jarr p is) t r) (read (jarr q js) t r)
   items-case p q is js c h = rw (items-as t r p is c, items-as t r q js c) (keeps-map _ (items-kept (elementOf t r) h))
@@ -83,7 +82,7 @@ module _ (t : Table) (g : Sane t) where
     kept : {r : ℕ} {j k : Json} → Respelled t r j k → Keeps (read j t r) (read k t r)
     kept (spell.moved {r = r} h) = keeps-same (moved-same t g h r)
     kept (spell.minusZero {r = r} {p = p} {q = q} {m = m} {n = n}) = zero-case t g r p q m n
-    kept (spell.letterCase {r = r} {p = p} {q = q} {s = s} {u = u} c b e) = octets-case t g r p q s u c b e
+    kept (spell.letterCase {r = r} {p = p} {q = q} {s = s} {u = u} c e) = octets-case t g r p q s u c e
     kept (spell.items {r = r} {p = p} {q = q} {is = is} {js = js} c h) = items-case t g r p q is js c (kept-items h)
     kept (spell.elements {r = r} {p = p} {q = q} {is = is} {js = js} c h) = elements-case t g r p q is js c (kept-elements h)
     kept (spell.members {r = r} {p = p} {q = q} {ms = ms} {ns = ns} c a m n h) = members-case t g r p q ms ns c a m n (kept-members h)

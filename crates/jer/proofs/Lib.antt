@@ -56,3 +56,7 @@ pub mod AlikeElsewhere
 pub mod AlikeSplit
 pub mod AlikeReplaced
 pub mod AlikeBytes
+pub mod AlikeOnly
+pub mod AlikeOnlyArray
+pub mod AlikeOnlyObject
+pub mod AlikeExactly

@@ -1,11 +1,11 @@
--- Trees that differ only in places, and the token that a tree begins with.
+-- Trees that differ only in places, and the tokens of trees.
 use Prim.Native.Nat.{ℕ}
 use mathlib.Core.List.{List}
 use mathlib.Core.Bool.{Bool}
 use Rattle.json.specs.Tree.{Json, jnull, jbool, jint, jreal, jstr, jarr, jobj, Items, inil, icons, Members, mnil, mcons}
 use Rattle.jer.specs.Table.{Token, tNull, tBoolean, tNumber, tString, tArray, tObject}
 
--- Of white space, of escapes and of the way a number or a string was spelled otherwise, a tree keeps only the places.
+-- Other white space and other escapes leave a tree as it is but for its places: the same tokens, names and strings in the same order.
 mutual
   pub data Moved : Json → Json → Type 0 where
     null : {p q : ℕ} → Moved (jnull p) (jnull q)
@@ -24,6 +24,7 @@ mutual
     noMember : MovedMembers mnil mnil
     member : {p q : ℕ} {s : List ℕ} {j k : Json} {ms ns : Members} → Moved j k → MovedMembers ms ns → MovedMembers (mcons p s j ms) (mcons q s k ns)
 
+-- the token that a tree begins with
 unfoldable pub tokenIn : Json → Token
 tokenIn (jnull p) = tNull
 tokenIn (jbool p b) = tBoolean

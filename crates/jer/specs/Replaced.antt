@@ -17,9 +17,13 @@ use Rattle.jer.specs.Skipped.{SameAnswer}
 -- In the tree j, read at the row r, the value i is skipped: it stands somewhere inside an item, an element or a member that is read.
 mutual
   pub data Skips (t : Table) (i : Json) : ℕ → Json → Type 0 where
+    -- inside an item of a SEQUENCE OF
     inItems : {r p : ℕ} {is : Items} → kindOf t r ≡ SEQUENCE-OF → SkipsItems t i (elementOf t r) is → Skips t i r (jarr p is)
+    -- inside an element of an ARRAY sequence, or a surplus one
     inElements : {r p : ℕ} {is : Items} → isArray t r ≡ true → SkipsElements t i r 0 is → Skips t i r (jarr p is)
+    -- inside a member of another sequence or of a wrapped choice, or one that the table does not know
     inMembers : {r p : ℕ} {ms : Members} → isUnwrapped t r ≡ false → SkipsMembers t i r ms → Skips t i r (jobj p ms)
+    -- inside the alternative that the token picks of an UNWRAPPED choice
     inPicked : {r n : ℕ} {j : Json} → isUnwrapped t r ≡ true → alternative t r (tokenIn j) ≡ some n → Skips t i (typeAt t r n) j → Skips t i r j
 
   pub data SkipsItems (t : Table) (i : Json) : ℕ → Items → Type 0 where

@@ -54,13 +54,15 @@ mutual
   -- the elements from the position i on
   pub data SkipAlikeElements (t : Table) : ℕ → ℕ → Items → Items → Type 0 where
     noElement : {r i : ℕ} → SkipAlikeElements t r i inil inil
+    -- the element of the member i
     element : {r i : ℕ} {j k : Json} {is js : Items} → SkipAlike t (typeAt t r i) j k → SkipAlikeElements t r (suc i) is js → SkipAlikeElements t r i (icons j is) (icons k js)
-    -- surplus elements are skipped, whatever and however many they are
+    -- "Surplus elements are skipped if extensible.": they may be any, and any number
     surplus : {r i : ℕ} {is js : Items} → countOf t r ≤ i → extensible t r ≡ true → SkipAlikeElements t r i is js
 
   pub data SkipAlikeMembers (t : Table) : ℕ → Members → Members → Type 0 where
     noMember : {r : ℕ} → SkipAlikeMembers t r mnil mnil
+    -- a member that the table knows: alike at its type
     known : {r p q i : ℕ} {s : List ℕ} {j k : Json} {ms ns : Members} → position t r s ≡ some i → SkipAlike t (typeAt t r i) j k → SkipAlikeMembers t r ms ns
         → SkipAlikeMembers t r (mcons p s j ms) (mcons q s k ns)
-    -- a member that the table does not know is skipped, or else refused by its name: its value may be any
+    -- one that it does not know is skipped if the type is an extensible sequence, and else refused by its name: its value may be any
     unknown : {r p q : ℕ} {s : List ℕ} {j k : Json} {ms ns : Members} → position t r s ≡ none → SkipAlikeMembers t r ms ns → SkipAlikeMembers t r (mcons p s j ms) (mcons q s k ns)

@@ -1,0 +1,22 @@
+-- Demand 1: each call has one answer and leaves one content of each buffer; a refused call writes nothing.
+-- 01: "For each call from outside, its contract determines number, amounts and every byte lent, so that two results allowed by it are shown equal"
+use mathlib.Core.Path.{_≡_, sym, _∙_}
+use mathlib.Core.List.{List}
+use Prim.Native.Nat.{ℕ}
+use Rattle.jer.specs.declared.Judged.{Judged}
+use Rattle.jer.specs.declared.Reading.{Reading}
+use Rattle.jer.specs.declared.Writing.{Writing}
+use Rattle.jer.specs.Table.{Table}
+use Rattle.promises.specs.Contracts.{TableCall, TextCall, ReadCall, WriteCall}
+
+pub table-determined : (t : Table) (r u : Judged) → TableCall t r → TableCall t u → r ≡ u
+table-determined t r u a b = a ∙ sym b
+
+pub text-determined : (s : List ℕ) (r u : Judged) → TextCall s r → TextCall s u → r ≡ u
+text-determined s r u a b = a ∙ sym b
+
+pub read-determined : {t : Table} {s rows pool : List ℕ} {r u : Reading} {a b c d : List ℕ} → ReadCall t s rows pool r a b → ReadCall t s rows pool u c d → (r ≡ u) × (a ≡ c) × (b ≡ d)
+read-determined x y = (x .answer ∙ sym (y .answer), x .rowsLeft ∙ sym (y .rowsLeft), x .poolLeft ∙ sym (y .poolLeft))
+
+pub write-determined : {t : Table} {ns pool text : List ℕ} {r u : Writing} {a c : List ℕ} → WriteCall t ns pool text r a → WriteCall t ns pool text u c → (r ≡ u) × (a ≡ c)
+write-determined x y = (x .answer ∙ sym (y .answer), x .textLeft ∙ sym (y .textLeft))

@@ -1,0 +1,95 @@
+-- Demand 2: what is written is read back as the same table; what was read is written, and never longer; reading needs bounded room.
+use Prim.Native.Nat.{ℕ, suc, _+_, _*_, _≤_}
+use mathlib.Core.Path.{_≡_, refl, sym, ap, _∙_}
+use mathlib.Core.List.{List, [], _∷_}
+use mathlib.Core.Bool.{true}
+use mathlib.Core.Option.{none}
+use native.Mathlib.Omega.{arith}
+use lib.ListN.{length, take}
+use borrow.Author.Tests.{le-leb}
+use Rattle.jer.specs.declared.Refusal.{Refusal}
+use Rattle.jer.specs.declared.Refusal.the-variants.{Amounts}
+use Rattle.jer.specs.declared.Limit.the-variants.{LentRoom}
+use Rattle.jer.specs.declared.Reading.{Reading}
+use Rattle.jer.specs.declared.Reading.the-variants as reading
+use Rattle.jer.specs.declared.Writing.{Writing}
+use Rattle.jer.specs.declared.Writing.the-variants as writing
+use Rattle.jer.specs.Table.{Table}
+use Rattle.jer.specs.Valid.{firstBad}
+use Rattle.jer.specs.Value.{Val}
+use Rattle.jer.specs.Answer.{ok}
+use Rattle.jer.specs.Rows.{numbers, rowsOf, poolOf}
+use Rattle.jer.specs.Fits.{Octets, Fits}
+use Rattle.jer.specs.Write.{write}
+use Rattle.jer.specs.Calls.{over, rowNumbers, readText, writeText, writeAnswer, textAfter}
+use Rattle.jer.proofs.ValidSane.{valid-sane}
+use Rattle.jer.proofs.WeightLaws.{text-bounds}
+use Rattle.jer.proofs.JudgeSpent.{Words}
+use Rattle.jer.proofs.JudgeTable.{TableOf, judge-fits, judged-rows}
+use Rattle.jer.proofs.SpellCalls.{written-reads-text}
+use Rattle.promises.specs.Contracts.{ReadCall, WriteCall}
+use Rattle.promises.proofs.Outcomes.{Stored, stored, Written, written}
+use Rattle.promises.proofs.Means.{Means, means, means-fits, Says, says, said, over-taken, numbers-length, stores, has-room}
+
+-- a text with room for it, within the house size, is written
+writes : {t : Table} {ns pool text text′ : List ℕ} {w : Writing} (bs : List ℕ) → writeText t ns pool ≡ ok bs → length bs ≤ 65536 → length bs ≤ length text
+    → WriteCall t ns pool text w text′ → (w ≡ writing.Written (length bs)) × (text′ ≡ over bs text)
+unfolding writeAnswer textAfter
+writes bs e size room c =
+    let a = rw e at (c .answer) in
+    let b = rw e at (c .textLeft) in
+    let a′ = rw (le-leb _ _ size, writeAnswer) at a in
+    let b′ = rw (le-leb _ _ size, textAfter) at b in
+    (rw (le-leb _ _ room, writeAnswer) at a′, rw (le-leb _ _ room, textAfter) at b′)
+
+-- "Given room and within the sizes, writing a well-formed value gives the one text that document 01 describes"
+pub well-formed-is-written : {t : Table} {v : Val} {text text′ : List ℕ} {w : Writing} → firstBad t ≡ none → Fits t 32 0 v → length (write v t 0) ≤ 65536 → length (write v t 0) ≤ length text
+    → WriteCall t (rowNumbers t v) (poolOf v) text w text′ → (w ≡ writing.Written (length (write v t 0))) × (text′ ≡ over (write v t 0) text)
+unfolding rowNumbers
+well-formed-is-written {t} {v} good f size room c = writes (write v t 0) (said t _ _ v good (judged-rows t (valid-sane t good) f)) size room c
+
+-- "and reading that text gives that value": whatever table was written, reading the text that was stored gives that table, in each buffer
+pub written-is-read : {t : Table} {ns pool text text′ rows bytes rows′ bytes′ : List ℕ} {n : ℕ} {r : Reading} → Words ns → Octets pool → WriteCall t ns pool text (writing.Written n) text′
+    → length ns ≤ length rows → length pool ≤ length bytes → ReadCall t (take n text′) rows bytes r rows′ bytes′
+    → (k : ℕ) × (length ns ≡ k * 4) × (r ≡ reading.Read k (length pool)) × (rows′ ≡ over ns rows) × (bytes′ ≡ over pool bytes)
+unfolding rowNumbers
+written-is-read {t} {ns} {pool} {text} {text′} {rows} {bytes} {n = n} ws os c rowRoom poolRoom d =
+    let w = written t ns pool text n text′ c in
+    let y = says t ns pool (w .bytes) (w .means) in
+    let v = y .value in
+    let f = judge-fits t ns pool v ws os (y .judged) in
+    let s : take n text′ ≡ write v t 0 = ap (λ (x : List ℕ). take n x) (w .textLeft) ∙ over-taken (w .bytes) text n (sym (w .count)) ∙ y .text in
+    let e = written-reads-text (y .good) (f .fits) (omega (arith, w .size, ap length (y .text))) in
+    let rn : rowNumbers t v ≡ ns = sym (f .rows) in
+    let pn : poolOf v ≡ pool = sym (f .bytes) in
+    let room = has-room t v (length rows) (length bytes) (omega (arith, ap length rn)) (omega (arith, ap length pn)) in
+    let got = stores v (ap (readText t) s ∙ e) room d in
+    (length (rowsOf v t 0 0), omega (arith, ap length rn, numbers-length t v), rw pn at (got .0), rw rn at (got .1), rw pn at (got .2))
+
+-- "Writing what was read never gives a longer text": the table that a reading stored is written, with room for as many bytes as the text
+-- had, and the text written is not longer than the one read
+pub read-is-written : {t : Table} {s rows pool rows′ pool′ text text′ : List ℕ} {n m : ℕ} {w : Writing} → ReadCall t s rows pool (reading.Read n m) rows′ pool′
+    → length s ≤ length text → WriteCall t (take (n * 4) rows′) (take m pool′) text w text′ → (k : ℕ) × (w ≡ writing.Written k) × (k ≤ length s)
+unfolding rowNumbers
+read-is-written {t} {s} {rows} {pool} {rows′} {pool′} {text} {n = n} {m = m} c room d =
+    let x = stored t s rows pool n m rows′ pool′ c in
+    let v = x .value in
+    let y = means t s v (x .means) in
+    let g = valid-sane t (y .good) in
+    let small = text-bounds t g v (y .is .text) (y .value) in
+    let nn : length (rowNumbers t v) ≡ n * 4 = omega (arith, numbers-length t v, x .rowCount) in
+    let rs : take (n * 4) rows′ ≡ rowNumbers t v = ap (λ (z : List ℕ). take (n * 4) z) (x .rowsLeft) ∙ over-taken (rowNumbers t v) rows (n * 4) nn in
+    let ps : take m pool′ ≡ poolOf v = ap (λ (z : List ℕ). take m z) (x .poolLeft) ∙ over-taken (poolOf v) pool m (sym (x .poolCount)) in
+    let e : writeText t (take (n * 4) rows′) (take m pool′) ≡ ok (write v t 0)
+    = ap (λ (z : List ℕ). writeText t z (take m pool′)) rs ∙ ap (writeText t (rowNumbers t v)) ps ∙ said t (rowNumbers t v) (poolOf v) v (y .good) (judged-rows t g (means-fits t s v y)) in
+    let size = y .is .size in
+    let r = writes (write v t 0) e (omega (arith, small, size)) (omega (arith, small)) d in
+    (length (write v t 0), r .0, small .2)
+
+-- "A read needs at most 130 rows for each byte of text, and no more pool bytes than text."
+pub read-bounds : {t : Table} {s rows pool rows′ pool′ : List ℕ} {n m : ℕ} → ReadCall t s rows pool (reading.Read n m) rows′ pool′ → (n ≤ 130 * length s) × (m ≤ length s)
+read-bounds {t} {s} {rows} {pool} {rows′} {pool′} {n} {m} c =
+    let x = stored t s rows pool n m rows′ pool′ c in
+    let y = means t s (x .value) (x .means) in
+    let small = text-bounds t (valid-sane t (y .good)) (x .value) (y .is .text) (y .value) in
+    (omega (arith, small, x .rowCount), omega (arith, small, x .poolCount))

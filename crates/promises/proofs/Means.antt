@@ -1,0 +1,124 @@
+-- What a successful reading or writing rests on: a good table, a JSON text, a well-formed value.
+use Prim.Native.Nat.{ℕ, suc, _+_, _*_, _≤_}
+use mathlib.Core.Path.{_≡_, refl, sym, ap, _∙_}
+use mathlib.Core.List.{List, [], _∷_, _++_}
+use mathlib.Core.Bool.{Bool, true, false, _&&_}
+use mathlib.Core.Option.{Option, none, some}
+use native.Mathlib.Omega.{arith}
+use lib.Dec.{leb}
+use lib.ListN.{length, take, drop}
+use lib.Seq.{take-at}
+use borrow.Author.Tests.{leb-true, le-leb}
+use Rattle.json.specs.Tree.{Json}
+use Rattle.json.specs.Grammar.{Text}
+use Rattle.json.specs.Machine.{Parsed, tree, refused, notJson, tooDeep, parseWithin, parse}
+use Rattle.json.proofs.Sound.{text-taken}
+use Rattle.jer.specs.declared.Reading.{Reading}
+use Rattle.jer.specs.declared.Reading.the-variants as reading
+use Rattle.jer.specs.Table.{Table}
+use Rattle.jer.specs.Valid.{firstBad}
+use Rattle.jer.specs.Value.{Val}
+use Rattle.jer.specs.Answer.{Res, ok, no, bind}
+use Rattle.jer.specs.Read.{read}
+use Rattle.jer.specs.Rows.{ValueRow, numbers, rowsOf, poolOf}
+use Rattle.jer.specs.Judge.{judge}
+use Rattle.jer.specs.Write.{write}
+use Rattle.jer.specs.Fits.{Fits}
+use Rattle.jer.specs.Calls.{tableOf, goodTable, treeOf, goodText, readText, over, rowNumbers, roomy, readAnswer, rowsAfter, poolAfter, writeText}
+use Rattle.jer.proofs.ValidSane.{valid-sane}
+use Rattle.jer.proofs.WeightGot.{steps}
+use Rattle.jer.proofs.JudgeRead.{text-fits}
+use Rattle.promises.specs.Contracts.{ReadCall}
+use Rattle.promises.proofs.Outcomes.{never}
+
+good-table : (t u : Table) → goodTable t ≡ ok u → firstBad t ≡ none
+unfolding goodTable tableOf
+good-table t u h = go (firstBad t) refl h
+  where
+    go : (o : Option ℕ) → firstBad t ≡ o → tableOf t o ≡ ok u → firstBad t ≡ none
+    go none e w = e
+    go (some r) e w = never (cc)
+
+-- a text that is judged good is a JSON text of the house size
+pub record GoodText (s : List ℕ) (j : Json) : Type 0 where
+  pub text : Text 32 j s
+  pub size : length s ≤ 65536
+
+good-text : (s : List ℕ) (j : Json) → goodText s ≡ ok j → GoodText s j
+unfolding goodText treeOf parse
+good-text s j h = size (leb (length s) 65536) refl
+  where
+    is-tree : (p : Parsed) → treeOf p ≡ ok j → p ≡ tree j
+    is-tree (tree k) w = cc
+    is-tree (refused notJson p) w = never (cc)
+    is-tree (refused tooDeep p) w = never (cc)
+
+    size : (b : Bool) → leb (length s) 65536 ≡ b → GoodText s j
+    size false e = let w = rw (e, goodText) at h in never (cc)
+    size true e = let w = rw (e, goodText) at h in record { text = text-taken 32 j s (is-tree (parseWithin 32 s) w); size = leb-true _ _ e }
+
+-- what a text that is read has: a good table, a tree, and its meaning
+pub record Means (t : Table) (s : List ℕ) (v : Val) : Type 0 where
+  pub good : firstBad t ≡ none
+  pub json : Json
+  pub is : GoodText s json
+  pub value : read json t 0 ≡ ok v
+
+pub means : (t : Table) (s : List ℕ) (v : Val) → readText t s ≡ ok v → Means t s v
+unfolding readText bind
+means t s v e =
+    let a = steps (goodTable t) _ v e in
+    let b = steps (goodText s) _ v (a .then) in
+    record { good = good-table t (a .val) (a .first); json = b .val; is = good-text s (b .val) (b .first); value = b .then }
+
+-- a value that was read is well formed
+pub means-fits : (t : Table) (s : List ℕ) (v : Val) → Means t s v → Fits t 32 0 v
+means-fits t s v m = text-fits t (valid-sane t (m .good)) (m .is .text) 0 v (m .value)
+
+-- what a table that is written has: a good type table, a value, and its text
+pub record Says (t : Table) (ns pool bs : List ℕ) : Type 0 where
+  pub good : firstBad t ≡ none
+  pub value : Val
+  pub judged : judge t ns pool ≡ ok value
+  pub text : bs ≡ write value t 0
+
+pub says : (t : Table) (ns pool bs : List ℕ) → writeText t ns pool ≡ ok bs → Says t ns pool bs
+unfolding writeText bind
+says t ns pool bs e =
+    let a = steps (goodTable t) _ bs e in
+    let b = steps (judge t ns pool) _ bs (a .then) in
+    record { good = good-table t (a .val) (a .first); value = b .val; judged = b .first; text = cc (b .then) }
+
+-- a table of a value is written as its text
+pub said : (t : Table) (ns pool : List ℕ) (v : Val) → firstBad t ≡ none → judge t ns pool ≡ ok v → writeText t ns pool ≡ ok (write v t 0)
+unfolding writeText goodTable tableOf bind
+said t ns pool v good j = rw (good, goodTable) (rw (j, bind))
+
+-- ---- buffers
+
+pub over-taken : (xs buffer : List ℕ) (n : ℕ) → length xs ≡ n → take n (over xs buffer) ≡ xs
+unfolding over
+over-taken xs buffer n e = take-at xs (drop (length xs) buffer) n e
+
+pub numbers-length : (t : Table) (v : Val) → length (rowNumbers t v) ≡ length (rowsOf v t 0 0) * 4
+unfolding rowNumbers numbers
+numbers-length t v = go (rowsOf v t 0 0)
+  where
+    go : (ws : List ValueRow) → length (numbers ws) ≡ length ws * 4
+    go [] = refl
+    go (w ∷ ws) = omega (arith, go ws)
+
+-- a value with room for it is stored
+pub stores : {t : Table} {s rows pool : List ℕ} {r : Reading} {rows′ pool′ : List ℕ} (v : Val) → readText t s ≡ ok v → roomy t v (length rows) (length pool) ≡ true
+    → ReadCall t s rows pool r rows′ pool′
+    → (r ≡ reading.Read (length (rowsOf v t 0 0)) (length (poolOf v))) × (rows′ ≡ over (rowNumbers t v) rows) × (pool′ ≡ over (poolOf v) pool)
+unfolding readAnswer rowsAfter poolAfter
+stores v e w c =
+    let a = rw e at (c .answer) in
+    let b = rw e at (c .rowsLeft) in
+    let d = rw e at (c .poolLeft) in
+    (rw (w, readAnswer) at a, rw (w, rowsAfter) at b, rw (w, poolAfter) at d)
+
+pub has-room : (t : Table) (v : Val) (n m : ℕ) → length (rowNumbers t v) ≤ n → length (poolOf v) ≤ m → roomy t v n m ≡ true
+unfolding roomy
+has-room t v n m a b = rw (le-leb _ _ a, le-leb _ _ b)

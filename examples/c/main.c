@@ -1,0 +1,160 @@
+/* Reads a booking from four senders, prints its rows, writes it again, and shows refusals in words.
+
+       booking FOLDER      FOLDER is examples/booking */
+#include "load.h"
+#include "sentences.h"
+#include "show.h"
+
+#include <inttypes.h>
+#include <stdbool.h>
+#include <stdio.h>
+#include <stdlib.h>
+#include <string.h>
+
+static const char *const senders[] = { "texts/agency.json", "texts/portal.json", "texts/broker.json",
+                                       "texts/summer.json" };
+
+static const char *const refused[] = {
+    "refused/03-comma-lost.json",    "refused/04-too-many-brackets.json", "refused/05-age-as-string.json",
+    "refused/06-half-a-berth.json",  "refused/07-unpadded-token.json",    "refused/08-cabin-colour.json",
+    "refused/09-fare-twice.json",    "refused/10-no-passengers.json",     "refused/11-voucher-of-summer.json",
+};
+
+#define COUNT(a) (sizeof(a) / sizeof *(a))
+
+static void report(const char *what, struct answer a, struct bytes text)
+{
+    printf("%s: ", what);
+    if (a.number == 0)
+        printf("no refusal\n");
+    else if (a.number == BAD_CALL)
+        printf("no call\n");
+    else
+        printf("refusal %" PRIu32 "\n", a.number);
+    if (a.number != 0)
+        say(a, text);
+}
+
+/* Ends the program where what must succeed is refused. */
+static void need(const char *what, struct answer a, struct bytes text)
+{
+    if (a.number == 0)
+        return;
+    report(what, a, text);
+    exit(1);
+}
+
+static bool same(struct value v, struct value w)
+{
+    return v.numbers == w.numbers && v.pool_bytes == w.pool_bytes &&
+           memcmp(v.rows, w.rows, v.numbers * sizeof *v.rows) == 0 && memcmp(v.pool, w.pool, v.pool_bytes) == 0;
+}
+
+static struct value read_house(const char *folder, struct table spring)
+{
+    struct value v;
+    struct bytes text = load_file(folder, "texts/house.json");
+    need("texts/house.json", read_whole(spring, text, &v), text);
+    printf("texts/house.json: %zu bytes, read as %zu rows and %zu pool bytes\n\n", text.length,
+           v.numbers / ATTRYWIND_VALUE_FIELDS, v.pool_bytes);
+    show_rows(spring, v);
+    free((void *)text.start);
+    return v;
+}
+
+static void read_senders(const char *folder, struct table spring, struct value house)
+{
+    printf("\nother senders, and the summer version's text by the spring table\n");
+    for (size_t i = 0; i < COUNT(senders); i++) {
+        struct value v;
+        struct bytes text = load_file(folder, senders[i]);
+        need(senders[i], read_whole(spring, text, &v), text);
+        printf("%s: %zu bytes, %s\n", senders[i], text.length,
+               same(house, v) ? "the same rows and pool" : "OTHER ROWS OR POOL");
+        free_value(&v);
+        free((void *)text.start);
+    }
+}
+
+static void write_house(struct table spring, struct value v)
+{
+    static uint8_t text[65536];
+    struct bytes none = { NULL, 0 };
+    struct answer a = write_value(spring, (struct numbers){ v.rows, v.numbers }, (struct bytes){ v.pool, v.pool_bytes },
+                                  (struct room_bytes){ text, sizeof text });
+    need("writing", a, none);
+    printf("\nwritten again: %" PRIu64 " bytes\n%.*s\n", a.first, (int)a.first, (const char *)text);
+}
+
+static void refuse_texts(const char *folder, struct table spring)
+{
+    printf("\nrefusals, as a partner desk reads them\n");
+    for (size_t i = 0; i < COUNT(refused); i++) {
+        struct value v;
+        struct bytes text = load_file(folder, refused[i]);
+        report(refused[i], read_whole(spring, text, &v), text);
+        free_value(&v);
+        free((void *)text.start);
+    }
+}
+
+/* Refusals that come from our side of the call. */
+static void refuse_calls(struct table spring, struct value house)
+{
+    static uint8_t long_text[65537], controls[11000], out[65536];
+    uint32_t string_type[8] = { ATTRYWIND_UTF8_STRING };
+    uint32_t string_row[4] = { ATTRYWIND_UTF8_STRING, 0, sizeof controls, 1 };
+    struct table short_table = spring, string_table = { { string_type, 8 }, { NULL, 0 } };
+    struct bytes pool = { house.pool, house.pool_bytes }, none = { NULL, 0 };
+    struct numbers rows = { house.rows, house.numbers }, cut_rows = { house.rows, house.numbers - 4 };
+    short_table.types.length -= 8;
+
+    printf("\nrefusals of our own calls\n");
+    report("a type table without its last row", check_table(short_table), none);
+    memset(long_text, ' ', sizeof long_text);
+    report("a text of 65,537 bytes", read_text(spring, (struct bytes){ long_text, sizeof long_text },
+           (struct room_numbers){ NULL, 0 }, (struct room_bytes){ NULL, 0 }), none);
+    report("a value table without its last row",
+           write_value(spring, cut_rows, pool, (struct room_bytes){ out, sizeof out }), none);
+    memset(controls, 1, sizeof controls);
+    report("a string of 11,000 control characters", write_value(string_table, (struct numbers){ string_row, 4 },
+           (struct bytes){ controls, sizeof controls }, (struct room_bytes){ out, sizeof out }), none);
+    report("room for 100 bytes of text", write_value(spring, rows, pool, (struct room_bytes){ out, 100 }), none);
+}
+
+/* Calls that the wrappers must not make: overlapping, misaligned and null room. */
+static void test_wrappers(struct table spring, struct value house)
+{
+    static uint8_t out[16];
+    struct bytes pool = { house.pool, house.pool_bytes }, null_text = { NULL, 1 };
+    struct numbers rows = { house.rows, house.numbers };
+    struct numbers odd = { (const uint32_t *)(const void *)((const uint8_t *)house.rows + 1), 4 };
+    struct room_bytes over_pool = { house.pool, 1 }, room = { out, sizeof out };
+    if (write_value(spring, rows, pool, over_pool).number == BAD_CALL &&
+        write_value(spring, odd, pool, room).number == BAD_CALL &&
+        read_text(spring, null_text, (struct room_numbers){ NULL, 0 }, room).number == BAD_CALL)
+        return;
+    fprintf(stderr, "a wrapper made a call that it must not make\n");
+    exit(1);
+}
+
+int main(int argc, char **argv)
+{
+    if (argc != 2) {
+        fprintf(stderr, "booking FOLDER\n");
+        return 2;
+    }
+    struct table spring = load_table(argv[1], "spring.hex");
+    need("spring.hex", check_table(spring), (struct bytes){ NULL, 0 });
+    printf("spring.hex: a good type table of %zu rows\n", spring.types.length / ATTRYWIND_TYPE_FIELDS);
+    struct value house = read_house(argv[1], spring);
+    read_senders(argv[1], spring, house);
+    write_house(spring, house);
+    refuse_texts(argv[1], spring);
+    refuse_calls(spring, house);
+    test_wrappers(spring, house);
+    free_value(&house);
+    free((void *)spring.types.start);
+    free((void *)spring.names.start);
+    return 0;
+}

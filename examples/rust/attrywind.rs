@@ -1,0 +1,133 @@
+//! Safe wrappers of libcapi.a. `include/attrywind.h` says what a caller owes; here the borrow checker sees to it: a Rust slice
+//! is never null, is aligned, and a `&mut` one overlaps no other. What is left to test is tested below.
+
+/// Field 0 of a row.
+pub mod kind {
+    pub const BOOLEAN: u32 = 0;
+    pub const INTEGER: u32 = 1;
+    pub const ENUMERATED: u32 = 2;
+    pub const NULL: u32 = 3;
+    pub const OCTET_STRING: u32 = 4;
+    pub const UTF8_STRING: u32 = 5;
+    pub const SEQUENCE: u32 = 6;
+    pub const SEQUENCE_OF: u32 = 7;
+    pub const CHOICE: u32 = 8;
+    pub const ABSENT: u32 = 15;
+}
+
+/// 32-bit numbers to a row of a type table and of a value table.
+pub const TYPE_FIELDS: usize = 8;
+pub const VALUE_FIELDS: usize = 4;
+
+/// Refusal 14: lent room too small.
+const LENT_ROOM: u32 = 14;
+
+#[link(name = "capi", kind = "static")]
+extern "C" {
+    fn attrywind_check_table(
+        types: *const u32, types_len: usize, names: *const u8, names_len: usize, amounts: *mut u64, amounts_len: usize,
+    ) -> u32;
+    fn attrywind_read(
+        types: *const u32, types_len: usize, names: *const u8, names_len: usize, text: *const u8, text_len: usize,
+        rows: *mut u32, rows_len: usize, pool: *mut u8, pool_len: usize, amounts: *mut u64, amounts_len: usize,
+    ) -> u32;
+    fn attrywind_write(
+        types: *const u32, types_len: usize, names: *const u8, names_len: usize, values: *const u32, values_len: usize,
+        pool: *const u8, pool_len: usize, text: *mut u8, text_len: usize, amounts: *mut u64, amounts_len: usize,
+    ) -> u32;
+}
+
+/// Document 01's number, with its place, row or amounts.
+#[derive(Clone, Copy, Debug, PartialEq, Eq)]
+pub struct Refusal {
+    pub number: u32,
+    pub first: u64,
+    pub second: u64,
+}
+
+/// A type table, as numbers and names. `read` and `write` judge it each time; `check` judges it alone.
+pub struct Table {
+    pub types: Vec<u32>,
+    pub names: Vec<u8>,
+}
+
+/// A value table: rows of four numbers and the pool beside.
+#[derive(Clone, Debug, PartialEq, Eq)]
+pub struct Value {
+    pub rows: Vec<u32>,
+    pub pool: Vec<u8>,
+}
+
+fn answer(number: u32, amounts: [u64; 2]) -> Result<(usize, usize), Refusal> {
+    if number != 0 {
+        return Err(Refusal { number, first: amounts[0], second: amounts[1] });
+    }
+    Ok((amounts[0] as usize, amounts[1] as usize))
+}
+
+impl Table {
+    pub fn check(&self) -> Result<(), Refusal> {
+        let mut amounts = [0; 2];
+        // SAFETY: each pointer and length are one slice's; only `amounts` is written, and nothing else borrows it.
+        let number = unsafe {
+            attrywind_check_table(
+                self.types.as_ptr(), self.types.len(), self.names.as_ptr(), self.names.len(),
+                amounts.as_mut_ptr(), amounts.len(),
+            )
+        };
+        answer(number, amounts).map(|_| ())
+    }
+
+    /// How many rows and pool bytes of the room were used.
+    pub fn read_into(&self, text: &[u8], rows: &mut [u32], pool: &mut [u8]) -> Result<(usize, usize), Refusal> {
+        let mut amounts = [0; 2];
+        // SAFETY: as in `check`; `rows` and `pool` are borrowed by this call alone.
+        let number = unsafe {
+            attrywind_read(
+                self.types.as_ptr(), self.types.len(), self.names.as_ptr(), self.names.len(),
+                text.as_ptr(), text.len(), rows.as_mut_ptr(), rows.len(), pool.as_mut_ptr(), pool.len(),
+                amounts.as_mut_ptr(), amounts.len(),
+            )
+        };
+        answer(number, amounts)
+    }
+
+    /// How many bytes of the room were used.
+    pub fn write_into(&self, value: &Value, text: &mut [u8]) -> Result<usize, Refusal> {
+        let mut amounts = [0; 2];
+        // SAFETY: as in `check`; `text` is borrowed by this call alone.
+        let number = unsafe {
+            attrywind_write(
+                self.types.as_ptr(), self.types.len(), self.names.as_ptr(), self.names.len(),
+                value.rows.as_ptr(), value.rows.len(), value.pool.as_ptr(), value.pool.len(),
+                text.as_mut_ptr(), text.len(), amounts.as_mut_ptr(), amounts.len(),
+            )
+        };
+        answer(number, amounts).map(|(bytes, _)| bytes)
+    }
+
+    /// Asks how much room is needed, makes it, and reads.
+    pub fn read(&self, text: &[u8]) -> Result<Value, Refusal> {
+        let needed = match self.read_into(text, &mut [], &mut []) {
+            Err(refusal) if refusal.number == LENT_ROOM => refusal,
+            Err(refusal) => return Err(refusal),
+            Ok(_) => unreachable!("every value has a row"),
+        };
+        let mut rows = vec![0; needed.first as usize * VALUE_FIELDS];
+        let mut pool = vec![0; needed.second as usize];
+        self.read_into(text, &mut rows, &mut pool)?;
+        Ok(Value { rows, pool })
+    }
+
+    /// Asks how much room is needed, makes it, and writes.
+    pub fn write(&self, value: &Value) -> Result<Vec<u8>, Refusal> {
+        let needed = match self.write_into(value, &mut []) {
+            Err(refusal) if refusal.number == LENT_ROOM => refusal,
+            Err(refusal) => return Err(refusal),
+            Ok(_) => unreachable!("no text is empty"),
+        };
+        let mut text = vec![0; needed.first as usize];
+        self.write_into(value, &mut text)?;
+        Ok(text)
+    }
+}

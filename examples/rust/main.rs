@@ -1,0 +1,106 @@
+//! Reads a booking from four senders, prints its rows, writes it again, and shows refusals in words.
+//!
+//!     booking FOLDER      FOLDER is examples/booking
+
+mod attrywind;
+mod load;
+mod sentences;
+mod show;
+
+use attrywind::{kind, Refusal, Table, Value, TYPE_FIELDS, VALUE_FIELDS};
+use load::Fault;
+use std::path::Path;
+
+const SENDERS: [&str; 4] = ["texts/agency.json", "texts/portal.json", "texts/broker.json", "texts/summer.json"];
+
+const REFUSED: [&str; 9] = [
+    "refused/03-comma-lost.json",
+    "refused/04-too-many-brackets.json",
+    "refused/05-age-as-string.json",
+    "refused/06-half-a-berth.json",
+    "refused/07-unpadded-token.json",
+    "refused/08-cabin-colour.json",
+    "refused/09-fare-twice.json",
+    "refused/10-no-passengers.json",
+    "refused/11-voucher-of-summer.json",
+];
+
+fn report<T>(what: &str, answer: Result<T, Refusal>, text: &[u8]) {
+    match answer {
+        Ok(_) => println!("{what}: no refusal"),
+        Err(refusal) => {
+            println!("{what}: refusal {}", refusal.number);
+            sentences::say(refusal, text);
+        }
+    }
+}
+
+/// What must succeed; its refusal ends the program.
+fn need<T>(what: &str, answer: Result<T, Refusal>) -> Result<T, Fault> {
+    answer.map_err(|r| format!("{what}: refusal {} ({}, {})", r.number, r.first, r.second).into())
+}
+
+fn read_house(folder: &Path, spring: &Table) -> Result<Value, Fault> {
+    let text = load::file(folder, "texts/house.json")?;
+    let value = need("texts/house.json", spring.read(&text))?;
+    let rows = value.rows.len() / VALUE_FIELDS;
+    println!("texts/house.json: {} bytes, read as {rows} rows and {} pool bytes\n", text.len(), value.pool.len());
+    show::show_rows(spring, &value);
+    Ok(value)
+}
+
+fn read_senders(folder: &Path, spring: &Table, house: &Value) -> Result<(), Fault> {
+    println!("\nother senders, and the summer version's text by the spring table");
+    for name in SENDERS {
+        let text = load::file(folder, name)?;
+        let same = need(name, spring.read(&text))? == *house;
+        let words = if same { "the same rows and pool" } else { "OTHER ROWS OR POOL" };
+        println!("{name}: {} bytes, {words}", text.len());
+    }
+    Ok(())
+}
+
+fn write_house(spring: &Table, house: &Value) -> Result<(), Fault> {
+    let text = need("writing", spring.write(house))?;
+    println!("\nwritten again: {} bytes\n{}", text.len(), String::from_utf8(text)?);
+    Ok(())
+}
+
+fn refuse_texts(folder: &Path, spring: &Table) -> Result<(), Fault> {
+    println!("\nrefusals, as a partner desk reads them");
+    for name in REFUSED {
+        let text = load::file(folder, name)?;
+        report(name, spring.read(&text), &text);
+    }
+    Ok(())
+}
+
+/// Refusals that come from our side of the call.
+fn refuse_calls(spring: &Table, house: &Value) {
+    println!("\nrefusals of our own calls");
+    let mut short = Table { types: spring.types.clone(), names: spring.names.clone() };
+    short.types.truncate(spring.types.len() - TYPE_FIELDS);
+    report("a type table without its last row", short.check(), b"");
+    report("a text of 65,537 bytes", spring.read(&[b' '; 65537]), b"");
+    let mut cut = house.clone();
+    cut.rows.truncate(house.rows.len() - VALUE_FIELDS);
+    report("a value table without its last row", spring.write(&cut), b"");
+    let string = Table { types: vec![kind::UTF8_STRING, 0, 0, 0, 0, 0, 0, 0], names: vec![] };
+    let controls = Value { rows: vec![kind::UTF8_STRING, 0, 11000, 1], pool: vec![1; 11000] };
+    report("a string of 11,000 control characters", string.write(&controls), b"");
+    report("room for 100 bytes of text", spring.write_into(house, &mut [0; 100]), b"");
+}
+
+fn main() -> Result<(), Fault> {
+    let folder = std::env::args_os().nth(1).ok_or("booking FOLDER")?;
+    let folder = Path::new(&folder);
+    let spring = load::table(folder, "spring.hex")?;
+    need("spring.hex", spring.check())?;
+    println!("spring.hex: a good type table of {} rows", spring.types.len() / TYPE_FIELDS);
+    let house = read_house(folder, &spring)?;
+    read_senders(folder, &spring, &house)?;
+    write_house(&spring, &house)?;
+    refuse_texts(folder, &spring)?;
+    refuse_calls(&spring, &house);
+    Ok(())
+}

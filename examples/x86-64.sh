@@ -1,0 +1,35 @@
+# Sourced by examples/run.sh and bench/run.sh in the repository's root: how x86-64 programs are built and run here.
+# The archive of `rt staticlib` links only into x86-64 programs; on Arm they are cross-built with Debian's packages,
+# linked statically, and run through its emulator.
+# Sets CC, CXX, RUSTFLAGS, LINK, RUN and LIB. LIB=FOLDER in the environment names a folder with a libcapi.a made before.
+
+machine=${MACHINE:-$(uname -m)}
+case $machine in
+x86_64)
+    CC=gcc CXX=g++ LINK= RUN= RUSTFLAGS= ;;
+aarch64)
+    CC=x86_64-linux-gnu-gcc CXX=x86_64-linux-gnu-g++ LINK=-static RUN=qemu-x86_64
+    RUSTFLAGS="--target x86_64-unknown-linux-gnu -C linker=$CC -C target-feature=+crt-static" ;;
+*)
+    echo "no way is known to build x86-64 programs on $machine" >&2
+    exit 2 ;;
+esac
+
+# need COMMAND PACKAGES: stops where the command is not there
+need() {
+    command -v "$1" >/dev/null && return
+    echo "$1 is missing; Debian: apt-get install $2" >&2
+    exit 2
+}
+
+case $machine in
+x86_64) need gcc "gcc libc6-dev" ;;
+aarch64)
+    need "$CC" "gcc-x86-64-linux-gnu libc6-dev-amd64-cross"
+    need "$RUN" qemu-user ;;
+esac
+
+if [ -z "${LIB:-}" ]; then
+    rt staticlib capi
+    LIB=target/staticlib
+fi
