@@ -9,8 +9,8 @@
 
 using Contenders = std::vector<std::unique_ptr<Contender>>;
 
-static const char *const cases[] = {"booking", "options", "manifest", "list"};
-static const char *const growth[] = {"list-300", "list-1200", "list-4800", "list-19200", "list-60000"};
+static const char *const cases[] = {"booking", "options", "manifest", "list-60000"};
+static const char *const list_sizes[] = {"list-300", "list-1200", "list-4800", "list-19200", "list-60000"};
 
 static Contenders all()
 {
@@ -92,7 +92,7 @@ template <size_t N> static std::vector<Case> load_all(const char *folder, const 
 static void run(const char *folder, double seconds)
 {
     Contenders by = all();
-    std::vector<Case> main_cases = load_all(folder, cases), lists = load_all(folder, growth);
+    std::vector<Case> main_cases = load_all(folder, cases), lists = load_all(folder, list_sizes);
     for (const auto &each : by)
         std::printf("%s: %s\n", each->name().c_str(), each->version().c_str());
     for (Way way : {Way::Read, Way::Write})

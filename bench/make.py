@@ -18,7 +18,7 @@ from notation import hexadecimal, table  # noqa: E402
 
 ROOM_ROWS, ROOM_POOL, ROOM_TEXT = 130 * 65536 * 4, 65536, 65536
 
-GROWTH = (300, 1200, 4800, 19200, 60000)
+LISTS = (300, 1200, 4800, 19200, 60000)
 
 LIST = """
 List ::= SEQUENCE OF Passenger
@@ -76,9 +76,8 @@ def cases():
     yield 'booking', spring, (BOOKING / 'texts/house.json').read_bytes().rstrip()
     yield 'options', spring, (HERE / 'options.json').read_bytes().rstrip()
     yield 'manifest', MANIFEST, joined(holds(Draw(1, 'manifest')), 20000)
-    yield 'list', LIST, joined(passengers(Draw(1, 'list')), 60000)
-    for size in GROWTH:
-        yield 'list-%d' % size, LIST, joined(passengers(Draw(1, 'growth')), size)
+    for size in LISTS:
+        yield 'list-%d' % size, LIST, joined(passengers(Draw(1, 'list')), size)
 
 
 def main():

@@ -38,7 +38,7 @@ public:
     std::string name() const override { return "ours"; }
     std::string version() const override { return "libcapi.a"; }
 
-    // Exactly the room needed, and one byte where none is, so that no pointer is null.
+    // Lends exactly the room needed, and a byte more for the pool, which may be empty: no pointer is null.
     void take(const Case &with) override
     {
         c = &with;
@@ -46,10 +46,8 @@ public:
         pool.assign(c->pool.size() + 1, 0);
         text.assign(c->written.size(), 0);
         uint32_t number = call_read();
-        need(number, rows == c->rows && amounts[0] * 4 == rows.size() && amounts[1] == c->pool.size() &&
-                         std::equal(c->pool.begin(), c->pool.end(), bytes(c->pool), [](char a, uint8_t b) {
-                             return static_cast<uint8_t>(a) == b;
-                         }) && std::equal(pool.begin(), pool.end() - 1, bytes(c->pool)));
+        need(number, rows == c->rows && amounts[0] * ATTRYWIND_VALUE_FIELDS == rows.size() &&
+                         amounts[1] == c->pool.size() && std::equal(pool.begin(), pool.end() - 1, bytes(c->pool)));
         number = call_write();
         need(number, amounts[0] == text.size() && std::equal(text.begin(), text.end(), bytes(c->written)));
     }

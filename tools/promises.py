@@ -9,7 +9,7 @@ ROOT = pathlib.Path(__file__).resolve().parent.parent
 
 def main():
     page = (ROOT / "docs/PROMISES.md").read_text()
-    named = re.findall(r"`([^`\s]+)` \(`(crates/[^`]+)`\)", page)
+    named = re.findall(r"`([^`\s]+)`\s+\(`(crates/[^`]+)`\)", page)
     wrong = []
     for name, path in named:
         file = ROOT / path

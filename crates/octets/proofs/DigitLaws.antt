@@ -1,23 +1,20 @@
 -- Characters and digits of a string.
-use mathlib.Core.Path.{_≡_, refl, sym, ap, _∙_}
+use mathlib.Core.Path.{_≡_, refl, ap, _∙_}
 use mathlib.Core.List.{List, [], _∷_, _++_}
 use mathlib.Core.Bool.{Bool, true, false}
 use mathlib.Core.Option.{Option, none, some}
-use Prim.Native.Nat.{ℕ, zero, suc, _+_, _-_, _*_, _/_, _%_, _<_, _≤_}
+use Prim.Native.Nat.{ℕ, _+_, _-_, _<_, _≤_}
 use native.Mathlib.Omega.{arith}
-use borrow.Author.Tests.{lt-ltb, le-ltb, ltb-true, ltb-false}
+use borrow.Author.Tests.{lt-ltb, le-ltb, ltb-false}
 use lib.Dec.{ltb}
-use lib.ListN.{length}
 use Rattle.json.specs.Bytes.{In, pick}
 use Rattle.json.specs.Utf8.{encode}
 use Rattle.json.proofs.Feed.{pick-none, pick-row}
 use Rattle.json.proofs.SoundRows.{pick-within, only, _⨾_}
 use Rattle.jer.specs.Octets.{onlyIf, hexValue, base64Value}
-use Rattle.tokens.specs.Strings.{Piece, close, bare, escaped, pieceAt, denoted}
-use Rattle.tokens.proofs.StringLaws.{piece-past, bare-inside, escaped-inside, denoted-close, denoted-bare, denoted-escaped}
-use Rattle.octets.specs.declared.decode.Next.{Next}
-use Rattle.octets.specs.declared.decode.Next.the-variants.{End, Is, Other}
-use Rattle.octets.specs.Decode.{asciiValue, Digit, NoDigit, Reads}
+use Rattle.tokens.specs.Strings.{bare, escaped, pieceAt, denoted}
+use Rattle.tokens.proofs.StringLaws.{bare-inside, escaped-inside, denoted-bare, denoted-escaped}
+use Rattle.octets.specs.Decode.{asciiValue, Digit, NoDigit}
 
 -- ---- a character of a string, by its piece
 
@@ -43,14 +40,14 @@ wide : (x : ℕ) → 0x80 ≤ x → asciiValue x ≡ none
 unfolding asciiValue onlyIf
 wide x h = rw (le-ltb x 0x80 h)
 
-module _ (s : List ℕ) (i : ℕ) where
-  pub char-bare : (b : ℕ) → bare b ≡ pieceAt s i → b < 0x80 → Digit asciiValue s i b (i + 1)
-  char-bare b e h = record { char = b; here = denoted-bare s i b e; is = ascii b h; inside = bare-inside s i e; ahead = omega arith }
+module _ {s : List ℕ} {i : ℕ} where
+  pub char-bare : {b : ℕ} → bare b ≡ pieceAt s i → b < 0x80 → Digit asciiValue s i b (i + 1)
+  char-bare {b} e h = record { char = b; here = denoted-bare s i b e; is = ascii b h; inside = bare-inside s i e; ahead = omega arith }
 
-  pub char-wide : (b : ℕ) → bare b ≡ pieceAt s i → 0x80 ≤ b → NoDigit asciiValue s i
-  char-wide b e h = record { char = b; rest = denoted s (i + 1); here = denoted-bare s i b e; is = wide b h }
+  pub char-wide : {b : ℕ} → bare b ≡ pieceAt s i → 0x80 ≤ b → NoDigit asciiValue s i
+  char-wide {b} e h = record { char = b; rest = denoted s (i + 1); here = denoted-bare s i b e; is = wide b h }
 
-  module _ (x q : ℕ) (e : escaped x q ≡ pieceAt s i) where
+  module _ {x q : ℕ} (e : escaped x q ≡ pieceAt s i) where
     pub escape-ascii : x < 0x80 → Digit asciiValue s i x q
     escape-ascii h =
         let w = escaped-inside s i e in
@@ -79,20 +76,22 @@ ascii-wide c e = go (ltb c 0x80) refl
     go true w = let f : some c ≡ none = (rw w at e) in absurd (let z : _≡_ {A = ℕ} 0 1 = cc in omega arith)
     go false w = ltb-false c 0x80 w
 
-module _ (value : ℕ → Option ℕ) (s : List ℕ) (i : ℕ) where
-  pub digit-some : {b q : ℕ} → Digit asciiValue s i b q → (x : ℕ) → value b ≡ some x → Digit value s i x q
-  digit-some {b} {q} d x e =
-      record { char = b; here = d .here ∙ ap (λ (c : ℕ). c ∷ denoted s q) (ascii-own (d .char) b (d .is)); is = e; inside = d .inside; ahead = d .ahead }
+module _ {s : List ℕ} {i b q : ℕ} (d : Digit asciiValue s i b q) where
+  own : denoted s i ≡ b ∷ denoted s q
+  own = d .here ∙ ap (λ (c : ℕ). c ∷ denoted s q) (ascii-own (d .char) b (d .is))
 
-  pub digit-none : {b q : ℕ} → Digit asciiValue s i b q → value b ≡ none → NoDigit value s i
-  digit-none {b} {q} d e = record { char = b; rest = denoted s q; here = d .here ∙ ap (λ (c : ℕ). c ∷ denoted s q) (ascii-own (d .char) b (d .is)); is = e }
+  pub digit-some : {value : ℕ → Option ℕ} {x : ℕ} → value b ≡ some x → Digit value s i x q
+  digit-some e = record { char = b; here = own; is = e; inside = d .inside; ahead = d .ahead }
 
-  pub digit-wide : ((c : ℕ) → 0x80 ≤ c → value c ≡ none) → NoDigit asciiValue s i → NoDigit value s i
-  digit-wide h d = record { char = d .char; rest = d .rest; here = d .here; is = h (d .char) (ascii-wide (d .char) (d .is)) }
+  pub digit-none : {value : ℕ → Option ℕ} → value b ≡ none → NoDigit value s i
+  digit-none e = record { char = b; rest = denoted s q; here = own; is = e }
+
+pub digit-wide : {value : ℕ → Option ℕ} {s : List ℕ} {i : ℕ} → ((c : ℕ) → 0x80 ≤ c → value c ≡ none) → NoDigit asciiValue s i → NoDigit value s i
+digit-wide h d = record { char = d .char; rest = d .rest; here = d .here; is = h (d .char) (ascii-wide (d .char) (d .is)) }
 
 -- ---- the values of digits, by the ends of their ranges
 
-module _ (b : ℕ) where
+module _ {b : ℕ} where
   pub hex-decimal : In 0x30 0x39 b → hexValue b ≡ some (b - 0x30)
   unfolding hexValue
   hex-decimal h = pick-row 0 b _ none h
@@ -153,21 +152,21 @@ below-some y h x e = let w : y ≡ x = cc in omega arith
 below-none : (n : ℕ) → Below n none
 below-none n x e = absurd (let z : _≡_ {A = ℕ} 0 1 = cc in omega arith)
 
-pub hex-below : (c : ℕ) → Below 16 (hexValue c)
+pub hex-below : {s : List ℕ} {i x q : ℕ} → Digit hexValue s i x q → x < 16
 unfolding hexValue
-hex-below c =
-    pick-within (Below 16) c _ none
-    ((λ i. below-some (c - 0x30) (omega arith)) ⨾ (λ i. below-some (c - 0x37) (omega arith)) ⨾ (λ i. below-some (c - 0x57) (omega arith)) ⨾ tt)
-    (below-none 16)
+hex-below {x = x} d =
+    pick-within (Below 16) (d .char) _ none
+    ((λ i. below-some (d .char - 0x30) (omega arith)) ⨾ (λ i. below-some (d .char - 0x37) (omega arith)) ⨾ (λ i. below-some (d .char - 0x57) (omega arith)) ⨾ tt)
+    (below-none 16) x (d .is)
 
-pub base64-below : (c : ℕ) → Below 64 (base64Value c)
+pub base64-below : {s : List ℕ} {i x q : ℕ} → Digit base64Value s i x q → x < 64
 unfolding base64Value
-base64-below c =
-    pick-within (Below 64) c _ none
-    ((λ i. below-some (c - 0x41) (omega arith))
-    ⨾ (λ i. below-some (c - 0x47) (omega arith))
-    ⨾ (λ i. below-some (c + 0x04) (omega arith))
+base64-below {x = x} d =
+    pick-within (Below 64) (d .char) _ none
+    ((λ i. below-some (d .char - 0x41) (omega arith))
+    ⨾ (λ i. below-some (d .char - 0x47) (omega arith))
+    ⨾ (λ i. below-some (d .char + 0x04) (omega arith))
     ⨾ (λ i. below-some 62 (omega arith))
     ⨾ (λ i. below-some 63 (omega arith))
     ⨾ tt)
-    (below-none 64)
+    (below-none 64) x (d .is)

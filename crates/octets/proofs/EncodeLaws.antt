@@ -1,13 +1,14 @@
 -- Octets in hexadecimal and in Base64.
 use mathlib.Core.Path.{_≡_, refl, sym, ap, _∙_}
 use mathlib.Core.List.{List, [], _∷_, _++_}
-use Prim.Native.Nat.{ℕ, zero, suc, _+_, _-_, _*_, _/_, _%_, _<_, _≤_}
+use Prim.Native.Nat.{ℕ, suc, _+_, _-_, _*_, _/_, _%_, _<_, _≤_}
 use native.Mathlib.Numerals.{add-one}
 use native.Mathlib.Omega.{arith}
 use borrow.Author.Tests.{lt-ltb, le-ltb}
-use lib.ListN.{length, getD, drop, drop-of-length-le}
+use native.Mathlib.Nat.{add-zero}
+use lib.ListN.{length, getD, drop, set, drop-of-length-le}
 use lib.Seq.{drop-cons, sets}
-use Rattle.json.specs.Bytes.{In, pick}
+use Rattle.json.specs.Bytes.{pick}
 use Rattle.json.proofs.Feed.{pick-row}
 use Rattle.json.proofs.SoundRows.{_⨾_}
 use Rattle.jer.specs.Octets.{hexDigit, hex, base64Digit, base64}
@@ -24,9 +25,9 @@ module _ (x : ℕ) where
   unfolding hexDigit
   hex-letter h = rw (le-ltb x 10 h, hexDigit)
 
-pub hex-one : (b x y : ℕ) → x ≡ hexDigit (b / 16) → y ≡ hexDigit (b % 16) → x ∷ y ∷ [] ≡ hex (b ∷ [])
+pub hex-one : (b : ℕ) {x y : ℕ} → x ≡ hexDigit (b / 16) → y ≡ hexDigit (b % 16) → x ∷ y ∷ [] ≡ hex (b ∷ [])
 unfolding hex
-hex-one b x y e f = rw (e, f)
+hex-one b e f = rw (e, f)
 
 pub hex-length : (os : List ℕ) → length (hex os) ≡ 2 * length os
 unfolding hex
@@ -75,19 +76,20 @@ base64-length (a ∷ []) = refl
 base64-length (a ∷ b ∷ []) = refl
 base64-length (a ∷ b ∷ c ∷ os) = omega (arith, base64-length os)
 
-module _ (a x y : ℕ) (ex : x ≡ base64Digit (a / 4)) where
-  pub group-one : y ≡ base64Digit (a % 4 * 16) → x ∷ y ∷ 0x3D ∷ 0x3D ∷ [] ≡ base64 (a ∷ [])
+module _ (a b c : ℕ) where
+  pub base64-group : {x y z w : ℕ} → x ≡ base64Digit (a / 4) → y ≡ base64Digit (a % 4 * 16 + b / 16) → z ≡ base64Digit (b % 16 * 4 + c / 64) → w ≡ base64Digit (c % 64)
+      → x ∷ y ∷ z ∷ w ∷ [] ≡ base64 (a ∷ b ∷ c ∷ [])
   unfolding base64
-  group-one ey = rw (ex, ey)
+  base64-group ex ey ez ew = rw (ex, ey, ez, ew)
 
-  module _ (b z : ℕ) (ey : y ≡ base64Digit (a % 4 * 16 + b / 16)) where
-    pub group-two : z ≡ base64Digit (b % 16 * 4) → x ∷ y ∷ z ∷ 0x3D ∷ [] ≡ base64 (a ∷ b ∷ [])
-    unfolding base64
-    group-two ez = rw (ex, ey, ez)
+-- the pads of a group that lacks octets
+pub one-pad : (a b : ℕ) {four : List ℕ} → four ≡ base64 (a ∷ b ∷ 0 ∷ []) → set four 3 0x3D ≡ base64 (a ∷ b ∷ [])
+unfolding base64
+one-pad a b e = rw (e, add-zero)
 
-    pub group-three : (c w : ℕ) → z ≡ base64Digit (b % 16 * 4 + c / 64) → w ≡ base64Digit (c % 64) → x ∷ y ∷ z ∷ w ∷ [] ≡ base64 (a ∷ b ∷ c ∷ [])
-    unfolding base64
-    group-three c w ez ew = rw (ex, ey, ez, ew)
+pub two-pads : (a : ℕ) {four : List ℕ} → four ≡ base64 (a ∷ 0 ∷ 0 ∷ []) → set (set four 2 0x3D) 3 0x3D ≡ base64 (a ∷ [])
+unfolding base64
+two-pads a e = rw (e, add-zero)
 
 module _ (os : List ℕ) (i : ℕ) where
   more : i < length os → drop i os ≡ getD os i 0 ∷ drop (suc i) os

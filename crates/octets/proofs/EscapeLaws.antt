@@ -2,17 +2,17 @@
 use mathlib.Core.Path.{_≡_, refl, sym, ap, _∙_}
 use mathlib.Core.List.{List, [], _∷_, _++_}
 use mathlib.Core.Bool.{Bool, true, false, _&&_}
-use Prim.Native.Nat.{ℕ, zero, suc, _+_, _-_, _*_, _/_, _%_, _<_, _≤_}
+use Prim.Native.Nat.{ℕ, zero, suc, _+_, _/_, _%_, _<_, _≤_}
 use native.Mathlib.Numerals.{add-one}
 use native.Mathlib.Omega.{arith}
 use borrow.Author.Tests.{lt-ltb, le-ltb, eq-eqb, ne-eqb, eqb-true, eqb-false}
 use lib.Dec.{eqb, ltb}
 use lib.ListN.{length, getD, drop, drop-of-length-le, length-append}
 use lib.Seq.{drop-cons, sets}
-use Rattle.json.specs.Bytes.{In, pick}
+use Rattle.json.specs.Bytes.{pick}
 use Rattle.json.proofs.Feed.{pick-none}
 use Rattle.json.proofs.SoundRows.{only, _⨾_}
-use Rattle.jer.specs.Octets.{hexDigit, hex}
+use Rattle.jer.specs.Octets.{hexDigit}
 use Rattle.jer.specs.Table.{sameBytes}
 use Rattle.jer.specs.Write.{escaped, escapes}
 use Rattle.jer.specs.Calls.{amount}
@@ -50,15 +50,15 @@ below f (suc n) t k h = go (f n) refl t (below f n) (eqb k n) refl
 escapedBy : ℕ → ℕ → List ℕ
 escapedBy x b =
     elim (eqb x 0) [
-      | true ↦ elim (ltb b 0x20) [ true ↦ 0x5C ∷ 0x75 ∷ 0x30 ∷ 0x30 ∷ hex (b ∷ []) | false ↦ b ∷ [] ]
+      | true ↦ elim (ltb b 0x20) [ true ↦ 0x5C ∷ 0x75 ∷ 0x30 ∷ 0x30 ∷ hexDigit (b / 16) ∷ hexDigit (b % 16) ∷ [] | false ↦ b ∷ [] ]
       | false ↦ 0x5C ∷ x ∷ []
     ]
 
 by-letter : (b : ℕ) → b < 256 → escaped b ≡ escapedBy (letterFor b) b
-unfolding escaped escapedBy letterFor pick sameBytes hex hexDigit
+unfolding escaped escapedBy letterFor pick sameBytes hexDigit
 by-letter b h = sameBytes-eq (escaped b) (escapedBy (letterFor b) b) (below (λ k. sameBytes (escaped k) (escapedBy (letterFor k) k)) 256 refl b h)
 
-module _ (b : ℕ) (f : b < 256) (x : ℕ) (e : x ≡ letterFor b) where
+module _ {b : ℕ} (f : b < 256) {x : ℕ} (e : x ≡ letterFor b) where
   by-this : escaped b ≡ escapedBy x b
   by-this = by-letter b f ∙ ap (λ (y : ℕ). escapedBy y b) (sym e)
 
@@ -71,13 +71,13 @@ module _ (b : ℕ) (f : b < 256) (x : ℕ) (e : x ≡ letterFor b) where
     unfolding escapedBy
     escaped-plain h = by-this ∙ rw (eq-eqb x 0 z, escapedBy) (rw (le-ltb b 0x20 h))
 
-    pub escaped-control : b < 0x20 → escaped b ≡ (0x5C ∷ 0x75 ∷ 0x30 ∷ 0x30 ∷ []) ++ hex (b ∷ [])
+    pub escaped-control : b < 0x20 → escaped b ≡ 0x5C ∷ 0x75 ∷ 0x30 ∷ 0x30 ∷ hexDigit (b / 16) ∷ hexDigit (b % 16) ∷ []
     unfolding escapedBy
     escaped-control h = by-this ∙ rw (eq-eqb x 0 z, escapedBy) (rw (lt-ltb b 0x20 h))
 
-pub control-length : (b : ℕ) → length ((0x5C ∷ 0x75 ∷ 0x30 ∷ 0x30 ∷ []) ++ hex (b ∷ [])) ≡ 6
-unfolding hex
-control-length b = refl
+pub control-digits : (b : ℕ) {x y : ℕ} → x ≡ hexDigit (b / 16) → y ≡ hexDigit (b % 16)
+    → 0x5C ∷ 0x75 ∷ 0x30 ∷ 0x30 ∷ x ∷ y ∷ [] ≡ 0x5C ∷ 0x75 ∷ 0x30 ∷ 0x30 ∷ hexDigit (b / 16) ∷ hexDigit (b % 16) ∷ []
+control-digits b e f = rw (e, f)
 
 -- ---- byte by byte
 

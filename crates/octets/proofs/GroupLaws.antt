@@ -3,15 +3,14 @@ use mathlib.Core.Path.{_≡_, refl, sym, ap, _∙_}
 use mathlib.Core.List.{List, [], _∷_, _++_, append-nil, append-assoc}
 use mathlib.Core.Bool.{Bool, true, false}
 use mathlib.Core.Option.{Option, none, some}
-use mathlib.Core.Logic.{_⊎_, ⊎-elim}
-use Prim.Native.Nat.{ℕ, zero, suc, _+_, _-_, _*_, _/_, _%_, _<_, _≤_}
-use native.Mathlib.Numerals.{add-one}
+use mathlib.Core.Logic.{⊎-elim}
+use Prim.Native.Nat.{ℕ, _+_, _*_, _/_, _%_, _<_, _≤_}
 use native.Mathlib.Omega.{arith}
-use borrow.Author.Tests.{eq-eqb, ne-eqb, eqb-true, eqb-false, ltb-true, ltb-false}
+use borrow.Author.Tests.{eq-eqb, ne-eqb, eqb-true, ltb-true, ltb-false}
 use types.Run.{OneOf}
 use denote.Enum.Declared.{tagOf}
 use lib.Dec.{eqb, ltb}
-use lib.ListN.{length, take, set, length-append}
+use lib.ListN.{length, take, length-append}
 use lib.Seq.{sets, length-take-le}
 use Rattle.json.specs.Bytes.{pick}
 use Rattle.jer.specs.Octets.{also, onlyIf, hexValue, unhex, base64Value, lastGroup, fullGroup, unbase64}
@@ -20,13 +19,12 @@ use Rattle.jer.proofs.ValidLaws.{sameBytes-eq}
 use Rattle.tokens.specs.Strings.{denoted}
 use Rattle.tokens.proofs.SliceLaws.{sets-append}
 use Rattle.tokens.proofs.StringLaws.{piece-past, denoted-close}
-use Rattle.octets.specs.declared.decode.Found.{Found}
 use Rattle.octets.specs.declared.decode.Found.the-variants as found
 use Rattle.octets.specs.declared.decode.Next.{Next}
 use Rattle.octets.specs.declared.decode.Next.the-variants.{End, Is, Other}
 use Rattle.octets.specs.declared.decode.Group.{Group}
 use Rattle.octets.specs.declared.decode.Group.the-variants as group
-use Rattle.octets.specs.Decode.{foundOf, Stored, Digit, NoDigit, Reads, before, Grouped, First, Tail}
+use Rattle.octets.specs.Decode.{foundOf, Stored, Digit, NoDigit, Reads, followed, Grouped, First, Tail}
 use Rattle.octets.proofs.decode.Next as next
 
 -- ---- no digit comes first
@@ -34,44 +32,47 @@ use Rattle.octets.proofs.decode.Next as next
 abbrev NoFirst : (ℕ → Option ℕ) → List ℕ → Type 0
 NoFirst value cs = (c : ℕ) (l : List ℕ) → cs ≡ c ∷ l → value c ≡ none
 
--- the string's end or another character
-pub no-first : (value : ℕ → Option ℕ) (s : List ℕ) (i : ℕ) (r : Next) → OneOf (0 ∷ 2 ∷ []) (tagOf next.the-type r) → Reads value s i r → NoFirst value (denoted s i)
-no-first value s i End k h c l e = absurd (let z : _≡_ {A = ℕ} 0 1 = cc in omega arith)
-no-first value s i (Is x q) k h c l e = absurd (⊎-elim (λ w. omega arith) (λ w. omega arith) k)
-no-first value s i Other k h c l e = let w : h .char ≡ c = cc (h .here) in ap value (sym w) ∙ h .is
+pub record Without (value : ℕ → Option ℕ) (s : List ℕ) (i : ℕ) : Type 0 where
+  pub first : NoFirst value (denoted s i)
+
+-- the string's end or another character: `let Next::Is(..) = .. else` has the variants 0 and 2 left
+pub without : {value : ℕ → Option ℕ} {s : List ℕ} {i : ℕ} (r : Next) → OneOf (0 ∷ 2 ∷ []) (tagOf next.the-type r) → Reads value s i r → Without value s i
+without End k h = record { first = λ c l e. absurd (let z : _≡_ {A = ℕ} 0 1 = cc in omega arith) }
+without (Is x q) k h = absurd (⊎-elim (λ w. omega arith) (λ w. omega arith) k)
+without {value} Other k h = record { first = λ c l e. let w : h .char ≡ c = cc (h .here) in ap value (sym w) ∙ h .is }
 
 -- ---- hexadecimal
 
-pub hex-end : (cs : List ℕ) → cs ≡ [] → unhex cs ≡ some []
+pub hex-end : {cs : List ℕ} → cs ≡ [] → unhex cs ≡ some []
 unfolding unhex
-hex-end cs e = rw e
+hex-end e = rw e
 
-pub hex-none : (s : List ℕ) (i : ℕ) → NoDigit hexValue s i → unhex (denoted s i) ≡ none
+pub hex-none : {s : List ℕ} {i : ℕ} → NoDigit hexValue s i → unhex (denoted s i) ≡ none
 unfolding unhex also
-hex-none s i d = ap unhex (d .here) ∙ go (d .rest)
+hex-none d = ap unhex (d .here) ∙ go (d .rest)
   where
     go : (l : List ℕ) → unhex (d .char ∷ l) ≡ none
     go [] = refl
     go (b ∷ l) = rw (d .is)
 
-module _ (s : List ℕ) (i x p : ℕ) (d : Digit hexValue s i x p) where
-  pub hex-half : NoFirst hexValue (denoted s p) → unhex (denoted s i) ≡ none
+module _ {s : List ℕ} {i x p : ℕ} (d : Digit hexValue s i x p) where
+  pub hex-half : Without hexValue s p → unhex (denoted s i) ≡ none
   unfolding unhex also
-  hex-half h = ap unhex (d .here) ∙ go (denoted s p) h
+  hex-half f = ap unhex (d .here) ∙ go (denoted s p) (f .first)
     where
       go : (l : List ℕ) → NoFirst hexValue l → unhex (d .char ∷ l) ≡ none
       go [] f = refl
       go (b ∷ l) f = rw (d .is, f b l refl)
 
-  pub hex-octet : (y q : ℕ) → Digit hexValue s p y q → Grouped unhex s (unhex (denoted s i)) i (x * 16 + y) 0 0 1 q
-  unfolding unhex also before
-  hex-octet y q e = record { here = ap unhex (d .here ∙ ap (λ (l : List ℕ). d .char ∷ l) (e .here)) ∙ rw (d .is, e .is); few = omega arith; inside = d .inside; ahead = let h = e .ahead in let k = d .ahead in omega arith }
+  pub hex-octet : {y q : ℕ} → Digit hexValue s p y q → Grouped unhex s (unhex (denoted s i)) i (x * 16 + y) 0 0 1 q
+  unfolding unhex also followed
+  hex-octet e = record { here = ap unhex (d .here ∙ ap (λ (l : List ℕ). d .char ∷ l) (e .here)) ∙ rw (d .is, e .is); few = omega arith; inside = d .inside; ahead = let h = e .ahead in let k = d .ahead in omega arith }
 
 -- ---- Base64
 
-pub base64-end : (cs : List ℕ) → cs ≡ [] → unbase64 cs ≡ some []
+pub base64-end : {cs : List ℕ} → cs ≡ [] → unbase64 cs ≡ some []
 unfolding unbase64
-base64-end cs e = rw e
+base64-end e = rw e
 
 base64-no : (a : ℕ) (l : List ℕ) → base64Value a ≡ none → unbase64 (a ∷ l) ≡ none
 unfolding unbase64 lastGroup fullGroup also
@@ -81,8 +82,8 @@ base64-no a (b ∷ c ∷ []) e = refl
 base64-no a (b ∷ c ∷ d ∷ []) e = rw e
 base64-no a (b ∷ c ∷ d ∷ f ∷ l) e = rw e
 
-pub base64-none : (s : List ℕ) (i : ℕ) → NoDigit base64Value s i → unbase64 (denoted s i) ≡ none
-base64-none s i d = ap unbase64 (d .here) ∙ base64-no (d .char) (d .rest) (d .is)
+pub base64-none : {s : List ℕ} {i : ℕ} → NoDigit base64Value s i → unbase64 (denoted s i) ≡ none
+base64-none d = ap unbase64 (d .here) ∙ base64-no (d .char) (d .rest) (d .is)
 
 -- the first digit is that of x
 module _ (a x : ℕ) (ea : base64Value a ≡ some x) where
@@ -133,8 +134,8 @@ module _ (a x : ℕ) (ea : base64Value a ≡ some x) where
       pad l e h = rw (e, ea, eb) (rw unpadded (rw (ec, h)))
 
       full : (d w : ℕ) → base64Value d ≡ some w → (l : List ℕ)
-          → unbase64 (a ∷ b ∷ c ∷ d ∷ l) ≡ before ((x * 4 + y / 16) ∷ (y % 16 * 16 + z / 4) ∷ (z % 4 * 64 + w) ∷ []) (unbase64 l)
-      unfolding unbase64 lastGroup fullGroup also before base64Value pick
+          → unbase64 (a ∷ b ∷ c ∷ d ∷ l) ≡ followed ((x * 4 + y / 16) ∷ (y % 16 * 16 + z / 4) ∷ (z % 4 * 64 + w) ∷ []) (unbase64 l)
+      unfolding unbase64 lastGroup fullGroup also followed base64Value pick
       full d w ed [] = rw (ea, eb) (rw (ne-eqb d 0x3D (λ e. let v : none ≡ some w = (rw e at ed) in let n : _≡_ {A = ℕ} 0 1 = cc in omega arith)) (rw (ec, ed)))
       full d w ed (e ∷ l) = rw (ea, eb, ec, ed)
 
@@ -153,53 +154,49 @@ denoted-inside s i c l e = go (ltb i (length s)) refl
 unlike : (x l : List ℕ) → sameBytes x x ≡ true → sameBytes x l ≡ false → l ≡ x → ⊥
 unlike x l r h e = let w : sameBytes x x ≡ false = (rw e at h) in let z : _≡_ {A = ℕ} 0 1 = cc in omega arith
 
-module _ (s : List ℕ) (i x y : ℕ) where
-  -- no digit follows
-  module _ (f : NoFirst base64Value (denoted s i)) where
-    pub tail-bits : (y % 16 ≡ 0 → ⊥) → Tail s i x y group.Other
-    tail-bits h a b ea eb = no-third a x ea b y eb (denoted s i) f (λ e. ne-eqb (y % 16) 0 h)
+-- no digit follows
+module _ {s : List ℕ} {i x y : ℕ} (f : Without base64Value s i) where
+  pub tail-bits : (y % 16 ≡ 0 → ⊥) → Tail s i x y group.Other
+  tail-bits h a b ea eb = no-third a x ea b y eb (denoted s i) (f .first) (λ e. ne-eqb (y % 16) 0 h)
 
-    pub tail-other : sameBytes (0x3D ∷ 0x3D ∷ []) (denoted s i) ≡ false → Tail s i x y group.Other
-    unfolding sameBytes
-    tail-other h a b ea eb = no-third a x ea b y eb (denoted s i) f (λ e. absurd (unlike (0x3D ∷ 0x3D ∷ []) (denoted s i) refl h e))
+  pub tail-other : sameBytes (0x3D ∷ 0x3D ∷ []) (denoted s i) ≡ false → Tail s i x y group.Other
+  unfolding sameBytes
+  tail-other h a b ea eb = no-third a x ea b y eb (denoted s i) (f .first) (λ e. absurd (unlike (0x3D ∷ 0x3D ∷ []) (denoted s i) refl h e))
 
-  pub tail-one : y % 16 ≡ 0 → sameBytes (0x3D ∷ 0x3D ∷ []) (denoted s i) ≡ true → Tail s i x y (group.Octets (x * 4 + y / 16) 0 0 1 (length s))
-  unfolding before also
-  tail-one h e a b ea eb =
-      let w = sym (sameBytes-eq (0x3D ∷ 0x3D ∷ []) (denoted s i) e) in
-      let n = denoted-inside s i 0x3D (0x3D ∷ []) w in
-      record {
-        here = pads a x ea b y eb (denoted s i) w (eq-eqb (y % 16) 0 h) ∙ rw (denoted-past s, base64-end [] refl);
-        few = omega arith;
-        inside = n;
-        ahead = n;
-      }
+pub tail-one : (s : List ℕ) (i : ℕ) {x y : ℕ} → y % 16 ≡ 0 → sameBytes (0x3D ∷ 0x3D ∷ []) (denoted s i) ≡ true → Tail s i x y (group.Octets (x * 4 + y / 16) 0 0 1 (length s))
+unfolding followed also
+tail-one s i {x} {y} h e a b ea eb =
+    let w = sym (sameBytes-eq (0x3D ∷ 0x3D ∷ []) (denoted s i) e) in
+    let n = denoted-inside s i 0x3D (0x3D ∷ []) w in
+    record { here = pads a x ea b y eb (denoted s i) w (eq-eqb (y % 16) 0 h) ∙ rw (denoted-past s, base64-end {cs = []} refl); few = omega arith; inside = n; ahead = n }
 
-  -- the digit of z follows
-  module _ (z p : ℕ) (d : Digit base64Value s i z p) where
-    third : (a b : ℕ) → unbase64 (a ∷ b ∷ denoted s i) ≡ unbase64 (a ∷ b ∷ d .char ∷ denoted s p)
-    third a b = ap (λ (l : List ℕ). unbase64 (a ∷ b ∷ l)) (d .here)
+-- the digit of z follows
+module _ {s : List ℕ} {i z p : ℕ} (d : Digit base64Value s i z p) where
+  third : (a b : ℕ) → unbase64 (a ∷ b ∷ denoted s i) ≡ unbase64 (a ∷ b ∷ d .char ∷ denoted s p)
+  third a b = ap (λ (l : List ℕ). unbase64 (a ∷ b ∷ l)) (d .here)
 
-    module _ (f : NoFirst base64Value (denoted s p)) where
+  module _ {x y : ℕ} where
+    module _ (f : Without base64Value s p) where
       pub tail-bits-2 : (z % 4 ≡ 0 → ⊥) → Tail s i x y group.Other
-      tail-bits-2 h a b ea eb = third a b ∙ no-fourth a x ea b y eb (d .char) z (d .is) (denoted s p) f (λ e. ne-eqb (z % 4) 0 h)
+      tail-bits-2 h a b ea eb = third a b ∙ no-fourth a x ea b y eb (d .char) z (d .is) (denoted s p) (f .first) (λ e. ne-eqb (z % 4) 0 h)
 
       pub tail-other-2 : sameBytes (0x3D ∷ []) (denoted s p) ≡ false → Tail s i x y group.Other
       unfolding sameBytes
-      tail-other-2 h a b ea eb = third a b ∙ no-fourth a x ea b y eb (d .char) z (d .is) (denoted s p) f (λ e. absurd (unlike (0x3D ∷ []) (denoted s p) refl h e))
+      tail-other-2 h a b ea eb = third a b ∙ no-fourth a x ea b y eb (d .char) z (d .is) (denoted s p) (f .first) (λ e. absurd (unlike (0x3D ∷ []) (denoted s p) refl h e))
 
     pub tail-two : z % 4 ≡ 0 → sameBytes (0x3D ∷ []) (denoted s p) ≡ true → Tail s i x y (group.Octets (x * 4 + y / 16) (y % 16 * 16 + z / 4) 0 2 (length s))
-    unfolding before also
+    unfolding followed also
     tail-two h e a b ea eb =
         record {
-          here = third a b ∙ pad a x ea b y eb (d .char) z (d .is) (denoted s p) (sym (sameBytes-eq (0x3D ∷ []) (denoted s p) e)) (eq-eqb (z % 4) 0 h) ∙ rw (denoted-past s, base64-end [] refl);
+          here = third a b ∙ pad a x ea b y eb (d .char) z (d .is) (denoted s p) (sym (sameBytes-eq (0x3D ∷ []) (denoted s p) e)) (eq-eqb (z % 4) 0 h)
+              ∙ rw (denoted-past s, base64-end {cs = []} refl);
           few = omega arith;
           inside = d .inside;
           ahead = d .inside;
         }
 
-    pub tail-three : (w q : ℕ) → Digit base64Value s p w q → Tail s i x y (group.Octets (x * 4 + y / 16) (y % 16 * 16 + z / 4) (z % 4 * 64 + w) 3 q)
-    tail-three w q e a b ea eb =
+    pub tail-three : {w q : ℕ} → Digit base64Value s p w q → Tail s i x y (group.Octets (x * 4 + y / 16) (y % 16 * 16 + z / 4) (z % 4 * 64 + w) 3 q)
+    tail-three {w} {q} e a b ea eb =
         record {
           here = third a b ∙ ap (λ (l : List ℕ). unbase64 (a ∷ b ∷ d .char ∷ l)) (e .here) ∙ full a x ea b y eb (d .char) z (d .is) (e .char) w (e .is) (denoted s q);
           few = omega arith;
@@ -209,12 +206,12 @@ module _ (s : List ℕ) (i x y : ℕ) where
 
 -- ---- a group of four
 
-module _ (s : List ℕ) (i x p : ℕ) (d : Digit base64Value s i x p) where
-  pub base64-half : NoFirst base64Value (denoted s p) → unbase64 (denoted s i) ≡ none
-  base64-half f = ap unbase64 (d .here) ∙ no-second (d .char) x (d .is) (denoted s p) f
+module _ {s : List ℕ} {i x p : ℕ} (d : Digit base64Value s i x p) where
+  pub base64-half : Without base64Value s p → unbase64 (denoted s i) ≡ none
+  base64-half f = ap unbase64 (d .here) ∙ no-second (d .char) x (d .is) (denoted s p) (f .first)
 
-  pub base64-first : (y q : ℕ) → Digit base64Value s p y q → (r : Group) → Tail s q x y r → First unbase64 s (unbase64 (denoted s i)) i r
-  base64-first y q e r t = go r (t (d .char) (e .char) (d .is) (e .is))
+  pub base64-first : {y q : ℕ} → Digit base64Value s p y q → (r : Group) → Tail s q x y r → First unbase64 s (unbase64 (denoted s i)) i r
+  base64-first {y} {q} e r t = go r (t (d .char) (e .char) (d .is) (e .is))
     where
       two : unbase64 (denoted s i) ≡ unbase64 (d .char ∷ e .char ∷ denoted s q)
       two = ap unbase64 (d .here ∙ ap (λ (l : List ℕ). d .char ∷ l) (e .here))
@@ -227,60 +224,51 @@ module _ (s : List ℕ) (i x p : ℕ) (d : Digit base64Value s i x p) where
 
 -- ---- group by group
 
-before-nil : (o : Option (List ℕ)) → o ≡ before [] o
-unfolding before also
-before-nil none = refl
-before-nil (some os) = refl
+followed-nil : (o : Option (List ℕ)) → o ≡ followed [] o
+unfolding followed also
+followed-nil none = refl
+followed-nil (some os) = refl
 
-before-before : (xs ys : List ℕ) (o : Option (List ℕ)) → before xs (before ys o) ≡ before (xs ++ ys) o
-unfolding before also
-before-before xs ys none = refl
-before-before xs ys (some os) = rw append-assoc
+followed-again : (xs ys : List ℕ) (o : Option (List ℕ)) → followed xs (followed ys o) ≡ followed (xs ++ ys) o
+unfolding followed also
+followed-again xs ys none = refl
+followed-again xs ys (some os) = rw append-assoc
 
 -- up to i the string at p has n octets, which are stored from j on
-pub record Decoding (octets : List ℕ → Option (List ℕ)) (s : List ℕ) (p : ℕ) (old pool : List ℕ) (j i n : ℕ) : Type 0 where
+pub record Decoding (octets : List ℕ → Option (List ℕ)) (s : List ℕ) (p : ℕ) (before : List ℕ) (j : ℕ) (now : List ℕ) (i n : ℕ) : Type 0 where
   pub xs : List ℕ
-  pub inv : octets (denoted s p) ≡ before xs (octets (denoted s i))
+  pub inv : octets (denoted s p) ≡ followed xs (octets (denoted s i))
   pub count : length xs ≡ n
-  pub stored : pool ≡ sets old j xs
+  pub stored : now ≡ sets before j xs
   pub few : n ≤ 3 * i
+  pub kept : length now ≡ length before
 
-module _ (octets : List ℕ → Option (List ℕ)) (s : List ℕ) (p : ℕ) (old : List ℕ) (j : ℕ) where
-  pub decoding-start : Decoding octets s p old old j p 0
-  decoding-start = record { xs = []; inv = before-nil (octets (denoted s p)); count = refl; stored = refl; few = omega arith }
+pub decoding-start : (octets : List ℕ → Option (List ℕ)) (s : List ℕ) (p : ℕ) (before : List ℕ) (j : ℕ) → Decoding octets s p before j before p 0
+decoding-start octets s p before j = record { xs = []; inv = followed-nil (octets (denoted s p)); count = refl; stored = refl; few = omega arith; kept = refl }
 
-  module _ (pool : List ℕ) (i n : ℕ) (d : Decoding octets s p old pool j i n) where
-    pub decoding-end : octets (denoted s i) ≡ some [] → (found.Octets n ≡ foundOf (octets (denoted s p))) × Stored pool old j (octets (denoted s p))
-    unfolding before also
-    decoding-end e =
-        let w : octets (denoted s p) ≡ some (d .xs) = d .inv ∙ ap (before (d .xs)) e ∙ ap (λ (l : List ℕ). some l) (append-nil (d .xs)) in
-        rw w (ap (λ (k : ℕ). found.Octets k) (sym (d .count)), d .stored)
+module _ {octets : List ℕ → Option (List ℕ)} {s : List ℕ} {p : ℕ} {before : List ℕ} {j : ℕ} {now : List ℕ} {i n : ℕ} (d : Decoding octets s p before j now i n) where
+  pub decoding-end : octets (denoted s i) ≡ some [] → (found.Octets n ≡ foundOf (octets (denoted s p))) × Stored now before j (octets (denoted s p))
+  unfolding followed also
+  decoding-end e =
+      let w : octets (denoted s p) ≡ some (d .xs) = d .inv ∙ ap (followed (d .xs)) e ∙ ap (λ (l : List ℕ). some l) (append-nil (d .xs)) in
+      rw w (ap (λ (k : ℕ). found.Octets k) (sym (d .count)), d .stored)
 
-    pub decoding-bad : octets (denoted s i) ≡ none → (found.Bad ≡ foundOf (octets (denoted s p))) × Stored pool old j (octets (denoted s p))
-    unfolding before also
-    decoding-bad e = let w : octets (denoted s p) ≡ none = d .inv ∙ ap (before (d .xs)) e in rw w (refl, tt)
+  pub decoding-bad : octets (denoted s i) ≡ none → (found.Bad ≡ foundOf (octets (denoted s p))) × Stored now before j (octets (denoted s p))
+  unfolding followed also
+  decoding-bad e = let w : octets (denoted s p) ≡ none = d .inv ∙ ap (followed (d .xs)) e in rw w (refl, tt)
 
-    pub decoding-more : (x y z k q : ℕ) → Grouped octets s (octets (denoted s i)) i x y z k q → (m : List ℕ) → m ≡ sets pool (j + n) (take k (x ∷ y ∷ z ∷ [])) → Decoding octets s p old m j q (n + k)
-    decoding-more x y z k q g m e =
+  module _ {x y z k q : ℕ} (g : Grouped octets s (octets (denoted s i)) i x y z k q) where
+    pub group-length : k ≡ length (take k (x ∷ y ∷ z ∷ []))
+    group-length = sym (length-take-le k (x ∷ y ∷ z ∷ []) (g .few))
+
+    pub decoding-more : {after : List ℕ} → after ≡ sets now (j + n) (take k (x ∷ y ∷ z ∷ [])) → length after ≡ length now → Decoding octets s p before j after q (n + k)
+    decoding-more e l =
         let ys = take k (x ∷ y ∷ z ∷ []) in
-        let l : length ys ≡ k = length-take-le k (x ∷ y ∷ z ∷ []) (g .few) in
         record {
           xs = d .xs ++ ys;
-          inv = d .inv ∙ ap (before (d .xs)) (g .here) ∙ before-before (d .xs) ys (octets (denoted s q));
-          count = omega (arith, length-append (d .xs) ys, d .count);
-          stored = e ∙ rw (d .stored, ← d .count) (sym (sets-append old j (d .xs) ys));
+          inv = d .inv ∙ ap (followed (d .xs)) (g .here) ∙ followed-again (d .xs) ys (octets (denoted s q));
+          count = omega (arith, length-append (d .xs) ys, d .count, group-length);
+          stored = e ∙ rw (d .stored, ← d .count) (sym (sets-append before j (d .xs) ys));
           few = let a = g .ahead in let b = g .few in let f = d .few in omega arith;
+          kept = l ∙ d .kept;
         }
-
--- ---- the first n of three octets, stored one by one
-
-module _ (l : List ℕ) (k x y z n : ℕ) where
-  pub some-one : n ≡ 1 → (m : List ℕ) → m ≡ set l k x → m ≡ sets l k (take n (x ∷ y ∷ z ∷ []))
-  some-one e m h = rw e h
-
-  module _ (m₁ : List ℕ) (h₁ : m₁ ≡ set l k x) where
-    pub some-two : n ≡ 2 → (m : List ℕ) → m ≡ set m₁ (k + 1) y → m ≡ sets l k (take n (x ∷ y ∷ z ∷ []))
-    some-two e m h = rw e (h ∙ rw (h₁, add-one))
-
-    pub some-three : n ≡ 3 → (m₂ : List ℕ) → m₂ ≡ set m₁ (k + 1) y → (m : List ℕ) → m ≡ set m₂ (k + 2) z → m ≡ sets l k (take n (x ∷ y ∷ z ∷ []))
-    some-three e m₂ h₂ m h = let w : k + 2 ≡ suc (suc k) = omega arith in rw e (h ∙ rw (h₂, h₁, add-one, w))

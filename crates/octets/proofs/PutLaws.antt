@@ -1,17 +1,16 @@
 -- Texts that are stored part by part.
 use mathlib.Core.Path.{_≡_, refl, sym, ap, _∙_}
 use mathlib.Core.List.{List, [], _∷_, _++_}
-use Prim.Native.Nat.{ℕ, zero, suc, _+_, _-_, _<_, _≤_}
+use Prim.Native.Nat.{ℕ, suc, _+_, _<_}
 use native.Mathlib.Nat.{add-zero}
-use native.Mathlib.Numerals.{add-one}
 use native.Mathlib.Omega.{arith}
 use lib.ListN.{length, set, length-append}
 use lib.Seq.{sets, set-comm}
 use Rattle.tokens.proofs.SliceLaws.{sets-append}
 
--- one byte after others
-pub sets-then : (l : List ℕ) (k : ℕ) (xs : List ℕ) (y : ℕ) {a b : List ℕ} → a ≡ sets l k xs → b ≡ set a (k + length xs) y → b ≡ sets l k (xs ++ (y ∷ []))
-sets-then l k xs y e f = f ∙ rw e (sym (sets-append l k xs (y ∷ [])))
+-- the same bytes, said otherwise
+pub sets-as : (l : List ℕ) (k : ℕ) {xs ys after : List ℕ} → xs ≡ ys → after ≡ sets l k xs → after ≡ sets l k ys
+sets-as l k e f = f ∙ ap (λ (bs : List ℕ). sets l k bs) e
 
 -- bytes after others
 pub sets-next : (l : List ℕ) (k : ℕ) (xs ys : List ℕ) {a b : List ℕ} → a ≡ sets l k xs → b ≡ sets a (k + length xs) ys → b ≡ sets l k (xs ++ ys)

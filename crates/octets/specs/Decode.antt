@@ -1,5 +1,5 @@
 -- What the answers of decoding stand for.
-use Prim.Native.Nat.{ℕ, _+_, _<_, _≤_}
+use Prim.Native.Nat.{ℕ, _<_, _≤_}
 use mathlib.Core.Path.{_≡_}
 use mathlib.Core.List.{List, [], _∷_, _++_}
 use mathlib.Core.Bool.{Bool, true, false}
@@ -16,11 +16,12 @@ use Rattle.octets.specs.declared.decode.Next.the-variants as next
 use Rattle.octets.specs.declared.decode.Group.{Group}
 use Rattle.octets.specs.declared.decode.Group.the-variants as group
 
+-- how many octets there are, if the characters are those of octets
 abbrev pub foundOf : Option (List ℕ) → Found
 foundOf none = found.Bad
 foundOf (some os) = found.Octets (length os)
 
--- the octets stand in the pool from j on, and the rest is as it was
+-- the octets stand in the pool from j on, and the rest is as it was; of a string that has none nothing is said
 abbrev pub Stored : List ℕ → List ℕ → ℕ → Option (List ℕ) → Type 0
 Stored after before j none = Unit {0}
 Stored after before j (some os) = after ≡ sets before j os
@@ -46,6 +47,7 @@ pub record NoDigit (value : ℕ → Option ℕ) (s : List ℕ) (i : ℕ) : Type 
   pub here : denoted s i ≡ char ∷ rest
   pub is : value char ≡ none
 
+-- the character at i, by its value
 abbrev pub Reads : (ℕ → Option ℕ) → List ℕ → ℕ → Next → Type 0
 Reads value s i next.End = denoted s i ≡ []
 Reads value s i (next.Is x q) = Digit value s i x q
@@ -53,13 +55,13 @@ Reads value s i next.Other = NoDigit value s i
 
 -- ---- one group
 
--- a group of octets before those that follow it
-unfoldable pub before : List ℕ → Option (List ℕ) → Option (List ℕ)
-before xs rest = also rest (λ os. some (xs ++ os))
+-- some octets and those that follow them
+unfoldable pub followed : List ℕ → Option (List ℕ) → Option (List ℕ)
+followed xs rest = also rest (λ os. some (xs ++ os))
 
 -- a group of octets stands before those that follow it at q
 pub record Grouped (octets : List ℕ → Option (List ℕ)) (s : List ℕ) (whole : Option (List ℕ)) (i x y z n q : ℕ) : Type 0 where
-  pub here : whole ≡ before (take n (x ∷ y ∷ z ∷ [])) (octets (denoted s q))
+  pub here : whole ≡ followed (take n (x ∷ y ∷ z ∷ [])) (octets (denoted s q))
   pub few : n ≤ 3
   pub inside : i < length s
   pub ahead : i < q
@@ -78,6 +80,7 @@ Groups octets s i r = First octets s (octets (denoted s i)) i r
 abbrev pub Tail : List ℕ → ℕ → ℕ → ℕ → Group → Type 0
 Tail s i x y r = (a b : ℕ) → base64Value a ≡ some x → base64Value b ≡ some y → First unbase64 s (unbase64 (a ∷ b ∷ denoted s i)) i r
 
+-- Base64 or hexadecimal
 abbrev pub decoding : Bool → List ℕ → Option (List ℕ)
 decoding true cs = unbase64 cs
 decoding false cs = unhex cs

@@ -1,7 +1,7 @@
 -- The short escapes.
 use Prim.Native.Nat.{ℕ}
-use mathlib.Core.List.{List, [], _∷_}
-use Rattle.json.specs.Bytes.{Row, on, pick}
+use mathlib.Core.List.{[], _∷_}
+use Rattle.json.specs.Bytes.{on, pick}
 
 -- the letter that stands for a byte after a backslash, 0 for a byte that has none
 -- 01, Writing: "Escapes only \" \\ \b \t \n \f \r"

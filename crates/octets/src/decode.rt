@@ -1,14 +1,11 @@
 // Octets from the characters that a string denotes, from the place after its opening quotation mark.
 ghost use mathlib.Core.Path.{_≡_};
-ghost use mathlib.Core.Bool.{Bool, true, false};
-ghost use Prim.Native.Nat.{ℕ, _+_, _*_, _≤_, _<_};
-ghost use mathlib.Core.List.{[], _∷_};
-ghost use lib.ListN.{length, take};
-ghost use lib.Seq.{sets};
+ghost use Prim.Native.Nat.{_≤_, _<_};
+ghost use lib.ListN.{length};
 ghost use Rattle.jer.specs.Octets.{hexValue, unhex, base64Value, unbase64};
 ghost use Rattle.tokens.specs.Strings.{denoted};
 ghost use Rattle.octets.specs.Decode.{foundOf, Stored, asciiValue, Reads, Groups, Tail, decoding};
-use tokens::slices::put;
+use tokens::slices::put_all;
 use tokens::strings::Piece;
 use tokens::strings::piece_at;
 use tokens::strings::same_as;
@@ -173,25 +170,6 @@ fn next_group(s: &[u8], i: usize, base64: bool) -> Group
     }
 }
 
-// Stores the first n of three octets, as far as there is room.
-fn put_some(pool: &mut [u8], k: usize, x: u8, y: u8, z: u8, n: usize)
-    requires { ⌜ (k ≤ 8589934592) × (n ≤ 3) ⌝ }
-    ensures { λ _. ⌜ now (pool .exit) ≡ sets (now (pool .entry)) k (take n (x ∷ y ∷ z ∷ [])) ⌝ }
-{
-    if n == 0 {
-        return;
-    }
-    put(pool, k, x);
-    if n == 1 {
-        return;
-    }
-    put(pool, k + 1, y);
-    if n == 2 {
-        return;
-    }
-    put(pool, k + 2, z);
-}
-
 // Stores the octets of the string at p, from j on, as far as there is room.
 fn octets(s: &[u8], p: usize, pool: &mut [u8], j: usize, base64: bool) -> Found
     requires { ⌜ (length (now s) ≤ 65536) × (j ≤ 4294967296) ⌝ }
@@ -209,7 +187,8 @@ fn octets(s: &[u8], p: usize, pool: &mut [u8], j: usize, base64: bool) -> Found
                 return Found::Bad;
             }
             Group::Octets(x, y, z, len, q) => {
-                put_some(pool, j + n, x, y, z, len);
+                let group = [x, y, z];
+                put_all(pool, j + n, &group[..len]);
                 n += len;
                 i = q;
             }

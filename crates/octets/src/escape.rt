@@ -7,9 +7,9 @@ ghost use Rattle.jer.specs.Write.{escaped, escapes};
 ghost use Rattle.jer.specs.Calls.{amount};
 ghost use Rattle.octets.specs.Encode.{letterFor};
 use crate::amount::add;
-use crate::encode::put_four;
-use crate::encode::put_octet;
+use crate::encode::hex_digit;
 use tokens::slices::put;
+use tokens::slices::put_all;
 
 // The letter of a byte's short escape, 0 if it has none.
 fn letter_for(b: u8) -> u8
@@ -35,16 +35,16 @@ fn put_escaped(text: &mut [u8], k: usize, b: u8) -> usize
 {
     let letter = letter_for(b);
     if letter != 0 {
-        put(text, k, 0x5C);
-        put(text, k + 1, letter);
+        let two = [0x5C, letter];
+        put_all(text, k, &two[..]);
         return 2;
     }
     if 0x20 <= b {
         put(text, k, b);
         return 1;
     }
-    put_four(text, k, 0x5C, 0x75, 0x30, 0x30);
-    put_octet(text, k + 4, b);
+    let six = [0x5C, 0x75, 0x30, 0x30, hex_digit(b / 16), hex_digit(b % 16)];
+    put_all(text, k, &six[..]);
     6
 }
 

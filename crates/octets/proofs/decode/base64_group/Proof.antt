@@ -1,10 +1,9 @@
 use borrow.Author.Needs.{needs}
 use mathlib.Core.Path.{subst}
 use Rattle.jer.specs.Octets.{base64Value}
-use Rattle.tokens.specs.Strings.{denoted}
 use Rattle.octets.specs.Decode.{Reads}
 use Rattle.octets.proofs.DigitLaws.{base64-below}
-use Rattle.octets.proofs.GroupLaws.{no-first, base64-end, base64-none, base64-half, base64-first}
+use Rattle.octets.proofs.GroupLaws.{without, base64-end, base64-none, base64-half, base64-first}
 use Rattle.octets.proofs.decode.base64_group.Statement.{statement}
 use Rattle.octets.proofs.decode.base64_group.Tie as tie
 
@@ -27,19 +26,27 @@ enum-known-y : tie.Need-enum-known-y
 enum-known-y c = search needs
 
 returns : tie.Need-returns
-returns c = base64-half (c .before .before .before .before .before .before .before .args .s .now) (c .before .before .before .before .before .before .before .args .i) (c .before .before .before .x .given .0 .0) (c .before .before .before .x .given .0 .1 .0) (subst (Reads base64Value (c .before .before .before .before .before .before .before .args .s .now) (c .before .before .before .before .before .before .before .args .i)) (c .before .before .before .x .given .1) (c .before .before .before .before .before .base64-digit .ensures)) (no-first base64Value (c .before .before .before .before .before .before .before .args .s .now) (c .before .before .before .x .given .0 .1 .0) (c .before .base64-digit2 .result) (c .match2 .keys2) (c .before .base64-digit2 .ensures))
+returns c =
+    let d = subst (Reads base64Value (c .before .before .before .before .before .before .before .args .s .now) (c .before .before .before .before .before .before .before .args .i)) (c .before .before .before .x .given .1) (c .before .before .before .before .before .base64-digit .ensures) in
+    base64-half d (without (c .before .base64-digit2 .result) (c .match2 .keys2) (c .before .base64-digit2 .ensures))
 
 base64-tail-requires : tie.Need-base64-tail-requires
-base64-tail-requires c κs = (c .before .before .before .before .before .before .before .before .before .pre, base64-below ((subst (Reads base64Value (c .before .before .before .before .before .before .before .before .before .args .s .now) (c .before .before .before .before .before .before .before .before .before .args .i)) (c .before .before .before .before .before .x .given .1) (c .before .before .before .before .before .before .before .base64-digit .ensures)) .char) (c .before .before .before .before .before .x .given .0 .0) ((subst (Reads base64Value (c .before .before .before .before .before .before .before .before .before .args .s .now) (c .before .before .before .before .before .before .before .before .before .args .i)) (c .before .before .before .before .before .x .given .1) (c .before .before .before .before .before .before .before .base64-digit .ensures)) .is), base64-below ((subst (Reads base64Value (c .before .before .before .before .before .before .before .before .before .args .s .now) (c .before .before .before .before .before .x .given .0 .1 .0)) (c .before .y .given .1) (c .before .before .before .base64-digit2 .ensures)) .char) (c .before .y .given .0 .0) ((subst (Reads base64Value (c .before .before .before .before .before .before .before .before .before .args .s .now) (c .before .before .before .before .before .x .given .0 .1 .0)) (c .before .y .given .1) (c .before .before .before .base64-digit2 .ensures)) .is))
+base64-tail-requires c κs =
+    let d = subst (Reads base64Value (c .before .before .before .before .before .before .before .before .before .args .s .now) (c .before .before .before .before .before .before .before .before .before .args .i)) (c .before .before .before .before .before .x .given .1) (c .before .before .before .before .before .before .before .base64-digit .ensures) in
+    let e = subst (Reads base64Value (c .before .before .before .before .before .before .before .before .before .args .s .now) (c .before .before .before .before .before .x .given .0 .1 .0)) (c .before .y .given .1) (c .before .before .before .base64-digit2 .ensures) in
+    (c .before .before .before .before .before .before .before .before .before .pre, base64-below d, base64-below e)
 
 returns-2 : tie.Need-returns-2
-returns-2 c = base64-end (denoted (c .before .before .before .before .args .s .now) (c .before .before .before .before .args .i)) (subst (Reads base64Value (c .before .before .before .before .args .s .now) (c .before .before .before .before .args .i)) (c .enum-told .given .1) (c .before .before .base64-digit .ensures))
+returns-2 c = base64-end (subst (Reads base64Value (c .before .before .before .before .args .s .now) (c .before .before .before .before .args .i)) (c .enum-told .given .1) (c .before .before .base64-digit .ensures))
 
 returns-3 : tie.Need-returns-3
-returns-3 c = base64-none (c .before .before .before .before .args .s .now) (c .before .before .before .before .args .i) (subst (Reads base64Value (c .before .before .before .before .args .s .now) (c .before .before .before .before .args .i)) (c .enum-told2 .given .1) (c .before .before .base64-digit .ensures))
+returns-3 c = base64-none (subst (Reads base64Value (c .before .before .before .before .args .s .now) (c .before .before .before .before .args .i)) (c .enum-told2 .given .1) (c .before .before .base64-digit .ensures))
 
 returns-4 : tie.Need-returns-4
-returns-4 c = base64-first (c .before .before .before .before .before .before .before .before .before .before .args .s .now) (c .before .before .before .before .before .before .before .before .before .before .args .i) (c .before .before .before .before .before .before .x .given .0 .0) (c .before .before .before .before .before .before .x .given .0 .1 .0) (subst (Reads base64Value (c .before .before .before .before .before .before .before .before .before .before .args .s .now) (c .before .before .before .before .before .before .before .before .before .before .args .i)) (c .before .before .before .before .before .before .x .given .1) (c .before .before .before .before .before .before .before .before .base64-digit .ensures)) (c .before .before .y .given .0 .0) (c .before .before .y .given .0 .1 .0) (subst (Reads base64Value (c .before .before .before .before .before .before .before .before .before .before .args .s .now) (c .before .before .before .before .before .before .x .given .0 .1 .0)) (c .before .before .y .given .1) (c .before .before .before .before .base64-digit2 .ensures)) (c .base64-tail .result) (c .base64-tail .ensures)
+returns-4 c =
+    let d = subst (Reads base64Value (c .before .before .before .before .before .before .before .before .before .before .args .s .now) (c .before .before .before .before .before .before .before .before .before .before .args .i)) (c .before .before .before .before .before .before .x .given .1) (c .before .before .before .before .before .before .before .before .base64-digit .ensures) in
+    let e = subst (Reads base64Value (c .before .before .before .before .before .before .before .before .before .before .args .s .now) (c .before .before .before .before .before .before .x .given .0 .1 .0)) (c .before .before .y .given .1) (c .before .before .before .before .base64-digit2 .ensures) in
+    base64-first d e (c .base64-tail .result) (c .base64-tail .ensures)
 
 pub base64-group-spec : {M : Type 1} → statement M
 base64-group-spec =

@@ -17,7 +17,7 @@ enum-known-b : tie.Need-enum-known-b
 enum-known-b c = search needs
 
 add-t10 : tie.Need-add-t10
-add-t10 c = omega (arith, bare-inside (c .before .before .before .before .before .before .args .s .now) (c .before .before .before .before .before .before .args .i) (sym (ap pieceOf (c .before .before .b .given .1)) ∙ c .before .before .before .before .piece-at .ensures .0), c .before .before .before .before .before .before .pre)
+add-t10 c = omega (arith, bare-inside _ _ (sym (ap pieceOf (c .before .before .b .given .1)) ∙ c .before .before .before .before .piece-at .ensures .0), c .before .before .before .before .before .before .pre)
 
 enum-known-x : tie.Need-enum-known-x
 enum-known-x c = search needs
@@ -26,19 +26,19 @@ cast-t13 : tie.Need-cast-t13
 cast-t13 c = search needs
 
 returns : tie.Need-returns
-returns c = denoted-close (c .before .before .before .before .args .s .now) (c .before .before .before .before .args .i) (sym (ap pieceOf (c .enum-told .given .1)) ∙ c .before .before .piece-at .ensures .0)
+returns c = denoted-close _ _ (sym (ap pieceOf (c .enum-told .given .1)) ∙ c .before .before .piece-at .ensures .0)
 
 returns-2 : tie.Need-returns-2
-returns-2 c = char-bare (c .before .before .before .before .before .before .args .s .now) (c .before .before .before .before .before .before .args .i) (c .before .before .b .given .0 .0) (sym (ap pieceOf (c .before .before .b .given .1)) ∙ c .before .before .before .before .piece-at .ensures .0) (c .if1 .taken)
+returns-2 c = char-bare (sym (ap pieceOf (c .before .before .b .given .1)) ∙ c .before .before .before .before .piece-at .ensures .0) (c .if1 .taken)
 
 returns-3 : tie.Need-returns-3
-returns-3 c = char-wide (c .before .before .before .before .before .before .args .s .now) (c .before .before .before .before .before .before .args .i) (c .before .before .b .given .0 .0) (sym (ap pieceOf (c .before .before .b .given .1)) ∙ c .before .before .before .before .piece-at .ensures .0) (c .if1 .left)
+returns-3 c = char-wide (sym (ap pieceOf (c .before .before .b .given .1)) ∙ c .before .before .before .before .piece-at .ensures .0) (c .if1 .left)
 
 returns-4 : tie.Need-returns-4
-returns-4 c = escape-ascii (c .before .before .before .before .before .before .args .s .now) (c .before .before .before .before .before .before .args .i) (c .before .before .x .given .0 .0) (c .before .before .x .given .0 .1 .0) (sym (ap pieceOf (c .before .before .x .given .1)) ∙ c .before .before .before .before .piece-at .ensures .0) (c .if2 .taken)
+returns-4 c = escape-ascii (sym (ap pieceOf (c .before .before .x .given .1)) ∙ c .before .before .before .before .piece-at .ensures .0) (c .if2 .taken)
 
 returns-5 : tie.Need-returns-5
-returns-5 c = escape-wide (c .before .before .before .before .before .before .args .s .now) (c .before .before .before .before .before .before .args .i) (c .before .before .x .given .0 .0) (c .before .before .x .given .0 .1 .0) (sym (ap pieceOf (c .before .before .x .given .1)) ∙ c .before .before .before .before .piece-at .ensures .0) (c .if2 .left)
+returns-5 c = escape-wide (sym (ap pieceOf (c .before .before .x .given .1)) ∙ c .before .before .before .before .piece-at .ensures .0) (c .if2 .left)
 
 pub next-char-spec : {M : Type 1} → statement M
 next-char-spec =

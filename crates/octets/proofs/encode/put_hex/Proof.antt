@@ -1,9 +1,10 @@
 use borrow.Author.Needs.{needs}
-use Prim.Native.Nat.{_-_}
-use lib.ListN.{length, drop}
+use Prim.Native.Nat.{_+_, _-_}
+use native.Mathlib.Omega.{arith}
+use lib.ListN.{length, drop, getD}
 use Rattle.jer.specs.Octets.{hex}
-use Rattle.octets.proofs.EncodeLaws.{hex-done, hex-next}
-use Rattle.octets.proofs.PutLaws.{Putting, putting-start, putting-done}
+use Rattle.octets.proofs.EncodeLaws.{hex-one, hex-done, hex-next}
+use Rattle.octets.proofs.PutLaws.{sets-as, Putting, putting-start, putting-done}
 use Rattle.octets.proofs.encode.put_hex.Statement.{statement}
 use Rattle.octets.proofs.encode.put_hex.Tie as tie
 
@@ -19,11 +20,20 @@ loop-holds c = putting-start (hex (c .before .before .args .octets .now)) (c .be
 shared-slice-read-b : tie.Need-shared-slice-read-b Inv-loop μ-loop
 shared-slice-read-b c = search needs
 
-add-put-octet : tie.Need-add-put-octet Inv-loop μ-loop
-add-put-octet c = search needs
+hex-digit-requires : tie.Need-hex-digit-requires Inv-loop μ-loop
+hex-digit-requires c κs = omega (arith, c .shared-slice-known2 .given (c .before .before .loop .i))
 
-put-octet-requires : tie.Need-put-octet-requires Inv-loop μ-loop
-put-octet-requires c κs = search needs
+hex-digit-requires-2 : tie.Need-hex-digit-requires-2 Inv-loop μ-loop
+hex-digit-requires-2 c κs = search needs
+
+add-put-all : tie.Need-add-put-all Inv-loop μ-loop
+add-put-all c = search needs
+
+slice-aggregate-put-all : tie.Need-slice-aggregate-put-all Inv-loop μ-loop
+slice-aggregate-put-all c = search needs
+
+put-all-requires : tie.Need-put-all-requires Inv-loop μ-loop
+put-all-requires c κs = search needs
 
 add-n : tie.Need-add-n Inv-loop μ-loop
 add-n c = search needs
@@ -35,7 +45,11 @@ loop-less : tie.Need-loop-less Inv-loop μ-loop
 loop-less c = search needs
 
 loop-again : tie.Need-loop-again Inv-loop μ-loop
-loop-again c = hex-next (c .before .before .before .before .before .before .before .before .before .args .octets .now) (c .before .before .before .before .before .before .loop .i) (c .before .before .before .before .before .before .loop .inv) (c .before .before .before .before .before .loop-test .taken) (c .before .before .put-octet .ensures) (c .before .before .put-octet .kept .0)
+loop-again c =
+    let b = getD (c .before .before .before .before .before .before .before .before .before .before .before .before .args .octets .now) (c .before .before .before .before .before .before .before .before .before .loop .i) 0 in
+    hex-next (c .before .before .before .before .before .before .before .before .before .before .before .before .args .octets .now) (c .before .before .before .before .before .before .before .before .before .loop .i) (c .before .before .before .before .before .before .before .before .before .loop .inv) (c .before .before .before .before .before .before .before .before .loop-test .taken)
+    (sets-as (c .before .before .before .before .before .before .before .before .before .loop .text) (c .before .before .before .before .before .before .before .before .before .before .before .before .args .k + c .before .before .before .before .before .before .before .before .before .loop .n) (hex-one b (c .before .before .before .before .before .before .hex-digit .ensures) (c .before .before .before .before .before .hex-digit2 .ensures)) (c .before .before .put-all .ensures))
+    (c .before .before .put-all .kept .0)
 
 same-length : tie.Need-same-length Inv-loop μ-loop
 same-length c = c .before .loop .inv .kept
@@ -51,8 +65,11 @@ put-hex-spec =
     μ-loop
     loop-holds
     shared-slice-read-b
-    add-put-octet
-    put-octet-requires
+    hex-digit-requires
+    hex-digit-requires-2
+    add-put-all
+    slice-aggregate-put-all
+    put-all-requires
     add-n
     add-i
     loop-less
