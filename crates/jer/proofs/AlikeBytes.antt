@@ -20,7 +20,7 @@ use Rattle.jer.proofs.AlikeBack.{moved-back}
 use Rattle.jer.proofs.AlikeSkipped.{skipped-alike}
 use Rattle.jer.proofs.AlikeElsewhere.{padded-at}
 use Rattle.jer.proofs.AlikeReplaced.{text-splits}
-use Rattle.jer.proofs.AlikeCalls.{read-text}
+use Rattle.jer.proofs.SpellCalls.{read-text}
 
 same-then : {A : Type 0} {x y z : Res A} → SameAnswer x y → SameAnswer y z → SameAnswer x z
 same-then sameValue sameValue = sameValue

@@ -19,18 +19,10 @@ use Rattle.jer.specs.Calls.{tableOf, goodTable, treeOf, goodText, readTe
 use Rattle.jer.specs.Skipped.{SameAnswer, sameValue, sameNumber, SameCall, sameReading, sameRefusal, SkipAlike}
 use Rattle.jer.specs.Respelled.{Respelled}
 use Rattle.jer.proofs.ValidSane.{valid-sane}
+use Rattle.jer.proofs.SpellCalls.{read-text}
 use Rattle.jer.proofs.AlikeSkipped.{skipped-alike}
 use Rattle.jer.proofs.AlikeRespelled.{respelled-reads}
 use Rattle.jer.proofs.AlikeExactly.{respelled-only}
-
-good-text : {j : Json} (s : List ℕ) → Text 32 j s → length s ≤ 65536 → goodText s ≡ ok j
-unfolding goodText parse treeOf
-good-text {j} s t h = rw (le-leb (length s) 65536 h, goodText, takes-text 32 j s t)
-
--- a good table reads a text within the sizes as its tree
-pub read-text : {j : Json} (t : Table) (s : List ℕ) → firstBad t ≡ none → Text 32 j s → length s ≤ 65536 → readText t s ≡ read j t 0
-unfolding readText goodTable tableOf bind
-read-text t s good x h = rw (good, goodTable) (rw (good-text s x h, bind))
 
 -- Demand 2: "A text is read as the value that X.697 gives it, whatever options its sender chose"
 pub respelled-texts : {t : Table} {j k : Json} {v : Val} (s u : List ℕ) → firstBad t ≡ none → Text 32 j s → Text 32 k u → length s ≤ 65536 → length u ≤ 65536 → Respelled t 0 j k

@@ -15,6 +15,7 @@ use Rattle.jer.specs.Answer.{Res, ok, bind}
 use Rattle.jer.specs.Read.{Element, withAbsent, withPresent, nullValue, missingElement, readElement, surplus, readElements, readItems, null?, read}
 use Rattle.jer.specs.Moved.{tokenIn}
 use Rattle.jer.specs.Skipped.{SameAnswer, sameValue, sameNumber}
+use Rattle.jer.proofs.JudgeRead.{null-kind}
 use Rattle.jer.proofs.ValidLaws.{alternative-some}
 use Rattle.jer.proofs.WeightGot.{cases, refused, nothing, got, found, steps}
 use Rattle.jer.proofs.OlderAgrees.{Each, end, more}
@@ -63,17 +64,6 @@ items-kept r end = keeps-same sameValue
 items-kept r (more h t) = keeps-bind h (λ v. keeps-map (vcons v) (items-kept r t))
 
 -- ---- null and a missing element
-
-null-kind : (t : Table) (r : ℕ) → tokenOf t r ≡ tNull → kindOf t r ≡ NULL
-unfolding tokenOf tokenPick
-null-kind t r =
-    pick-within (λ k. k ≡ tNull → kindOf t r ≡ NULL) (kindOf t r) _ tObject
-    ((λ i e. cc) ⨾ (λ i e. cc) ⨾ (λ i e. cc) ⨾ (λ i e. only i) ⨾ (λ i e. cc) ⨾ (λ i. go (formMark t r)) ⨾ (λ i e. cc) ⨾ tt)
-    (λ e. cc)
-  where
-    go : (c : Bool) → tokenPick c tArray tObject ≡ tNull → kindOf t r ≡ NULL
-    go true e = cc
-    go false e = cc
 
 -- the null value is what null is read as
 pub value-of-null : (t : Table) (r p : ℕ) (v : Val) → nullValue t r ≡ some v → read (jnull p) t r ≡ ok v

@@ -12,6 +12,7 @@ use Rattle.jer.specs.Answer.{Res, ok, bind}
 use Rattle.jer.specs.Read.{Entry, lookup, namesGood, nullAbsent, readMember, readMembers, readObject, null?, read, entries}
 use Rattle.jer.specs.Skipped.{sameValue}
 use Rattle.jer.specs.Respelled.{held, NamesTaken, noName, known, unknown}
+use Rattle.jer.proofs.OlderObject.{own-name}
 use Rattle.jer.proofs.ValidLaws.{sameBytes-eq, sameBytes-refl, position-none}
 use Rattle.jer.proofs.WeightGot.{nothing}
 use Rattle.jer.proofs.AlikeSame.{same-cause}
@@ -120,9 +121,6 @@ pub record Listed (t : Table) (r : ℕ) (ms : Members) : Type 0 where
   pub list : List Entry
   pub good : namesGood t r [] (entries ms t) ≡ ok list
   pub finds : (i : ℕ) → i < countOf t r → Holds t (held ms (nameAt t r i)) (lookup (nameAt t r i) list)
-
-own-name : (t : Table) (r i : ℕ) → i < countOf t r → position t r (nameAt t r i) ≡ none → ⊥
-own-name t r i l e = let p = position-none t r (nameAt t r i) e i l in let q = sameBytes-refl (nameAt t r i) in let z : _≡_ {A = ℕ} 0 1 = cc in omega arith
 
 pub listed : (t : Table) (r : ℕ) {ms : Members} → NamesTaken t r ms → Listed t r ms
 unfolding lookup either

@@ -86,7 +86,7 @@ module _ (t : Table) (d : ℕ) where
 
 -- ---- null
 
-null-kind : (t : Table) (r : ℕ) → tokenOf t r ≡ tNull → kindOf t r ≡ NULL
+pub null-kind : (t : Table) (r : ℕ) → tokenOf t r ≡ tNull → kindOf t r ≡ NULL
 unfolding tokenOf tokenPick
 null-kind t r =
     pick-within (λ k. k ≡ tNull → kindOf t r ≡ NULL) (kindOf t r) _ tObject

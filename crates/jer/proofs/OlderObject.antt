@@ -55,7 +55,7 @@ module _ {old : Table} {R : ℕ → ℕ → Type 0} {b : ℕ} (s : List ℕ) (kn
       go x y e (present u) = cc
 
 -- a type knows the names of its members
-own-name : (t : Table) (r i : ℕ) → i < countOf t r → position t r (nameAt t r i) ≡ none → ⊥
+pub own-name : (t : Table) (r i : ℕ) → i < countOf t r → position t r (nameAt t r i) ≡ none → ⊥
 own-name t r i l e = let p = position-none t r (nameAt t r i) e i l in let q = sameBytes-refl (nameAt t r i) in let z : _≡_ {A = ℕ} 0 1 = cc in omega arith
 
 -- ---- one name of an object

@@ -26,7 +26,8 @@ good-text : {j : Json} (s : List ℕ) → Text 32 j s → length s ≤ 65536 →
 unfolding goodText parse treeOf
 good-text {j} s t h = rw (le-leb (length s) 65536 h, goodText, takes-text 32 j s t)
 
-read-text : {j : Json} (t : Table) (s : List ℕ) → firstBad t ≡ none → Text 32 j s → length s ≤ 65536 → readText t s ≡ read j t 0
+-- a good table reads a text within the sizes as its tree
+pub read-text : {j : Json} (t : Table) (s : List ℕ) → firstBad t ≡ none → Text 32 j s → length s ≤ 65536 → readText t s ≡ read j t 0
 unfolding readText goodTable tableOf bind
 read-text t s good x h = rw (good, goodTable) (rw (good-text s x h, bind))
 

@@ -12,7 +12,7 @@ use Rattle.json.specs.Utf8.{Wide, two, threeE0, threeE1, threeED, threeEE, four
 use Rattle.json.specs.Grammar.{Hex, digit, upper, four, quote, backslash, backspace, formFeed, lineFeed, carriageReturn, tabulation, Char, plain, wide, escape, unit, Chars, noChar, char, Quoted, quoted}
 use Rattle.json.proofs.Feed.{pick-none}
 use Rattle.json.proofs.SoundRows.{pick-first, Within, pick-within, only, _⨾_}
-use Rattle.json.proofs.SoundString.{noCont, cont, WideEnd, wideEnd}
+use Rattle.json.proofs.SoundString.{noCont, cont, WideEnd, wideEnd, with-one, with-two, with-three}
 use Rattle.jer.specs.Octets.{hexDigit}
 use Rattle.jer.specs.Write.{escaped, escapes, quotes, stringText}
 
@@ -81,15 +81,6 @@ abbrev Next : Due → List ℕ → Type 0
 Next start s = Chars s (escapes s)
 Next (due lo hi n) s = Rest lo hi n s
 Next never s = ⊥
-
-with-one : {b lo hi : ℕ} → ((x : ℕ) → In lo hi x → Wide (b ∷ x ∷ [])) → (bs : List ℕ) → WideEnd lo hi 0 bs → Wide (b ∷ bs)
-with-one h bs (wideEnd {b = x} i noCont) = h x i
-
-with-two : {b lo hi : ℕ} → ((x y : ℕ) → In lo hi x → In 0x80 0xBF y → Wide (b ∷ x ∷ y ∷ [])) → (bs : List ℕ) → WideEnd lo hi 1 bs → Wide (b ∷ bs)
-with-two h bs (wideEnd {b = x} i (cont {b = y} j noCont)) = h x y i j
-
-with-three : {b lo hi : ℕ} → ((x y z : ℕ) → In lo hi x → In 0x80 0xBF y → In 0x80 0xBF z → Wide (b ∷ x ∷ y ∷ z ∷ [])) → (bs : List ℕ) → WideEnd lo hi 2 bs → Wide (b ∷ bs)
-with-three h bs (wideEnd {b = x} i (cont {b = y} j (cont {b = z} k noCont))) = h x y z i j k
 
 -- a first byte and what is due after it make a character
 begins : {b lo hi n : ℕ} (s : List ℕ) → 0x80 ≤ b → 0x80 ≤ lo → ((c : List ℕ) → WideEnd lo hi n c → Wide (b ∷ c)) → Rest lo hi n s → Chars (b ∷ s) (escapes (b ∷ s))

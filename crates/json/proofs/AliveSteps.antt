@@ -11,6 +11,7 @@ use Rattle.json.specs.Bytes.{Row, on, pick}
 use Rattle.json.specs.Tree.{Json, inil}
 use Rattle.json.specs.Utf8.{wideRows}
 use Rattle.json.specs.Machine.{Mid, mText, mWide, mSlash, mUnit, mUnitD, mHex, mHigh, mPair, mPairU, mPairD, mPairDigit, mLow, Act, still, close, never, wideNext, hexRows, hexNext, highNext, lowNext, charStep, Num, numStep, numTree, Frame, inArr, inObj, Stack, base, _▹_, room, Role, asName, asValue, State, sVal, sElem, sAfter, sName0, sName, sColon, sStr, sNum, sLit, Step, go, bad, notJson, spaces, opened, starts, after, closed, strStep, numEnd, numGo, litNext, step}
+use Rattle.json.proofs.Feed.{room-frame}
 use Rattle.json.proofs.SoundRows.{pick-first, _⨾_}
 use Rattle.json.proofs.Alive.{OkMid, Held, HeldAs, Ok}
 
@@ -27,10 +28,6 @@ pub pick-all : {A : Type 0} (Q : A → Type 0) (b : ℕ) (rs : List (Row A)) (d 
 unfolding pick
 pick-all Q b [] d h e = e
 pick-all Q b (on lo hi f ∷ rs) d h e = pick-first Q b lo hi f rs d (λ i. h .0) (λ m. pick-all Q b rs d (h .1) e)
-
-pub room-frame : (f : Frame) (k : Stack) → room (f ▹ k) ≡ pred (room k)
-unfolding room
-room-frame f k = refl
 
 -- with room for one more bracket there was room for the last
 pub held-below : (k : Stack) → 1 ≤ room k → Held k

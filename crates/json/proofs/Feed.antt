@@ -1,5 +1,5 @@
 -- Which row of a table has a byte, and the machine over a stretch of bytes.
-use Prim.Native.Nat.{ℕ, zero, suc, _≤_}
+use Prim.Native.Nat.{ℕ, zero, suc, pred, _≤_}
 use mathlib.Core.Path.{_≡_, refl, _∙_}
 use mathlib.Core.List.{List, [], _∷_, _++_}
 use mathlib.Core.Bool.{Bool, true, false, _&&_}
@@ -7,7 +7,7 @@ use borrow.Author.Tests.{le-leb, leb-true}
 use lib.Dec.{leb}
 use Rattle.json.specs.Bytes.{In, Row, on, pick, past}
 use Rattle.json.specs.Grammar.{Space, noSpace, tab, feed, return, blank}
-use Rattle.json.specs.Machine.{State, Step, go, spaces, step, run}
+use Rattle.json.specs.Machine.{Frame, Stack, base, _▹_, room, State, Step, go, spaces, step, run}
 
 -- ---- rows
 
@@ -103,3 +103,13 @@ feeds-space p i (tab h) = more (i p _ isTab) (feeds-space (suc p) i h)
 feeds-space p i (feed h) = more (i p _ isFeed) (feeds-space (suc p) i h)
 feeds-space p i (return h) = more (i p _ isReturn) (feeds-space (suc p) i h)
 feeds-space p i (blank h) = more (i p _ isBlank) (feeds-space (suc p) i h)
+
+-- ---- how many more brackets may be opened
+
+pub room-base : (d : ℕ) → room (base d) ≡ d
+unfolding room
+room-base d = refl
+
+pub room-frame : (f : Frame) (k : Stack) → room (f ▹ k) ≡ pred (room k)
+unfolding room
+room-frame f k = refl

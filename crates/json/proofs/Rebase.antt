@@ -11,7 +11,8 @@ use Rattle.json.specs.Bytes.{Row, on, pick}
 use Rattle.json.specs.Tree.{Json, inil}
 use Rattle.json.specs.Machine.{Act, still, close, never, charStep, Num, numStep, numTree, inArr, inObj, Stack, base, _▹_, room, Role, asName, asValue, State, sVal, sElem, sAfter, sName0, sName, sColon, sStr, sNum, sLit, notJson, tooDeep, Step, go, bad, spaces, opened, starts, after, closed, strStep, numEnd, numGo, litNext, step, Parsed, tree, refused, ended, finish, run}
 use Rattle.json.proofs.Alive.{Held, Ok}
-use Rattle.json.proofs.AliveSteps.{OkStep, step-ok, room-frame, held-below}
+use Rattle.json.proofs.Feed.{room-base, room-frame}
+use Rattle.json.proofs.AliveSteps.{OkStep, step-ok, held-below}
 
 -- e brackets more may be open
 abbrev pub raise : ℕ → Stack → Stack
@@ -28,10 +29,6 @@ raised e (sColon o ms q s k) = sColon o ms q s (raise e k)
 raised e (sStr m r q s k) = sStr m r q s (raise e k)
 raised e (sNum n q k) = sNum n q (raise e k)
 raised e (sLit c cs j k) = sLit c cs j (raise e k)
-
-room-base : (d : ℕ) → room (base d) ≡ d
-unfolding room
-room-base d = refl
 
 -- e brackets more at the bottom are e more at the top
 pub room-raise : (e : ℕ) (k : Stack) → Held k → room (raise e k) ≡ e + room k

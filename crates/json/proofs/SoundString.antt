@@ -106,13 +106,13 @@ two-bound (moreHex k (lastHex l f)) = let a = hex-bound k in let b = hex-bound l
 wide-begins : {b lo hi n : ℕ} → ((bs : List ℕ) → WideEnd lo hi n bs → Wide (b ∷ bs)) → Kept mText b (still (mWide lo hi n) (b ∷ []))
 wide-begins h = begins (λ c bs n. rw (n .0) (wide (h bs (n .1))))
 
-with-one : {b lo hi : ℕ} → ((x : ℕ) → In lo hi x → Wide (b ∷ x ∷ [])) → (bs : List ℕ) → WideEnd lo hi 0 bs → Wide (b ∷ bs)
+pub with-one : {b lo hi : ℕ} → ((x : ℕ) → In lo hi x → Wide (b ∷ x ∷ [])) → (bs : List ℕ) → WideEnd lo hi 0 bs → Wide (b ∷ bs)
 with-one h bs (wideEnd {b = x} i noCont) = h x i
 
-with-two : {b lo hi : ℕ} → ((x y : ℕ) → In lo hi x → In 0x80 0xBF y → Wide (b ∷ x ∷ y ∷ [])) → (bs : List ℕ) → WideEnd lo hi 1 bs → Wide (b ∷ bs)
+pub with-two : {b lo hi : ℕ} → ((x y : ℕ) → In lo hi x → In 0x80 0xBF y → Wide (b ∷ x ∷ y ∷ [])) → (bs : List ℕ) → WideEnd lo hi 1 bs → Wide (b ∷ bs)
 with-two h bs (wideEnd {b = x} i (cont {b = y} j noCont)) = h x y i j
 
-with-three : {b lo hi : ℕ} → ((x y z : ℕ) → In lo hi x → In 0x80 0xBF y → In 0x80 0xBF z → Wide (b ∷ x ∷ y ∷ z ∷ [])) → (bs : List ℕ) → WideEnd lo hi 2 bs → Wide (b ∷ bs)
+pub with-three : {b lo hi : ℕ} → ((x y z : ℕ) → In lo hi x → In 0x80 0xBF y → In 0x80 0xBF z → Wide (b ∷ x ∷ y ∷ z ∷ [])) → (bs : List ℕ) → WideEnd lo hi 2 bs → Wide (b ∷ bs)
 with-three h bs (wideEnd {b = x} i (cont {b = y} j (cont {b = z} k noCont))) = h x y z i j k
 
 wide-within : (b : ℕ) → Within (Kept mText b) b (wideRows (λ b lo hi n. still (mWide lo hi n) (b ∷ [])))

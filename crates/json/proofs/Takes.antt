@@ -9,7 +9,7 @@ use Rattle.json.specs.Bytes.{pick, past}
 use Rattle.json.specs.Tree.{Json, jnull, jbool, jstr, jarr, jobj, Items, inil, icons, isnoc, Members, mnil, mcons, msnoc}
 use Rattle.json.specs.Grammar.{Space, Quoted, Value, literalNull, literalTrue, literalFalse, whole, real, string, noElements, elements, noMembers, members, Padded, padded, Elements, lastElement, moreElements, Named, lastMember, moreMembers, Name, name, Text}
 use Rattle.json.specs.Machine.{mText, Frame, inArr, inObj, Stack, base, _▹_, room, asName, asValue, State, sVal, sElem, sAfter, sName0, sName, sColon, sStr, go, spaces, opened, starts, after, closed, litNext, step, tree, ended, finish, run, parseWithin}
-use Rattle.json.proofs.Feed.{pick-row, Feeds, stop, more, feeds-append, run-feeds, Idle, blank-row, feeds-space}
+use Rattle.json.proofs.Feed.{room-base, room-frame, pick-row, Feeds, stop, more, feeds-append, run-feeds, Idle, blank-row, feeds-space}
 use Rattle.json.proofs.TakesString.{feeds-quoted}
 use Rattle.json.proofs.TakesValue.{Starter, Opens, opens-val, opens-elem, Valued, valued, space-before, space-after, then-byte}
 use Rattle.json.proofs.TakesNumber.{whole-valued, real-valued}
@@ -54,10 +54,6 @@ first-bracket p k h = opened-go k (sElem p k) h
 first-brace : (p : ℕ) (k : Stack) → 0 < room k → step p (sVal k) 0x7B ≡ go (sName0 p k)
 unfolding step pick spaces starts
 first-brace p k h = opened-go k (sName0 p k) h
-
-room-frame : (f : Frame) (k : Stack) → room (f ▹ k) ≡ pred (room k)
-unfolding room
-room-frame f k = refl
 
 -- a bracket takes one of the room
 room-inside : {d : ℕ} (f : Frame) (k : Stack) → suc d ≤ room k → d ≤ room (f ▹ k)
@@ -204,10 +200,6 @@ mutual
       (name-then n m
       (next-member o ns ms k (padded-taken v (sVal (inObj o ns q s ▹ k)) (inObj o ns q s ▹ k) (opens-val _) (room-inside _ k h))
       (rw w at (members-taken t (sName o (msnoc ns q s j) k) o (msnoc ns q s j) k (opens-name o _ k) h))))
-
-room-base : (d : ℕ) → room (base d) ≡ d
-unfolding room
-room-base d = refl
 
 -- the machine takes every text of the grammar, with its tree
 pub takes-text : (d : ℕ) (j : Json) (bs : List ℕ) → Text d j bs → parseWithin d bs ≡ tree j

@@ -1,0 +1,70 @@
+// Leaves of typed reading: a value with no parts, at a place of the text, stored in the lent rows and pool; and the value of a missing element.
+// Contracts cite `ByPlaces.antt` of `places`; `specs/Step.antt` says what a reading answers and what it stores, for every reading above.
+pub mod missing; // missing.rt: the value of a missing element of an ARRAY
+pub mod store; // store.rt: stores that past the end do nothing
+mod strings; // strings.rt: ENUMERATED, OCTET STRING and UTF8String
+mod words; // words.rt: NULL, BOOLEAN and INTEGER
+
+use jer::Cause;
+use jer::Refusal;
+use strings::string;
+use types::token::BOOLEAN;
+use types::token::NULL;
+use types::token::NUMBER;
+use types::token::STRING;
+use words::boolean;
+use words::null;
+use words::number;
+ghost use mathlib.Core.Path.{_≡_};
+ghost use Prim.Native.Nat.{_^_, _≤_};
+ghost use lib.ListN.{length};
+ghost use Rattle.jer.specs.Table.{Token, tokenCode};
+ghost use Rattle.jer.specs.declared.Refusal.the-variants.{AtByte};
+ghost use Rattle.types.specs.Rows.{table};
+ghost use Rattle.places.specs.ByPlaces.{leafAt};
+ghost use Rattle.leaf.specs.declared.Step.the-variants as step;
+ghost use Rattle.leaf.specs.Step.{Stepped};
+
+// What reading a value answers.
+pub enum Step {
+    // The place after it, and how many rows and pool bytes it has.
+    Read {
+        next: usize,
+        rows: usize,
+        pool: usize,
+    },
+    Refused(Refusal),
+}
+
+// Refuses the text at p.
+pub fn refused(cause: Cause, p: usize) -> Step
+    ensures { λ r. ⌜ r ≡ step.Refused (AtByte cause p) ⌝ }
+{
+    Step::Refused(Refusal::AtByte(cause, p))
+}
+
+// The leaf of a token at p, of the type at `row`, which is not UNWRAPPED: its row is stored as row i, its bytes in the pool from o on.
+// Token 3, a string, stands in the text (`string-inside` of LeafLaws).
+pub fn leaf(
+    types: &[u32],
+    names: &[u8],
+    s: &[u8],
+    rows: &mut [u32],
+    pool: &mut [u8],
+    row: usize,
+    token: u32,
+    p: usize,
+    i: usize,
+    o: usize,
+) -> Step
+    requires { ⌜ (length (now s) ≤ 65536) × (token ≡ 3 → p ≤ 65536) × (i ≤ 2 ^ 60) ⌝ }
+    ensures { λ r. ⌜ ((k : Token) → token ≡ tokenCode k → Stepped r (now (rows .exit)) (now (rows .entry)) (now (pool .exit)) (now (pool .entry)) i o (table (now (types .entry)) (now (names .entry))) row (leafAt (table (now (types .entry)) (now (names .entry))) (now (s .entry)) k row p)) ⌝ }
+{
+    match token {
+        NULL => null(types, s, rows, row, p, i),
+        BOOLEAN => boolean(types, s, rows, row, p, i),
+        NUMBER => number(types, s, rows, row, p, i),
+        STRING => string(types, names, s, rows, pool, row, p, i, o),
+        _ => refused(Cause::OtherKind, p),
+    }
+}

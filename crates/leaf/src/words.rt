@@ -1,0 +1,70 @@
+// Leaves without bytes: NULL, BOOLEAN and INTEGER. They are stored as row i.
+use crate::Step;
+use crate::refused;
+use crate::store::put_row;
+use jer::Cause;
+use tokens::cursor::Class;
+use tokens::cursor::byte_at;
+use tokens::cursor::run;
+use tokens::numbers::Integer;
+use tokens::numbers::integer_at;
+use types::row::Row;
+use types::row::field;
+ghost use mathlib.Core.List.{List};
+ghost use Prim.Native.Nat.{ℕ, _^_, _≤_};
+ghost use Rattle.jer.specs.Table.{tNull, tBoolean, tNumber};
+ghost use Rattle.types.specs.Rows.{table};
+ghost use Rattle.places.specs.ByPlaces.{leafAt};
+ghost use Rattle.leaf.specs.Step.{Stepped};
+
+pub fn null(types: &[u32], s: &[u8], rows: &mut [u32], row: usize, p: usize, i: usize) -> Step
+    requires { ⌜ i ≤ 2 ^ 60 ⌝ }
+    ensures { λ r. ⌜ ((ns pool : List ℕ) (o : ℕ) → Stepped r (now (rows .exit)) (now (rows .entry)) pool pool i o (table (now (types .entry)) ns) row (leafAt (table (now (types .entry)) ns) (now (s .entry)) tNull row p)) ⌝ }
+{
+    let kind = field(types, row, 0);
+    if kind != Row::NULL {
+        return refused(Cause::OtherKind, p);
+    }
+    put_row(rows, i, kind, 0, 0, 1);
+    Step::Read {
+        next: run(s, p, Class::Word),
+        rows: 1,
+        pool: 0,
+    }
+}
+
+pub fn boolean(types: &[u32], s: &[u8], rows: &mut [u32], row: usize, p: usize, i: usize) -> Step
+    requires { ⌜ i ≤ 2 ^ 60 ⌝ }
+    ensures { λ r. ⌜ ((ns pool : List ℕ) (o : ℕ) → Stepped r (now (rows .exit)) (now (rows .entry)) pool pool i o (table (now (types .entry)) ns) row (leafAt (table (now (types .entry)) ns) (now (s .entry)) tBoolean row p)) ⌝ }
+{
+    let kind = field(types, row, 0);
+    if kind != Row::BOOLEAN {
+        return refused(Cause::OtherKind, p);
+    }
+    let b = byte_at(s, p) == 0x74;
+    put_row(rows, i, kind, b as u32, 0, 1);
+    Step::Read {
+        next: run(s, p, Class::Word),
+        rows: 1,
+        pool: 0,
+    }
+}
+
+pub fn number(types: &[u32], s: &[u8], rows: &mut [u32], row: usize, p: usize, i: usize) -> Step
+    requires { ⌜ i ≤ 2 ^ 60 ⌝ }
+    ensures { λ r. ⌜ ((ns pool : List ℕ) (o : ℕ) → Stepped r (now (rows .exit)) (now (rows .entry)) pool pool i o (table (now (types .entry)) ns) row (leafAt (table (now (types .entry)) ns) (now (s .entry)) tNumber row p)) ⌝ }
+{
+    let kind = field(types, row, 0);
+    if kind != Row::INTEGER {
+        return refused(Cause::OtherKind, p);
+    }
+    let Integer::Whole { low, high } = integer_at(s, p) else {
+        return refused(Cause::BadNumber, p);
+    };
+    put_row(rows, i, kind, low, high, 1);
+    Step::Read {
+        next: run(s, p, Class::Word),
+        rows: 1,
+        pool: 0,
+    }
+}
