@@ -47,14 +47,12 @@ def passenger(draw):
         draw.pick(('true', 'false')), draw.pick(CLASSES))
 
 
-def joined(items, most):
-    """As many items as fit an array of so many bytes."""
-    text = '[' + next(items)
-    for item in items:
-        if len(text) + len(item) + 2 > most:
-            return (text + ']').encode()
-        text += ',' + item
-    raise AssertionError('items do not end')
+def joined(items, least):
+    """As few items as make an array of so many bytes."""
+    text = next(items)
+    while len(text) + 2 < least:
+        text += ',' + next(items)
+    return ('[' + text + ']').encode()
 
 
 def passengers(draw):

@@ -16,9 +16,9 @@ has_expected() {
 $CC -std=c11 -O2 -Wall -Wextra -pedantic $LINK examples/c/*.c -L "$LIB" -lcapi -o $out/booking_c
 has_expected C $out/booking_c
 
-std_found=$(rustc $RUSTFLAGS --print target-libdir 2>/dev/null || true)
+std_found=$(rustc $RUST_TARGET --print target-libdir 2>/dev/null || true)
 if ls "$std_found"/libstd-*.rlib >/dev/null 2>&1; then
-    rustc --edition 2021 -O $RUSTFLAGS -L "$LIB" examples/rust/main.rs -o $out/booking_rust
+    rustc --edition 2021 -O $RUST_TARGET -L "$LIB" examples/rust/main.rs -o $out/booking_rust
     has_expected Rust $out/booking_rust
 else
     echo "Rust: not run: there is no rustc here with the standard library of x86_64-unknown-linux-gnu"

@@ -1,15 +1,16 @@
 # Sourced by examples/run.sh and bench/run.sh in the repository's root: how x86-64 programs are built and run here.
 # The archive of `rt staticlib` links only into x86-64 programs; on Arm they are cross-built with Debian's packages,
 # linked statically, and run through its emulator.
-# Sets CC, CXX, RUSTFLAGS, LINK, RUN and LIB. LIB=FOLDER in the environment names a folder with a libcapi.a made before.
+# Sets CC, CXX, LINK, RUST_TARGET, RUN and LIB. In the environment, CAPI_FOLDER names a folder with a libcapi.a that was
+# made before, and TRY_MACHINE=aarch64 tries Arm's way on x86-64.
 
-machine=${MACHINE:-$(uname -m)}
+machine=${TRY_MACHINE:-$(uname -m)}
 case $machine in
 x86_64)
-    CC=gcc CXX=g++ LINK= RUN= RUSTFLAGS= ;;
+    CC=gcc CXX=g++ LINK= RUN= RUST_TARGET= ;;
 aarch64)
     CC=x86_64-linux-gnu-gcc CXX=x86_64-linux-gnu-g++ LINK=-static RUN=qemu-x86_64
-    RUSTFLAGS="--target x86_64-unknown-linux-gnu -C linker=$CC -C target-feature=+crt-static" ;;
+    RUST_TARGET="--target x86_64-unknown-linux-gnu -C linker=$CC -C target-feature=+crt-static" ;;
 *)
     echo "no way is known to build x86-64 programs on $machine" >&2
     exit 2 ;;
@@ -29,7 +30,5 @@ aarch64)
     need "$RUN" qemu-user ;;
 esac
 
-if [ -z "${LIB:-}" ]; then
-    rt staticlib capi
-    LIB=target/staticlib
-fi
+LIB=${CAPI_FOLDER:-target/staticlib}
+[ -n "${CAPI_FOLDER:-}" ] || rt staticlib capi

@@ -1,5 +1,5 @@
-//! Safe wrappers of libcapi.a. `include/attrywind.h` says what a caller owes; here the borrow checker sees to it: a Rust slice
-//! is never null, is aligned, and a `&mut` one overlaps no other. What is left to test is tested below.
+//! Safe wrappers of libcapi.a. `include/attrywind.h` says what a caller owes; here the borrow checker sees to it: a slice
+//! of Rust is never null, is aligned, and a `&mut` one overlaps no other. So only the answer is tested.
 
 /// Field 0 of a row.
 pub mod kind {
