@@ -93,8 +93,13 @@ static void run(const char *folder, double seconds)
 {
     Contenders by = all();
     std::vector<Case> main_cases = load_all(folder, cases), lists = load_all(folder, list_sizes);
-    for (const auto &each : by)
+    for (const auto &each : by) {
         std::printf("%s: %s\n", each->name().c_str(), each->version().c_str());
+        // Wrong answers are found before anything is timed.
+        for (const std::vector<Case> *some : {&main_cases, &lists})
+            for (const Case &c : *some)
+                each->take(c);
+    }
     for (Way way : {Way::Read, Way::Write})
         show_rates(by, main_cases, way, seconds);
     std::printf("\njudging the type table, a part of each of our reads and writes, microseconds\n");

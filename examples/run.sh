@@ -8,7 +8,7 @@ mkdir -p $out
 
 # has_expected LANGUAGE PROGRAM
 has_expected() {
-    $RUN "$2" examples/booking >"$out/$1.txt"
+    $RUN "$2" examples/booking >"$out/$1.txt" || echo "$1: the program ended with status $?"
     diff -u examples/expected.txt "$out/$1.txt"
     echo "$1: as in examples/expected.txt"
 }

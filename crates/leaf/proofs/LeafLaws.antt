@@ -41,10 +41,10 @@ use Rattle.leaf.specs.Step.{Stepped}
 use Rattle.leaf.proofs.StoreLaws.{stepped, refuses, reads, rows-after}
 
 -- a value of one row and no bytes
-one-row : {rows₁ rows₀ pool : List ℕ} {i o : ℕ} {t : Table} {r q : ℕ} {x : Res (Got Val)} (v : Val) (k a b : ℕ) → x ≡ ok (got v q) → poolOf v ≡ []
-    → ((u : ℕ) → rowsOf v t r u ≡ row k a b 1 ∷ []) → rows₁ ≡ sets rows₀ (i * 4) (k ∷ a ∷ b ∷ 1 ∷ []) → Stepped (Read q 1 0) rows₁ rows₀ pool pool i o t r x
+one-row : {rows₁ rows₀ pool : List ℕ} {i o : ℕ} {t : Table} {r q : ℕ} {z : Step} {x : Res (Got Val)} (v : Val) (k a b : ℕ) → z ≡ Read q 1 0 → x ≡ ok (got v q) → poolOf v ≡ []
+    → ((u : ℕ) → rowsOf v t r u ≡ row k a b 1 ∷ []) → rows₁ ≡ sets rows₀ (i * 4) (k ∷ a ∷ b ∷ 1 ∷ []) → Stepped z rows₁ rows₀ pool pool i o t r x
 unfolding numbers
-one-row {o = o} v k a b h e w s = reads v h (rw (w 0, e)) (λ f. rw (w o) s) (λ f. rw e)
+one-row {o = o} v k a b d h e w s = reads v h (d ∙ rw (w 0, e)) (λ f. rw (w o) s) (λ f. rw e)
 
 -- ---- NULL, BOOLEAN and INTEGER
 
@@ -96,27 +96,27 @@ module _ (t : Table) (s : List ℕ) (r p : ℕ) {kind : ℕ} (e : kind ≡ field
       go none g = refl
       go (some n) g = absurd (let z : _≡_ {A = ℕ} 0 1 = cc in omega arith)
 
-  module _ {rows₁ rows₀ pool : List ℕ} {i o q : ℕ} (w : q ≡ runFrom (passes Word) s p) where
-    pub null-read : kind ≡ 3 → rows₁ ≡ sets rows₀ (i * 4) (kind ∷ 0 ∷ 0 ∷ 1 ∷ []) → Stepped (Read q 1 0) rows₁ rows₀ pool pool i o t r (leafAt t s tNull r p)
+  module _ {rows₁ rows₀ pool : List ℕ} {i o q : ℕ} {z : Step} (w : q ≡ runFrom (passes Word) s p) (d : z ≡ Read q 1 0) where
+    pub null-read : kind ≡ 3 → rows₁ ≡ sets rows₀ (i * 4) (kind ∷ 0 ∷ 0 ∷ 1 ∷ []) → Stepped z rows₁ rows₀ pool pool i o t r (leafAt t s tNull r p)
     unfolding leafAt ending bind poolOf rowsOf kindOf
-    null-read h f = one-row vNull kind 0 0 (rw (kind-same t r 3 p (ok vNull) (is-kind h), w, word s p)) refl (λ u. rw e) f
+    null-read h f = one-row vNull kind 0 0 d (rw (kind-same t r 3 p (ok vNull) (is-kind h), w, word s p)) refl (λ u. rw e) f
 
     pub boolean-read : kind ≡ 0 → {b : ℕ} → b ≡ byteAt s p → rows₁ ≡ sets rows₀ (i * 4) (kind ∷ boolByte (eqb b 0x74) ∷ 0 ∷ 1 ∷ [])
-        → Stepped (Read q 1 0) rows₁ rows₀ pool pool i o t r (leafAt t s tBoolean r p)
+        → Stepped z rows₁ rows₀ pool pool i o t r (leafAt t s tBoolean r p)
     unfolding leafAt ending bind poolOf rowsOf kindOf
-    boolean-read h {b = b} g f = one-row (vBool (eqb (byteAt s p) 0x74)) kind (boolByte (eqb b 0x74)) 0 (rw (kind-same t r 0 p (ok (vBool (eqb (byteAt s p) 0x74))) (is-kind h), w, word s p)) refl (λ u. rw (e, g, ← flag (eqb (byteAt s p) 0x74))) f
+    boolean-read h {b = b} g f = one-row (vBool (eqb (byteAt s p) 0x74)) kind (boolByte (eqb b 0x74)) 0 d (rw (kind-same t r 0 p (ok (vBool (eqb (byteAt s p) 0x74))) (is-kind h), w, word s p)) refl (λ u. rw (e, g, ← flag (eqb (byteAt s p) 0x74))) f
 
     pub number-read : kind ≡ 1 → {low high : ℕ} → integer.Whole low high ≡ integerOf (integerAt s p) → rows₁ ≡ sets rows₀ (i * 4) (kind ∷ low ∷ high ∷ 1 ∷ [])
-        → Stepped (Read q 1 0) rows₁ rows₀ pool pool i o t r (leafAt t s tNumber r p)
+        → Stepped z rows₁ rows₀ pool pool i o t r (leafAt t s tNumber r p)
     unfolding leafAt ending bind integerRead poolOf rowsOf kindOf
     number-read h {low = low} {high = high} g f = go (integerAt s p) refl g
       where
-        go : (x : Option ℕ) → integerAt s p ≡ x → integer.Whole low high ≡ integerOf x → Stepped (Read q 1 0) rows₁ rows₀ pool pool i o t r (leafAt t s tNumber r p)
+        go : (x : Option ℕ) → integerAt s p ≡ x → integer.Whole low high ≡ integerOf x → Stepped z rows₁ rows₀ pool pool i o t r (leafAt t s tNumber r p)
         go none y m = absurd (let z : _≡_ {A = ℕ} 0 1 = cc in omega arith)
         go (some n) y m =
             let a : low ≡ n % 2 ^ 32 = cc in
             let b : high ≡ n / 2 ^ 32 = cc in
-            one-row (vInt n) kind low high (rw (kind-same t r 1 p (integerRead p (integerAt s p)) (is-kind h), y, w, word s p)) refl (λ u. rw (e, a, b)) f
+            one-row (vInt n) kind low high d (rw (kind-same t r 1 p (integerRead p (integerAt s p)) (is-kind h), y, w, word s p)) refl (λ u. rw (e, a, b)) f
 
 -- ---- strings
 
@@ -198,10 +198,10 @@ module _ (t : Table) (r p q : ℕ) (y : Option ℕ) where
   unfolding readItem ending bind
   item-bad f e h = ap (λ (x : Option ℕ). ending q (readItem t r p x)) (found-nothing y f) ∙ rw (sym e ∙ h, readItem)
 
-  pub item-read : {rows₁ rows₀ pool : List ℕ} {i o k u : ℕ} {w : Row} → w ≡ rowOf t r → found.At k ≡ foundOf y → u ≡ q → rows₁ ≡ sets rows₀ (i * 4) (w .kind ∷ k ∷ 0 ∷ 1 ∷ [])
-      → Stepped (Read u 1 0) rows₁ rows₀ pool pool i o t r (ending q (readItem t r p y))
+  pub item-read : {rows₁ rows₀ pool : List ℕ} {i o k u : ℕ} {z : Step} {w : Row} → w ≡ rowOf t r → found.At k ≡ foundOf y → u ≡ q → rows₁ ≡ sets rows₀ (i * 4) (w .kind ∷ k ∷ 0 ∷ 1 ∷ [])
+      → z ≡ Read u 1 0 → Stepped z rows₁ rows₀ pool pool i o t r (ending q (readItem t r p y))
   unfolding readItem ending bind poolOf rowsOf
-  item-read {k = k} {w = w} e f m s = one-row (vEnum k) (w .kind) k 0 (ap (λ (x : Option ℕ). ending q (readItem t r p x)) (found-at y f) ∙ rw m) refl (λ u. rw e) s
+  item-read {k = k} {w = w} e f m s d = one-row (vEnum k) (w .kind) k 0 d (ap (λ (x : Option ℕ). ending q (readItem t r p x)) (found-at y f) ∙ rw m) refl (λ u. rw e) s
 
 -- ---- tokens
 

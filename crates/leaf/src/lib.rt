@@ -36,6 +36,16 @@ pub enum Step {
     Refused(Refusal),
 }
 
+pub fn read(next: usize, rows: usize, pool: usize) -> Step
+    ensures { λ r. ⌜ r ≡ step.Read next rows pool ⌝ }
+{
+    Step::Read {
+        next: next,
+        rows: rows,
+        pool: pool,
+    }
+}
+
 // Refuses the text at p.
 pub fn refused(cause: Cause, p: usize) -> Step
     ensures { λ r. ⌜ r ≡ step.Refused (AtByte cause p) ⌝ }

@@ -1,5 +1,6 @@
 // The value of an element that is missing at the end of an ARRAY.
 use crate::Step;
+use crate::read;
 use crate::refused;
 use crate::store::put_row;
 use jer::Cause;
@@ -37,11 +38,7 @@ pub fn missing(
             Found::At(k) => {
                 put_row(rows, i, w.kind, k, 0, 2);
                 put_row(rows, i + 1, field(types, type_at(types, m, k), 0), 0, 0, 1);
-                return Step::Read {
-                    next: next,
-                    rows: 2,
-                    pool: 0,
-                };
+                return read(next, 2, 0);
             }
             Found::Nothing => {
                 if w.extensible() {
@@ -53,11 +50,7 @@ pub fn missing(
     }
     if w.kind == Row::NULL {
         put_row(rows, i, w.kind, 0, 0, 1);
-        return Step::Read {
-            next: next,
-            rows: 1,
-            pool: 0,
-        };
+        return read(next, 1, 0);
     }
     refused(Cause::Missing(member), p)
 }

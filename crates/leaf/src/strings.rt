@@ -1,5 +1,6 @@
 // Leaves of strings: ENUMERATED, OCTET STRING and UTF8String. They are stored as row i, with their bytes in the pool from o on.
 use crate::Step;
+use crate::read;
 use crate::refused;
 use crate::store::narrow;
 use crate::store::put_row;
@@ -44,11 +45,7 @@ fn item(
     match position(types, names, s, row, p) {
         Found::At(k) => {
             put_row(rows, i, w.kind, k, 0, 1);
-            Step::Read {
-                next: string_end(s, p + 1),
-                rows: 1,
-                pool: 0,
-            }
+            read(string_end(s, p + 1), 1, 0)
         }
         Found::Nothing => {
             if w.extensible() {
@@ -87,11 +84,7 @@ fn bytes(rows: &mut [u32], i: usize, kind: u32, o: usize, n: usize, next: usize)
     ensures { λ _. ⌜ (o + n < 2 ^ 32 → now (rows .exit) ≡ sets (now (rows .entry)) (i * 4) (kind ∷ o ∷ n ∷ 1 ∷ [])) ⌝ }
 {
     put_row(rows, i, kind, narrow(o), narrow(n), 1);
-    Step::Read {
-        next: next,
-        rows: 1,
-        pool: n,
-    }
+    read(next, 1, n)
 }
 
 pub fn string(

@@ -1,5 +1,6 @@
 // Leaves without bytes: NULL, BOOLEAN and INTEGER. They are stored as row i.
 use crate::Step;
+use crate::read;
 use crate::refused;
 use crate::store::put_row;
 use jer::Cause;
@@ -26,11 +27,7 @@ pub fn null(types: &[u32], s: &[u8], rows: &mut [u32], row: usize, p: usize, i: 
         return refused(Cause::OtherKind, p);
     }
     put_row(rows, i, kind, 0, 0, 1);
-    Step::Read {
-        next: run(s, p, Class::Word),
-        rows: 1,
-        pool: 0,
-    }
+    read(run(s, p, Class::Word), 1, 0)
 }
 
 pub fn boolean(types: &[u32], s: &[u8], rows: &mut [u32], row: usize, p: usize, i: usize) -> Step
@@ -43,11 +40,7 @@ pub fn boolean(types: &[u32], s: &[u8], rows: &mut [u32], row: usize, p: usize, 
     }
     let b = byte_at(s, p) == 0x74;
     put_row(rows, i, kind, b as u32, 0, 1);
-    Step::Read {
-        next: run(s, p, Class::Word),
-        rows: 1,
-        pool: 0,
-    }
+    read(run(s, p, Class::Word), 1, 0)
 }
 
 pub fn number(types: &[u32], s: &[u8], rows: &mut [u32], row: usize, p: usize, i: usize) -> Step
@@ -62,9 +55,5 @@ pub fn number(types: &[u32], s: &[u8], rows: &mut [u32], row: usize, p: usize, i
         return refused(Cause::BadNumber, p);
     };
     put_row(rows, i, kind, low, high, 1);
-    Step::Read {
-        next: run(s, p, Class::Word),
-        rows: 1,
-        pool: 0,
-    }
+    read(run(s, p, Class::Word), 1, 0)
 }

@@ -36,16 +36,19 @@ field-requires c κs = search needs
 put-row-requires-2 : tie.Need-put-row-requires-2
 put-row-requires-2 c κs = search needs
 
+read-requires : tie.Need-read-requires
+read-requires c κs = search needs
+
 same-length : tie.Need-same-length
 same-length c = search needs
 
 returns : tie.Need-returns
 unfolding tokenCode
-returns c = let a = c .before .before .before .before .before .before .before .before .before .before .before .before .before .before .before .before .before .before .before .before .args in
-    let m = c .before .before .before .before .before .before .before .before .before .before .before .before .before .before .before .before .before .type-at in
-    let w = c .before .before .before .before .before .before .before .before .before .before .before .before .before .before .before .before .at in
+returns c = let a = c .before .before .before .before .before .before .before .before .before .before .before .before .before .before .before .before .before .before .before .before .before .args in
+    let m = c .before .before .before .before .before .before .before .before .before .before .before .before .before .before .before .before .before .before .type-at in
+    let w = c .before .before .before .before .before .before .before .before .before .before .before .before .before .before .before .before .before .at in
     λ ns pool o. let t = table (a .types .now) ns in
-    missing-two t (a .row) (a .p) (a .member) (a .next) (m .ensures ns) (missing-choice t (m .result) (a .p) (a .member) (c .before .before .before .before .before .before .before .before .before .before .before .before .before .before .before .is-unwrapped .ensures t (m .result) (w .ensures ns)) (c .before .before .before .before .before .before .before .before .before .before .before .before .before .before .if1 .taken) (sym (c .before .before .before .before .before .before .before .before .before .before .before .k .given .1) ∙ c .before .before .before .before .before .before .before .before .before .before .before .before .before .alternative .ensures ns tNull refl)) (w .ensures ns) (c .before .before .before .before .type-at2 .ensures ns) (c .before .before .before .field .ensures ns) (c .before .before .before .before .before .before .before .before .put-row .ensures) (c .before .before .put-row2 .ensures) refl
+    missing-two t (a .row) (a .p) (a .member) (a .next) (m .ensures ns) (missing-choice t (m .result) (a .p) (a .member) (c .before .before .before .before .before .before .before .before .before .before .before .before .before .before .before .before .is-unwrapped .ensures t (m .result) (w .ensures ns)) (c .before .before .before .before .before .before .before .before .before .before .before .before .before .before .before .if1 .taken) (sym (c .before .before .before .before .before .before .before .before .before .before .before .before .k .given .1) ∙ c .before .before .before .before .before .before .before .before .before .before .before .before .before .before .alternative .ensures ns tNull refl)) (w .ensures ns) (c .before .before .before .before .before .type-at2 .ensures ns) (c .before .before .before .before .field .ensures ns) (c .before .before .before .before .before .before .before .before .before .put-row .ensures) (c .before .before .before .put-row2 .ensures) (c .read .ensures)
 
 enum-told : tie.Need-enum-told
 enum-told c = search needs
@@ -78,15 +81,18 @@ returns-3 c = let a = c .before .before .before .before .before .before .before 
 put-row-requires-3 : tie.Need-put-row-requires-3
 put-row-requires-3 c κs = search needs
 
+read-requires-2 : tie.Need-read-requires-2
+read-requires-2 c κs = search needs
+
 same-length-2 : tie.Need-same-length-2
 same-length-2 c = search needs
 
 returns-4 : tie.Need-returns-4
-returns-4 c = let a = c .before .before .before .before .before .before .before .before .before .before .before .before .args in
-    let m = c .before .before .before .before .before .before .before .before .before .type-at in
-    let w = c .before .before .before .before .before .before .before .before .at in
+returns-4 c = let a = c .before .before .before .before .before .before .before .before .before .before .before .before .before .args in
+    let m = c .before .before .before .before .before .before .before .before .before .before .type-at in
+    let w = c .before .before .before .before .before .before .before .before .before .at in
     λ ns pool o. let t = table (a .types .now) ns in
-    missing-one t (a .row) (a .p) (a .member) (a .next) (m .ensures ns) (missing-null t (m .result) (a .p) (a .member) (c .before .before .before .before .before .before .before .is-unwrapped .ensures t (m .result) (w .ensures ns)) (c .before .before .before .before .before .before .if1 .left) (w .ensures ns) (c .before .before .before .before .if3 .taken)) (w .ensures ns) (c .before .before .put-row3 .ensures) refl
+    missing-one t (a .row) (a .p) (a .member) (a .next) (m .ensures ns) (missing-null t (m .result) (a .p) (a .member) (c .before .before .before .before .before .before .before .before .is-unwrapped .ensures t (m .result) (w .ensures ns)) (c .before .before .before .before .before .before .before .if1 .left) (w .ensures ns) (c .before .before .before .before .before .if3 .taken)) (w .ensures ns) (c .before .before .before .put-row3 .ensures) (c .read2 .ensures)
 
 refused-requires-3 : tie.Need-refused-requires-3
 refused-requires-3 c κs = search needs
@@ -112,6 +118,7 @@ missing-spec =
     type-at-requires-2
     field-requires
     put-row-requires-2
+    read-requires
     same-length
     returns
     enum-told
@@ -121,6 +128,7 @@ missing-spec =
     refused-requires-2
     returns-3
     put-row-requires-3
+    read-requires-2
     same-length-2
     returns-4
     refused-requires-3

@@ -1,4 +1,3 @@
-use mathlib.Core.Path.{refl}
 use Prim.Native.Nat.{_*_}
 use native.Mathlib.Omega.{arith}
 use Rattle.leaf.proofs.LeafLaws.{same-row}
@@ -15,13 +14,17 @@ narrow-requires-2 c κs = search needs
 put-row-requires : tie.Need-put-row-requires
 put-row-requires c κs = search needs
 
+read-requires : tie.Need-read-requires
+read-requires c κs = search needs
+
 same-length : tie.Need-same-length
 same-length c = search needs
 
 returns : tie.Need-returns
-returns c = let a = c .before .before .before .before .before .before .before .args in
-    (refl, λ h. same-row (a .rows .now) (a .i * 4) (a .kind) (c .before .before .put-row .ensures) (c .before .before .before .before .narrow .ensures (omega arith)) (c .before .before .before .narrow2 .ensures (omega arith)))
+returns c = let a = c .before .before .before .before .before .before .before .before .args in
+    (c .read .ensures, λ h. same-row (a .rows .now) (a .i * 4) (a .kind) (c .before .before .before .put-row .ensures) (c .before .before .before .before .before .narrow .ensures (omega arith)) (c .before .before .before .before .narrow2 .ensures (omega arith)))
 
 pub bytes-spec : {M : Type 1} → statement M
 bytes-spec =
-    tie.close (tie.spec narrow-requires narrow-requires-2 put-row-requires same-length returns)
+    tie.close
+    (tie.spec narrow-requires narrow-requires-2 put-row-requires read-requires same-length returns)

@@ -27,6 +27,9 @@ add-string-end c = search needs
 string-end-requires : tie.Need-string-end-requires
 string-end-requires c κs = search needs
 
+read-requires : tie.Need-read-requires
+read-requires c κs = search needs
+
 enum-told : tie.Need-enum-told
 enum-told c = search needs
 
@@ -43,9 +46,9 @@ same-length : tie.Need-same-length
 same-length c = search needs
 
 returns : tie.Need-returns
-returns c = let a = c .before .before .before .before .before .before .before .before .before .before .before .before .before .before .args in
+returns c = let a = c .before .before .before .before .before .before .before .before .before .before .before .before .before .before .before .args in
     let t = table (a .types .now) (a .names .now) in
-    λ pool o. item-read t (a .row) (a .p) (stringEnd (a .s .now) (a .p + 1)) (position t (a .row) (denoted (a .s .now) (a .p + 1))) (c .before .before .before .before .before .before .before .before .before .at .ensures (a .names .now)) (sym (c .before .before .before .before .before .before .k .given .1) ∙ c .before .before .before .before .before .before .before .before .position .ensures) (c .string-end .ensures) (c .before .before .before .put-row .ensures)
+    λ pool o. item-read t (a .row) (a .p) (stringEnd (a .s .now) (a .p + 1)) (position t (a .row) (denoted (a .s .now) (a .p + 1))) (c .before .before .before .before .before .before .before .before .before .before .at .ensures (a .names .now)) (sym (c .before .before .before .before .before .before .before .k .given .1) ∙ c .before .before .before .before .before .before .before .before .before .position .ensures) (c .before .string-end .ensures) (c .before .before .before .before .put-row .ensures) (c .read .ensures)
 
 returns-2 : tie.Need-returns-2
 returns-2 c = let a = c .before .before .before .before .before .before .before .before .before .before .before .args in
@@ -67,6 +70,7 @@ item-spec =
     put-row-requires
     add-string-end
     string-end-requires
+    read-requires
     enum-told
     extensible-requires
     refused-requires

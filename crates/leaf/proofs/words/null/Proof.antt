@@ -21,12 +21,15 @@ put-row-requires c κs = search needs
 run-requires : tie.Need-run-requires
 run-requires c κs = search needs
 
+read-requires : tie.Need-read-requires
+read-requires c κs = search needs
+
 same-length : tie.Need-same-length
 same-length c = search needs
 
 returns-2 : tie.Need-returns-2
-returns-2 c = let a = c .before .before .before .before .before .before .before .before .before .before .args in
-    λ ns pool o. null-read (table (a .types .now) ns) (a .s .now) (a .row) (a .p) (c .before .before .before .before .before .before .field .ensures ns) (c .run .ensures) (c .before .before .before .before .before .if1 .left) (c .before .before .before .put-row .ensures)
+returns-2 c = let a = c .before .before .before .before .before .before .before .before .before .before .before .args in
+    λ ns pool o. null-read (table (a .types .now) ns) (a .s .now) (a .row) (a .p) (c .before .before .before .before .before .before .before .field .ensures ns) (c .before .run .ensures) (c .read .ensures) (c .before .before .before .before .before .before .if1 .left) (c .before .before .before .before .put-row .ensures)
 
 pub null-spec : {M : Type 1} → statement M
 null-spec =
@@ -37,5 +40,6 @@ null-spec =
     returns
     put-row-requires
     run-requires
+    read-requires
     same-length
     returns-2)

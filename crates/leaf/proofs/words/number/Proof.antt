@@ -38,12 +38,15 @@ put-row-requires c κs = search needs
 run-requires : tie.Need-run-requires
 run-requires c κs = search needs
 
+read-requires : tie.Need-read-requires
+read-requires c κs = search needs
+
 same-length : tie.Need-same-length
 same-length c = search needs
 
 returns-3 : tie.Need-returns-3
-returns-3 c = let a = c .before .before .before .before .before .before .before .before .before .before .before .before .before .before .args in
-    λ ns pool o. number-read (table (a .types .now) ns) (a .s .now) (a .row) (a .p) (c .before .before .before .before .before .before .before .before .before .before .field .ensures ns) (c .run .ensures) (c .before .before .before .before .before .before .before .before .before .if1 .left) (sym (c .before .before .before .before .before .before .low .given .1) ∙ c .before .before .before .before .before .before .before .before .integer-at .ensures) (c .before .before .before .put-row .ensures)
+returns-3 c = let a = c .before .before .before .before .before .before .before .before .before .before .before .before .before .before .before .args in
+    λ ns pool o. number-read (table (a .types .now) ns) (a .s .now) (a .row) (a .p) (c .before .before .before .before .before .before .before .before .before .before .before .field .ensures ns) (c .before .run .ensures) (c .read .ensures) (c .before .before .before .before .before .before .before .before .before .before .if1 .left) (sym (c .before .before .before .before .before .before .before .low .given .1) ∙ c .before .before .before .before .before .before .before .before .before .integer-at .ensures) (c .before .before .before .before .put-row .ensures)
 
 pub number-spec : {M : Type 1} → statement M
 number-spec =
@@ -59,5 +62,6 @@ number-spec =
     returns-2
     put-row-requires
     run-requires
+    read-requires
     same-length
     returns-3)
