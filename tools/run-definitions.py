@@ -5,7 +5,7 @@
 
 Each case becomes an equation between two closed terms that antt computes. Of each of crates/*_cases every
 N-th case is taken (default 1: all), but for the long ones at the size limits. The crates json and jer are
-copied without their proofs to a temporary folder, and the equations are checked beside them.
+copied without their laws to a temporary folder, and the equations are checked beside them.
 """
 import argparse
 import pathlib
@@ -196,6 +196,8 @@ def main():
         for crate in CRATES:
             for part in ("src", "specs"):
                 shutil.copytree(ROOT / "crates" / crate / part, top / "crates" / crate / part)
+            for proof in (ROOT / "crates" / crate / "proofs").glob("*/Proof.antt"):
+                shutil.copytree(proof.parent, top / "crates" / crate / "proofs" / proof.parent.name)
         (top / "crates.txt").write_text("json:\njer: json\n")
         write_modules(top / "crates/jer/specs", chosen)
         run = subprocess.run(["rt", "check", "jer"], cwd=top, capture_output=True, text=True)
