@@ -172,7 +172,7 @@ def write_modules(specs, chosen):
     uses, unfold = header()
     declared = "Rattle.jer.specs.declared"
     extra = [f"use {declared}.{t}.{{{t}}}\nuse {declared}.{t}.the-variants as {t.lower()}" for t in ("Judged", "Reading", "Writing")]
-    types = ["use Rattle.jer.specs.Table.{Table}", "use Rattle.jer.specs.Value.{Val}", "use Rattle.jer.specs.Answer.{Res, ok, no, Values}"]
+    types = ["use Rattle.jer.specs.Table.{Table}", "use Rattle.jer.specs.Value.{Val}", "use Rattle.jer.specs.Answer.{Res, ok, no, Values, valuesOf}"]
     runs = "\n".join(l for l in uses if ".specs.jer" not in l)
     (specs / "Runs.antt").write_text(PRELUDE + runs + "\n" + "\n".join(extra + types) + "\n" + RUNS)
     modules = ["Runs"]
