@@ -60,3 +60,4 @@ pub mod AlikeOnly
 pub mod AlikeOnlyArray
 pub mod AlikeOnlyObject
 pub mod AlikeExactly
+pub mod MeansCalls

@@ -29,7 +29,8 @@ use Rattle.jer.proofs.JudgeTable.{TableOf, judge-fits, judged-rows}
 use Rattle.jer.proofs.SpellCalls.{written-reads-text}
 use Rattle.promises.specs.Contracts.{ReadCall, WriteCall}
 use Rattle.promises.proofs.Outcomes.{Stored, stored, Written, written}
-use Rattle.promises.proofs.Means.{Means, means, means-fits, Says, says, said, over-taken, numbers-length, stores, has-room}
+use Rattle.jer.proofs.MeansCalls.{Means, means, means-fits, Says, says, said}
+use Rattle.promises.proofs.Buffers.{over-taken, numbers-length, stores, has-room}
 
 -- a text with room for it, within the house size, is written
 writes : {t : Table} {ns pool text text′ : List ℕ} {w : Writing} (bs : List ℕ) → writeText t ns pool ≡ ok bs → length bs ≤ 65536 → length bs ≤ length text

@@ -25,7 +25,8 @@ use Rattle.jer.proofs.SpellCalls.{newer-reads-text}
 use Rattle.jer.proofs.OlderCalls.{Stored, stored, refused, older-stores}
 use Rattle.promises.specs.Contracts.{ReadCall, WriteCall}
 use Rattle.promises.proofs.Outcomes.{stored as was-stored, written}
-use Rattle.promises.proofs.Means.{says, over-taken, stores}
+use Rattle.jer.proofs.MeansCalls.{says}
+use Rattle.promises.proofs.Buffers.{over-taken, stores}
 
 -- What the older table answers, where the newer one stored v: the value cut down is stored, or 11 with nothing touched.
 pub data Older (old : Table) (rows pool : List ℕ) (v : Val) (r : Reading) (rows′ pool′ : List ℕ) : Bool → Type 0 where

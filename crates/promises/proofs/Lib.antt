@@ -1,5 +1,5 @@
 pub mod Outcomes
-pub mod Means
+pub mod Buffers
 pub mod Demand1
 pub mod Demand2
 pub mod Demand3

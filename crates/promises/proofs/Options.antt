@@ -18,7 +18,8 @@ use Rattle.jer.specs.Skipped.{SkipAlike, SameReading}
 use Rattle.jer.proofs.AlikeCalls.{respelled-texts, only-respelled-texts, skipped-stores}
 use Rattle.promises.specs.Contracts.{ReadCall}
 use Rattle.promises.proofs.Outcomes.{stored}
-use Rattle.promises.proofs.Means.{means, stores}
+use Rattle.jer.proofs.MeansCalls.{means}
+use Rattle.promises.proofs.Buffers.{stores}
 
 module _ {t : Table} {j k : Json} (s u : List ℕ) (js : Text 32 j s) (ku : Text 32 k u) (size : length u ≤ 65536) {rows pool : List ℕ} where
   -- "A text is read as the value that X.697 gives it, whatever options its sender chose": a text that says the same with other options

@@ -19,10 +19,8 @@ use Rattle.jer.specs.Value.{Val}
 use Rattle.jer.specs.Answer.{Res, ok, no}
 use Rattle.jer.specs.Rows.{rowsOf, poolOf}
 use Rattle.jer.specs.Calls.{readText, over, rowNumbers, roomy, readAnswer, rowsAfter, poolAfter, writeText, writeAnswer, textAfter, amount}
+use Rattle.jer.proofs.MeansCalls.{never}
 use Rattle.promises.specs.Contracts.{ReadCall, WriteCall}
-
-pub never : {A : Type 0} → _≡_ {A = ℕ} 0 1 → A
-never z = absurd (omega arith)
 
 -- ---- reading
 

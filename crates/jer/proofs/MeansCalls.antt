@@ -1,37 +1,34 @@
 -- What a successful reading or writing rests on: a good table, a JSON text, a well-formed value.
-use Prim.Native.Nat.{ℕ, suc, _+_, _*_, _≤_}
-use mathlib.Core.Path.{_≡_, refl, sym, ap, _∙_}
-use mathlib.Core.List.{List, [], _∷_, _++_}
-use mathlib.Core.Bool.{Bool, true, false, _&&_}
+use Prim.Native.Nat.{ℕ, _≤_}
+use mathlib.Core.Path.{_≡_, refl}
+use mathlib.Core.List.{List}
+use mathlib.Core.Bool.{Bool, true, false}
 use mathlib.Core.Option.{Option, none, some}
 use native.Mathlib.Omega.{arith}
 use lib.Dec.{leb}
-use lib.ListN.{length, take, drop}
-use lib.Seq.{take-at}
-use borrow.Author.Tests.{leb-true, le-leb}
+use lib.ListN.{length}
+use borrow.Author.Tests.{leb-true}
 use Rattle.json.specs.Tree.{Json}
 use Rattle.json.specs.Grammar.{Text}
 use Rattle.json.specs.Machine.{Parsed, tree, refused, notJson, tooDeep, parseWithin, parse}
 use Rattle.json.proofs.Sound.{text-taken}
-use Rattle.jer.specs.declared.Reading.{Reading}
-use Rattle.jer.specs.declared.Reading.the-variants as reading
 use Rattle.jer.specs.Table.{Table}
 use Rattle.jer.specs.Valid.{firstBad}
 use Rattle.jer.specs.Value.{Val}
 use Rattle.jer.specs.Answer.{Res, ok, no, bind}
 use Rattle.jer.specs.Read.{read}
-use Rattle.jer.specs.Rows.{ValueRow, numbers, rowsOf, poolOf}
 use Rattle.jer.specs.Judge.{judge}
 use Rattle.jer.specs.Write.{write}
 use Rattle.jer.specs.Fits.{Fits}
-use Rattle.jer.specs.Calls.{tableOf, goodTable, treeOf, goodText, readText, over, rowNumbers, roomy, readAnswer, rowsAfter, poolAfter, writeText}
+use Rattle.jer.specs.Calls.{tableOf, goodTable, treeOf, goodText, readText, writeText}
 use Rattle.jer.proofs.ValidSane.{valid-sane}
 use Rattle.jer.proofs.WeightGot.{steps}
 use Rattle.jer.proofs.JudgeRead.{text-fits}
-use Rattle.promises.specs.Contracts.{ReadCall}
-use Rattle.promises.proofs.Outcomes.{never}
 
-good-table : (t u : Table) → goodTable t ≡ ok u → firstBad t ≡ none
+pub never : {A : Type 0} → _≡_ {A = ℕ} 0 1 → A
+never z = absurd (omega arith)
+
+pub good-table : (t u : Table) → goodTable t ≡ ok u → firstBad t ≡ none
 unfolding goodTable tableOf
 good-table t u h = go (firstBad t) refl h
   where
@@ -44,7 +41,7 @@ pub record GoodText (s : List ℕ) (j : Json) : Type 0 where
   pub text : Text 32 j s
   pub size : length s ≤ 65536
 
-good-text : (s : List ℕ) (j : Json) → goodText s ≡ ok j → GoodText s j
+pub good-text : (s : List ℕ) (j : Json) → goodText s ≡ ok j → GoodText s j
 unfolding goodText treeOf parse
 good-text s j h = size (leb (length s) 65536) refl
   where
@@ -93,32 +90,3 @@ says t ns pool bs e =
 pub said : (t : Table) (ns pool : List ℕ) (v : Val) → firstBad t ≡ none → judge t ns pool ≡ ok v → writeText t ns pool ≡ ok (write v t 0)
 unfolding writeText goodTable tableOf bind
 said t ns pool v good j = rw (good, goodTable) (rw (j, bind))
-
--- ---- buffers
-
-pub over-taken : (xs buffer : List ℕ) (n : ℕ) → length xs ≡ n → take n (over xs buffer) ≡ xs
-unfolding over
-over-taken xs buffer n e = take-at xs (drop (length xs) buffer) n e
-
-pub numbers-length : (t : Table) (v : Val) → length (rowNumbers t v) ≡ length (rowsOf v t 0 0) * 4
-unfolding rowNumbers numbers
-numbers-length t v = go (rowsOf v t 0 0)
-  where
-    go : (ws : List ValueRow) → length (numbers ws) ≡ length ws * 4
-    go [] = refl
-    go (w ∷ ws) = omega (arith, go ws)
-
--- a value with room for it is stored
-pub stores : {t : Table} {s rows pool : List ℕ} {r : Reading} {rows′ pool′ : List ℕ} (v : Val) → readText t s ≡ ok v → roomy t v (length rows) (length pool) ≡ true
-    → ReadCall t s rows pool r rows′ pool′
-    → (r ≡ reading.Read (length (rowsOf v t 0 0)) (length (poolOf v))) × (rows′ ≡ over (rowNumbers t v) rows) × (pool′ ≡ over (poolOf v) pool)
-unfolding readAnswer rowsAfter poolAfter
-stores v e w c =
-    let a = rw e at (c .answer) in
-    let b = rw e at (c .rowsLeft) in
-    let d = rw e at (c .poolLeft) in
-    (rw (w, readAnswer) at a, rw (w, rowsAfter) at b, rw (w, poolAfter) at d)
-
-pub has-room : (t : Table) (v : Val) (n m : ℕ) → length (rowNumbers t v) ≤ n → length (poolOf v) ≤ m → roomy t v n m ≡ true
-unfolding roomy
-has-room t v n m a b = rw (le-leb _ _ a, le-leb _ _ b)

@@ -1,0 +1,45 @@
+-- Buffers that a call leaves, and the value that it stores there.
+use Prim.Native.Nat.{ℕ, _*_, _≤_}
+use mathlib.Core.Path.{_≡_, refl}
+use mathlib.Core.List.{List, [], _∷_, _++_}
+use mathlib.Core.Bool.{true, _&&_}
+use native.Mathlib.Omega.{arith}
+use lib.Dec.{leb}
+use lib.ListN.{length, take, drop}
+use lib.Seq.{take-at}
+use borrow.Author.Tests.{le-leb}
+use Rattle.jer.specs.declared.Reading.{Reading}
+use Rattle.jer.specs.declared.Reading.the-variants as reading
+use Rattle.jer.specs.Table.{Table}
+use Rattle.jer.specs.Value.{Val}
+use Rattle.jer.specs.Answer.{ok}
+use Rattle.jer.specs.Rows.{ValueRow, numbers, rowsOf, poolOf}
+use Rattle.jer.specs.Calls.{readText, over, rowNumbers, roomy, readAnswer, rowsAfter, poolAfter}
+use Rattle.promises.specs.Contracts.{ReadCall}
+
+pub over-taken : (xs buffer : List ℕ) (n : ℕ) → length xs ≡ n → take n (over xs buffer) ≡ xs
+unfolding over
+over-taken xs buffer n e = take-at xs (drop (length xs) buffer) n e
+
+pub numbers-length : (t : Table) (v : Val) → length (rowNumbers t v) ≡ length (rowsOf v t 0 0) * 4
+unfolding rowNumbers numbers
+numbers-length t v = go (rowsOf v t 0 0)
+  where
+    go : (ws : List ValueRow) → length (numbers ws) ≡ length ws * 4
+    go [] = refl
+    go (w ∷ ws) = omega (arith, go ws)
+
+-- a value with room for it is stored
+pub stores : {t : Table} {s rows pool : List ℕ} {r : Reading} {rows′ pool′ : List ℕ} (v : Val) → readText t s ≡ ok v → roomy t v (length rows) (length pool) ≡ true
+    → ReadCall t s rows pool r rows′ pool′
+    → (r ≡ reading.Read (length (rowsOf v t 0 0)) (length (poolOf v))) × (rows′ ≡ over (rowNumbers t v) rows) × (pool′ ≡ over (poolOf v) pool)
+unfolding readAnswer rowsAfter poolAfter
+stores v e w c =
+    let a = rw e at (c .answer) in
+    let b = rw e at (c .rowsLeft) in
+    let d = rw e at (c .poolLeft) in
+    (rw (w, readAnswer) at a, rw (w, rowsAfter) at b, rw (w, poolAfter) at d)
+
+pub has-room : (t : Table) (v : Val) (n m : ℕ) → length (rowNumbers t v) ≤ n → length (poolOf v) ≤ m → roomy t v n m ≡ true
+unfolding roomy
+has-room t v n m a b = rw (le-leb _ _ a, le-leb _ _ b)
