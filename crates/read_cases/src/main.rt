@@ -1,0 +1,110 @@
+// Reads the stored texts: five lines of hexadecimal each, type table, names, text, and the room for rows and pool.
+use hexlines::Input;
+use hexlines::Line;
+use hexlines::first;
+use hexlines::first_numbers;
+use hexlines::numbers;
+use hexlines::octets;
+use hexlines::print_octets;
+use hexlines::print_refusal;
+use hexlines::print_rows;
+use jer::Reading;
+
+// The first number of the next line.
+fn number(buf: &mut [u8], input: Input) -> Line {
+    let mut one = [0u32; 2];
+    let line = numbers(buf, input, &mut one);
+    let rest = line.input;
+    let n = one[0];
+    Line {
+        count: wide(n),
+        over: line.over,
+        input: rest,
+    }
+}
+
+fn wide(n: u32) -> usize {
+    n as usize
+}
+
+// Reads into the first n numbers and m bytes of what is lent, and prints the answer.
+fn answer(types: &[u32], names: &[u8], text: &[u8], n: usize, m: usize) {
+    let mut rows = [0u32; 16384];
+    let mut pool = [0u8; 16384];
+    match read_in(types, names, text, &mut rows, &mut pool, n, m) {
+        Reading::Refused(e) => {
+            print_refusal(e);
+        }
+        Reading::Read { rows: k, pool: j } => {
+            print_rows(&rows, k);
+            print_octets(first(&pool, j));
+        }
+    }
+}
+
+fn read_in(
+    types: &[u32],
+    names: &[u8],
+    text: &[u8],
+    rows: &mut [u32],
+    pool: &mut [u8],
+    n: usize,
+    m: usize,
+) -> Reading {
+    if rows.len() < n {
+        return reading::read(types, names, text, rows, pool);
+    }
+    if pool.len() < m {
+        return reading::read(types, names, text, rows, pool);
+    }
+    reading::read(types, names, text, &mut rows[..n], &mut pool[..m])
+}
+
+// The room of a case, and its answer.
+fn with_room(buf: &mut [u8], input: Input, types: &[u32], names: &[u8], text: &[u8]) -> Line {
+    let n = number(buf, input);
+    let at = n.input;
+    let m = number(buf, at);
+    answer(types, names, text, n.count, m.count);
+    m
+}
+
+fn with_text(buf: &mut [u8], input: Input, types: &[u32], names: &[u8]) -> Line {
+    let mut text = [0u8; 65600];
+    let c = octets(buf, input, &mut text);
+    let at = c.input;
+    with_room(buf, at, types, names, first(&text, c.count))
+}
+
+fn with_names(buf: &mut [u8], input: Input, types: &[u32]) -> Line {
+    let mut names = [0u8; 65600];
+    let b = octets(buf, input, &mut names);
+    let at = b.input;
+    with_text(buf, at, types, first(&names, b.count))
+}
+
+// Answers the case in the next five lines.
+fn one(buf: &mut [u8], input: Input) -> Line {
+    let mut types = [0u32; 33000];
+    let a = numbers(buf, input, &mut types);
+    if a.over {
+        return a;
+    }
+    let at = a.input;
+    with_names(buf, at, first_numbers(&types, a.count))
+}
+
+// Nothing says that the input ends: the loop counts its turns down from a number that no run uses up.
+fn main() {
+    let mut buf = io::large_buffer();
+    let mut input = Input { at: 0, end: 0 };
+    let mut turns: u32 = 4294967295;
+    while 0 < turns {
+        let line = one(&mut buf, input);
+        if line.over {
+            return;
+        }
+        input = line.input;
+        turns -= 1;
+    }
+}

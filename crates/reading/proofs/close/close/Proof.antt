@@ -1,0 +1,52 @@
+use mathlib.Core.Path.{_≡_, ap, _∙_}
+use mathlib.Core.List.{[], _∷_}
+use Prim.Native.Nat.{ℕ, _*_}
+use lib.Seq.{sets}
+use borrow.Author.Needs.{needs}
+use Rattle.reading.proofs.close.close.Statement.{statement}
+use Rattle.reading.proofs.close.close.Tie as tie
+use Rattle.reading.proofs.close.close.Reads as reads
+use Rattle.reading.proofs.close.close.Lts as lts
+use Rattle.leaf.proofs.store.narrow.Reads as narrow-reads
+use Rattle.leaf.proofs.store.put_row.Reads as put-row-reads
+use Rattle.reading.proofs.close.bounded.Reads as bounded-reads
+
+-- src/close.rt:52:41
+add-narrow : tie.Need-add-narrow
+add-narrow c = search needs
+
+-- src/close.rt:52:34
+narrow-requires : tie.Need-narrow-requires
+narrow-requires c κs = search needs
+
+-- src/close.rt:52:5
+put-row-requires : tie.Need-put-row-requires
+put-row-requires c κs = search needs
+
+-- src/close.rt:55:15
+add-t12 : tie.Need-add-t12
+add-t12 c = search needs
+
+-- src/close.rt:53:5
+bounded-requires : tie.Need-bounded-requires
+bounded-requires c κs = search needs
+
+-- src/close.rt:47:1
+same-length : tie.Need-same-length
+same-length c = search needs
+
+-- src/close.rt:47:1
+returns : tie.Need-returns
+returns c = (c .bounded .ensures, λ l. c .before .before .before .put-row .ensures ∙ ap (λ (x : ℕ). sets (c .before .before .before .before .before .before .before .args .rows .now) (c .before .before .before .before .before .before .before .args .i * 4) (c .before .before .before .before .before .before .before .args .kind ∷ c .before .before .before .before .before .before .before .args .a ∷ 0 ∷ x ∷ [])) (c .before .before .before .before .narrow .ensures l))
+
+pub close-spec : {M : Type 1} → statement M
+close-spec =
+    tie.close
+    (tie.spec
+    add-narrow
+    narrow-requires
+    put-row-requires
+    add-t12
+    bounded-requires
+    same-length
+    returns)

@@ -1,0 +1,1330 @@
+use Prim.Native.Nat.{ℕ, _<_, _≤_, _+_, _-_, _*_}
+use mathlib.Core.Path.{_≡_, refl, sym, ap, _∙_}
+use native.Mathlib.Omega.{arith}
+use borrow.Author.Tests.{not-true, not-false}
+use lib.ListN.{length}
+use Rattle.jer.specs.Table.{extensible, elementOf, countOf, typeAt}
+use Rattle.jer.specs.Value.{Val}
+use Rattle.jer.specs.Answer.{Res, bind}
+use Rattle.jer.specs.declared.Cause.the-variants.{OtherKind, UnknownName}
+use Rattle.types.specs.Rows.{table}
+use Rattle.jer.specs.Read.{missingElement}
+use Rattle.places.specs.ByPlaces.{ending, Got, firstPart, tokenAt, leafAt, within, readAt, itemsAt, elementsAt, membersAt, noPlaces}
+use Rattle.scan.specs.Enums.{followsOf}
+use Rattle.scan.proofs.WithinLaws.{space-within}
+use Rattle.tokens.specs.Places.{pastSpace}
+use Rattle.tokens.specs.Strings.{denoted}
+use Rattle.reading.specs.Members.{oneOf, nextOf, surplusOf}
+use Rattle.leaf.specs.declared.Step.the-variants as step
+use Rattle.reading.specs.Cycle.{limit, plainAt}
+use Rattle.reading.proofs.StoredLaws.{took, not-took, whole-list, whole-seq, whole-choice, closed, along, reads-no}
+use Rattle.reading.proofs.ListLaws.{Near, near-first, near-after, near-part, near-shut, Loop, loop-start, loop-shut, loop-full, loop-refused, loop-more}
+use Rattle.reading.proofs.SequenceLaws.{Elements, elements-start, elements-absent, elements-lost, elements-null, elements-refused, elements-more, elements-end, elements-surplus, near-absent, near-follows, near-there, surplus-near, InOrder, order-start, order-missing, order-absent, order-refused, order-more, order-end, object-ok, object-no, member-is, there-place, object-scanned, object-stopped, scan-near}
+use Rattle.scan.specs.declared.Ended.{Ended}
+use Rattle.scan.specs.Enums.{endedOf}
+use Rattle.reading.proofs.PlainLaws.{element-is, count-is, array-kind, object-kind, unwrapped-kind, value-plain, value-none, value-refused, value-picked, plain-leaf, plain-deep, plain-list, plain-array, plain-no-array, plain-choice, plain-object, plain-no-object, token-inside, token-array, token-object, string-not, string-code, positive, sequence-is, choice-not-one, choice-none, choice-refused, choice-picked, missing-small, missing-no, bounded-reads, bounded-near, leaf-near}
+use Rattle.reading.proofs.CycleLaws.{passed, failed, given-below, given-type, given-part, given-one, over-ok, over-no, list-ok, list-no, array-ok, array-no, found-some, found-none, at-row, at-place, one-near, unknown-reads, unknown-over}
+use Rattle.places.proofs.MeaningNames.{alternative-found, position-found}
+use Rattle.types.specs.declared.row.Row.{Row}
+use borrow.Author.Needs.{needs}
+use borrow.Fn.Kinds.{In}
+use borrow.Fn.PlainCycle.{Measures, is, falls, and}
+use Rattle.reading.proofs.cycle.array.Reads as array
+use Rattle.reading.proofs.cycle.array.Kinds as array-kinds
+use Rattle.reading.proofs.cycle.+array+choice+each_member+list+object+plain+value.Lts-array as array-lts
+use Rattle.reading.proofs.cycle.choice.Reads as choice
+use Rattle.reading.proofs.cycle.choice.Kinds as choice-kinds
+use Rattle.reading.proofs.cycle.+array+choice+each_member+list+object+plain+value.Lts-choice as choice-lts
+use Rattle.reading.proofs.cycle.each_member.Reads as each-member
+use Rattle.reading.proofs.cycle.each_member.Kinds as each-member-kinds
+use Rattle.reading.proofs.cycle.+array+choice+each_member+list+object+plain+value.Lts-each_member as each-member-lts
+use Rattle.reading.proofs.cycle.list.Reads as list
+use Rattle.reading.proofs.cycle.list.Kinds as list-kinds
+use Rattle.reading.proofs.cycle.+array+choice+each_member+list+object+plain+value.Lts-list as list-lts
+use Rattle.reading.proofs.cycle.object.Reads as object
+use Rattle.reading.proofs.cycle.object.Kinds as object-kinds
+use Rattle.reading.proofs.cycle.+array+choice+each_member+list+object+plain+value.Lts-object as object-lts
+use Rattle.reading.proofs.cycle.plain.Reads as plain
+use Rattle.reading.proofs.cycle.plain.Kinds as plain-kinds
+use Rattle.reading.proofs.cycle.+array+choice+each_member+list+object+plain+value.Lts-plain as plain-lts
+use Rattle.reading.proofs.cycle.value.Reads as value
+use Rattle.reading.proofs.cycle.value.Kinds as value-kinds
+use Rattle.reading.proofs.cycle.+array+choice+each_member+list+object+plain+value.Lts-value as value-lts
+use Rattle.leaf.proofs.leaf.Reads as leaf-reads
+use Rattle.leaf.proofs.missing.missing.Reads as missing-reads
+use Rattle.leaf.proofs.refused.Reads as refused-reads
+use Rattle.leaf.proofs.store.narrow.Reads as narrow-reads
+use Rattle.leaf.proofs.store.put_row.Reads as put-row-reads
+use Rattle.reading.proofs.close.bounded.Reads as bounded-reads
+use Rattle.reading.proofs.close.close.Reads as close-reads
+use Rattle.reading.proofs.members.element_found.Reads as element-found-reads
+use Rattle.reading.proofs.members.member_found.Reads as member-found-reads
+use Rattle.reading.proofs.members.one_at.Reads as one-at-reads
+use Rattle.reading.proofs.members.surplus.Reads as surplus-reads
+use Rattle.reading.proofs.members.unknown.Reads as unknown-reads
+use Rattle.scan.proofs.met.bit.Reads as bit-reads
+use Rattle.scan.proofs.met.ones.Reads as ones-reads
+use Rattle.scan.proofs.met.with.Reads as with-reads
+use Rattle.scan.proofs.names.position.Reads as position-reads
+use Rattle.scan.proofs.names.value_place.Reads as value-place-reads
+use Rattle.scan.proofs.parts.after_part.Reads as after-part-reads
+use Rattle.scan.proofs.parts.first_part.Reads as first-part-reads
+use Rattle.scan.proofs.parts.token_at.Reads as token-at-reads
+use Rattle.scan.proofs.scan.Reads as scan-reads
+use Rattle.tokens.proofs.cursor.Cursor.advance.Reads as advance-reads
+use Rattle.tokens.proofs.cursor.Cursor.skip_space.Reads as skip-space-reads
+use Rattle.types.proofs.row.Row.at.Reads as at-reads
+use Rattle.types.proofs.row.Row.is_array.Reads as is-array-reads
+use Rattle.types.proofs.row.Row.is_unwrapped.Reads as is-unwrapped-reads
+use Rattle.types.proofs.row.field.Reads as field-reads
+use Rattle.types.proofs.row.type_at.Reads as type-at-reads
+use Rattle.types.proofs.row.wide.Reads as wide-reads
+use Rattle.types.proofs.token.alternative.Reads as alternative-reads
+use Rattle.reading.proofs.cycle.+array+choice+each_member+list+object+plain+value.{
+  statement,
+}
+use Rattle.reading.proofs.cycle.+array+choice+each_member+list+object+plain+value.Tie.{
+  close,
+}
+
+abbrev μ-array : Measures 5 array-kinds.ps ℕ
+μ-array κs a = a .1 .1 .1 .1 .1 .1 .1 .1 .1 .0 * 4 + 1
+
+abbrev μ-choice : Measures 5 choice-kinds.ps ℕ
+μ-choice κs a = a .1 .1 .1 .1 .1 .1 .1 .1 .1 .0 * 4 + 1
+
+abbrev μ-each-member : Measures 5 each-member-kinds.ps ℕ
+μ-each-member κs a = a .1 .1 .1 .1 .1 .1 .1 .1 .1 .1 .1 .1 .0 * 4
+
+abbrev μ-list : Measures 5 list-kinds.ps ℕ
+μ-list κs a = a .1 .1 .1 .1 .1 .1 .1 .1 .1 .0 * 4 + 1
+
+abbrev μ-object : Measures 5 object-kinds.ps ℕ
+μ-object κs a = a .1 .1 .1 .1 .1 .1 .1 .1 .1 .0 * 4 + 1
+
+abbrev μ-plain : Measures 5 plain-kinds.ps ℕ
+μ-plain κs a = a .1 .1 .1 .1 .1 .1 .1 .1 .1 .1 .0 * 4 + 2
+
+abbrev μ-value : Measures 5 value-kinds.ps ℕ
+μ-value κs a = a .1 .1 .1 .1 .1 .1 .1 .1 .1 .0 * 4 + 3
+
+abbrev array-at : ℕ → In 5 array-kinds.ps
+array-at t = and 5 array-kinds.ps (is 5 array-kinds.ps μ-array t) array.Pre
+
+abbrev array-below : ℕ → In 5 array-kinds.ps
+array-below t = and 5 array-kinds.ps (falls 5 array-kinds.ps _<_ μ-array t) array.Pre
+
+abbrev choice-at : ℕ → In 5 choice-kinds.ps
+choice-at t = and 5 choice-kinds.ps (is 5 choice-kinds.ps μ-choice t) choice.Pre
+
+abbrev choice-below : ℕ → In 5 choice-kinds.ps
+choice-below t = and 5 choice-kinds.ps (falls 5 choice-kinds.ps _<_ μ-choice t) choice.Pre
+
+abbrev each-member-at : ℕ → In 5 each-member-kinds.ps
+each-member-at t =
+    and 5 each-member-kinds.ps (is 5 each-member-kinds.ps μ-each-member t) each-member.Pre
+
+abbrev each-member-below : ℕ → In 5 each-member-kinds.ps
+each-member-below t =
+    and 5 each-member-kinds.ps (falls 5 each-member-kinds.ps _<_ μ-each-member t) each-member.Pre
+
+abbrev list-at : ℕ → In 5 list-kinds.ps
+list-at t = and 5 list-kinds.ps (is 5 list-kinds.ps μ-list t) list.Pre
+
+abbrev list-below : ℕ → In 5 list-kinds.ps
+list-below t = and 5 list-kinds.ps (falls 5 list-kinds.ps _<_ μ-list t) list.Pre
+
+abbrev object-at : ℕ → In 5 object-kinds.ps
+object-at t = and 5 object-kinds.ps (is 5 object-kinds.ps μ-object t) object.Pre
+
+abbrev object-below : ℕ → In 5 object-kinds.ps
+object-below t = and 5 object-kinds.ps (falls 5 object-kinds.ps _<_ μ-object t) object.Pre
+
+abbrev plain-at : ℕ → In 5 plain-kinds.ps
+plain-at t = and 5 plain-kinds.ps (is 5 plain-kinds.ps μ-plain t) plain.Pre
+
+abbrev plain-below : ℕ → In 5 plain-kinds.ps
+plain-below t = and 5 plain-kinds.ps (falls 5 plain-kinds.ps _<_ μ-plain t) plain.Pre
+
+abbrev value-at : ℕ → In 5 value-kinds.ps
+value-at t = and 5 value-kinds.ps (is 5 value-kinds.ps μ-value t) value.Pre
+
+abbrev value-below : ℕ → In 5 value-kinds.ps
+value-below t = and 5 value-kinds.ps (falls 5 value-kinds.ps _<_ μ-value t) value.Pre
+
+abbrev array-calls : ℕ → array-lts.Claims
+array-calls t = (field-reads.Asked, field-reads.Learnt, first-part-reads.Asked, first-part-reads.Learnt, element-found-reads.Asked, element-found-reads.Learnt, put-row-reads.Asked, put-row-reads.Learnt, missing-reads.Asked, missing-reads.Learnt, with-reads.Asked, with-reads.Learnt, type-at-reads.Asked, type-at-reads.Learnt, value-below t, value.Post, after-part-reads.Asked, after-part-reads.Learnt, surplus-reads.Asked, surplus-reads.Learnt, ones-reads.Asked, ones-reads.Learnt, close-reads.Asked, close-reads.Learnt)
+
+abbrev choice-calls : ℕ → choice-lts.Claims
+choice-calls t = (one-at-reads.Asked, one-at-reads.Learnt, refused-reads.Asked, refused-reads.Learnt, position-reads.Asked, position-reads.Learnt, unknown-reads.Asked, unknown-reads.Learnt, type-at-reads.Asked, type-at-reads.Learnt, value-place-reads.Asked, value-place-reads.Learnt, value-below t, value.Post, skip-space-reads.Asked, skip-space-reads.Learnt, advance-reads.Asked, advance-reads.Learnt, close-reads.Asked, close-reads.Learnt)
+
+abbrev each-member-calls : ℕ → each-member-lts.Claims
+each-member-calls t = (field-reads.Asked, field-reads.Learnt, wide-reads.Asked, wide-reads.Learnt, bit-reads.Asked, bit-reads.Learnt, member-found-reads.Asked, member-found-reads.Learnt, refused-reads.Asked, refused-reads.Learnt, put-row-reads.Asked, put-row-reads.Learnt, type-at-reads.Asked, type-at-reads.Learnt, value-below t, value.Post, with-reads.Asked, with-reads.Learnt, ones-reads.Asked, ones-reads.Learnt, close-reads.Asked, close-reads.Learnt)
+
+abbrev list-calls : ℕ → list-lts.Claims
+list-calls t = (field-reads.Asked, field-reads.Learnt, wide-reads.Asked, wide-reads.Learnt, first-part-reads.Asked, first-part-reads.Learnt, narrow-reads.Asked, narrow-reads.Learnt, close-reads.Asked, close-reads.Learnt, value-below t, value.Post, after-part-reads.Asked, after-part-reads.Learnt)
+
+abbrev object-calls : ℕ → object-lts.Claims
+object-calls t = (scan-reads.Asked, scan-reads.Learnt, each-member-below t, each-member.Post)
+
+abbrev plain-calls : ℕ → plain-lts.Claims
+plain-calls t = (leaf-reads.Asked, leaf-reads.Learnt, bounded-reads.Asked, bounded-reads.Learnt, refused-reads.Asked, refused-reads.Learnt, at-reads.Asked, at-reads.Learnt, list-below t, list.Post, is-array-reads.Asked, is-array-reads.Learnt, array-below t, array.Post, choice-below t, choice.Post, object-below t, object.Post)
+
+abbrev value-calls : ℕ → value-lts.Claims
+value-calls t = (token-at-reads.Asked, token-at-reads.Learnt, at-reads.Asked, at-reads.Learnt, is-unwrapped-reads.Asked, is-unwrapped-reads.Learnt, plain-below t, plain.Post, alternative-reads.Asked, alternative-reads.Learnt, unknown-reads.Asked, unknown-reads.Learnt, type-at-reads.Asked, type-at-reads.Learnt, close-reads.Asked, close-reads.Learnt)
+
+abbrev array-Inv-loop : array-lts.InvT-loop
+array-Inv-loop types names s rows₀ pool₀ row p i o depth count next₀ k₀ present₀ n₀ m₀ rows pool next k present n m =
+    (count ≡ countOf (table types names) row) × (count ≤ 64) × Near (65539 + depth) (followsOf next) × Elements (λ q u. readAt (depth - 1) (table types names) s q u) (depth - 1) (table types names) s row p (elementsAt (λ q u. readAt (depth - 1) (table types names) s q u) (depth - 1) (table types names) s row p 0 (countOf (table types names) row) (firstPart s 0x5D p)) (followsOf next) i o n m k present rows rows₀ pool pool₀ × (k ≤ count)
+
+abbrev array-μ-loop : array-lts.MeasureT-loop
+array-μ-loop types names s rows₀ pool₀ row p i o depth count next₀ k₀ present₀ n₀ m₀ rows pool next k present n m =
+    count - k
+
+-- src/cycle.rt:209:9
+array-field-requires : (t : ℕ) → array-lts.Need-field-requires (array-calls t) (array-at t) array.Post array-Inv-loop array-μ-loop
+array-field-requires t c κs = search needs
+
+-- src/cycle.rt:210:9
+array-first-part-requires : (t : ℕ) → array-lts.Need-first-part-requires (array-calls t) (array-at t) array.Post array-Inv-loop array-μ-loop
+array-first-part-requires t c κs = search needs
+
+-- src/cycle.rt:215:5
+array-loop-holds : (t : ℕ) → array-lts.Need-loop-holds (array-calls t) (array-at t) array.Post array-Inv-loop array-μ-loop
+array-loop-holds t c = (count-is (table (c .before .before .before .before .before .before .before .args .types .now) (c .before .before .before .before .before .before .before .args .names .now)) (c .before .before .before .before .before .before .before .args .row) (c .before .field .ensures (c .before .before .before .before .before .before .before .args .names .now)), omega (arith, (c .before .before .before .before .before .before .before .pre .1 .0) .sane .few (c .before .before .before .before .before .before .before .args .row) ((c .before .before .before .before .before .before .before .pre .1 .0) .typed), count-is (table (c .before .before .before .before .before .before .before .args .types .now) (c .before .before .before .before .before .before .before .args .names .now)) (c .before .before .before .before .before .before .before .args .row) (c .before .field .ensures (c .before .before .before .before .before .before .before .args .names .now))), near-first (c .before .before .before .before .before .before .before .args .s .now) 0x5D (c .before .before .before .before .before .before .before .args .p) (65539 + c .before .before .before .before .before .before .before .args .depth) (followsOf (c .first-part .result)) ((c .before .before .before .before .before .before .before .pre .1 .0) .short) (c .before .before .before .before .before .before .before .pre .1 .1 .0) (omega (arith, c .before .before .before .before .before .before .before .pre .1 .1 .1)) (c .first-part .ensures), elements-start (λ q u. readAt (c .before .before .before .before .before .before .before .args .depth - 1) (table (c .before .before .before .before .before .before .before .args .types .now) (c .before .before .before .before .before .before .before .args .names .now)) (c .before .before .before .before .before .before .before .args .s .now) q u) (c .before .before .before .before .before .before .before .args .depth - 1) (table (c .before .before .before .before .before .before .before .args .types .now) (c .before .before .before .before .before .before .before .args .names .now)) (c .before .before .before .before .before .before .before .args .s .now) (c .before .before .before .before .before .before .before .args .row) (c .before .before .before .before .before .before .before .args .p) (firstPart (c .before .before .before .before .before .before .before .args .s .now) 0x5D (c .before .before .before .before .before .before .before .args .p)) (followsOf (c .first-part .result)) (c .before .before .before .before .before .before .before .args .i) (c .before .before .before .before .before .before .before .args .o) (c .before .before .before .before .before .before .before .args .rows .now) (c .before .before .before .before .before .before .before .args .pool .now) (c .first-part .ensures), omega arith)
+
+-- src/cycle.rt:216:15
+array-element-found-requires : (t : ℕ) → array-lts.Need-element-found-requires (array-calls t) (array-at t) array.Post array-Inv-loop array-μ-loop
+array-element-found-requires t c κs = ((c .before .before .before .before .before .before .before .before .before .pre .1 .0) .short, near-follows (65539 + c .before .before .before .before .before .before .before .before .before .args .depth) 4294967295 (followsOf (c .before .loop .next)) (omega (arith, (c .before .before .before .before .before .before .before .before .before .pre .1 .0) .rowRoom)) (omega arith) (c .before .loop .inv .2))
+
+-- src/cycle.rt:217:29
+array-enum-known-f : (t : ℕ) → array-lts.Need-enum-known-f (array-calls t) (array-at t) array.Post array-Inv-loop array-μ-loop
+array-enum-known-f t c = search needs
+
+-- src/cycle.rt:218:31
+array-add-put-row : (t : ℕ) → array-lts.Need-add-put-row (array-calls t) (array-at t) array.Post array-Inv-loop array-μ-loop
+array-add-put-row t c = search needs
+
+-- src/cycle.rt:218:31
+array-add-put-row-2 : (t : ℕ) → array-lts.Need-add-put-row-2 (array-calls t) (array-at t) array.Post array-Inv-loop array-μ-loop
+array-add-put-row-2 t c = search needs
+
+-- src/cycle.rt:218:17
+array-put-row-requires : (t : ℕ) → array-lts.Need-put-row-requires (array-calls t) (array-at t) array.Post array-Inv-loop array-μ-loop
+array-put-row-requires t c κs = search needs
+
+-- src/cycle.rt:220:17
+array-add-n : (t : ℕ) → array-lts.Need-add-n (array-calls t) (array-at t) array.Post array-Inv-loop array-μ-loop
+array-add-n t c = search needs
+
+-- src/cycle.rt:221:17
+array-add-k : (t : ℕ) → array-lts.Need-add-k (array-calls t) (array-at t) array.Post array-Inv-loop array-μ-loop
+array-add-k t c = search needs
+
+-- src/cycle.rt:215:5
+array-loop-less : (t : ℕ) → array-lts.Need-loop-less (array-calls t) (array-at t) array.Post array-Inv-loop array-μ-loop
+array-loop-less t c = search needs
+
+-- src/cycle.rt:215:5
+array-loop-again : (t : ℕ) → array-lts.Need-loop-again (array-calls t) (array-at t) array.Post array-Inv-loop array-μ-loop
+array-loop-again t c = (c .before .before .before .before .before .before .before .before .before .loop .inv .0, c .before .before .before .before .before .before .before .before .before .loop .inv .1, near-absent (table (c .before .before .before .before .before .before .before .before .before .before .before .before .before .before .before .before .before .args .types .now) (c .before .before .before .before .before .before .before .before .before .before .before .before .before .before .before .before .before .args .names .now)) (c .before .before .before .before .before .before .before .before .before .before .before .before .before .before .before .before .before .args .s .now) (c .before .before .before .before .before .before .before .before .before .before .before .before .before .before .before .before .before .args .row) (c .before .before .before .before .before .before .before .before .before .loop .k) (65539 + c .before .before .before .before .before .before .before .before .before .before .before .before .before .before .before .before .before .args .depth) (followsOf (c .before .before .before .before .before .before .before .before .before .loop .next)) (followsOf (c .before .before .before .before .before .f .given .0 .0)) ((c .before .before .before .before .before .before .before .before .before .before .before .before .before .before .before .before .before .pre .1 .0) .short) (omega (arith, c .before .before .before .before .before .before .before .before .before .before .before .before .before .before .before .before .before .pre .1 .1 .1)) (c .before .before .before .before .before .before .before .before .before .loop .inv .2) (sym (ap nextOf (c .before .before .before .before .before .f .given .1)) ∙ c .before .before .before .before .before .before .before .element-found .ensures (c .before .before .before .before .before .before .before .before .before .before .before .before .before .before .before .before .before .args .names .now)), elements-absent (λ q u. readAt (c .before .before .before .before .before .before .before .before .before .before .before .before .before .before .before .before .before .args .depth - 1) (table (c .before .before .before .before .before .before .before .before .before .before .before .before .before .before .before .before .before .args .types .now) (c .before .before .before .before .before .before .before .before .before .before .before .before .before .before .before .before .before .args .names .now)) (c .before .before .before .before .before .before .before .before .before .before .before .before .before .before .before .before .before .args .s .now) q u) (c .before .before .before .before .before .before .before .before .before .before .before .before .before .before .before .before .before .args .depth - 1) (table (c .before .before .before .before .before .before .before .before .before .before .before .before .before .before .before .before .before .args .types .now) (c .before .before .before .before .before .before .before .before .before .before .before .before .before .before .before .before .before .args .names .now)) (c .before .before .before .before .before .before .before .before .before .before .before .before .before .before .before .before .before .args .s .now) (c .before .before .before .before .before .before .before .before .before .before .before .before .before .before .before .before .before .args .row) (c .before .before .before .before .before .before .before .before .before .before .before .before .before .before .before .before .before .args .p) (c .before .before .before .before .before .before .before .before .before .loop .inv .3) (rw (← c .before .before .before .before .before .before .before .before .before .loop .inv .0) (c .before .before .before .before .before .before .before .before .loop-test .taken)) (sym (ap nextOf (c .before .before .before .before .before .f .given .1)) ∙ c .before .before .before .before .before .before .before .element-found .ensures (c .before .before .before .before .before .before .before .before .before .before .before .before .before .before .before .before .before .args .names .now)) (c .before .before .put-row .ensures) (c .before .before .put-row .kept .0), omega (arith, c .before .before .before .before .before .before .before .before .loop-test .taken))
+
+-- src/cycle.rt:223:30
+array-enum-known-q : (t : ℕ) → array-lts.Need-enum-known-q (array-calls t) (array-at t) array.Post array-Inv-loop array-μ-loop
+array-enum-known-q t c = search needs
+
+-- src/cycle.rt:223:77
+array-add-missing : (t : ℕ) → array-lts.Need-add-missing (array-calls t) (array-at t) array.Post array-Inv-loop array-μ-loop
+array-add-missing t c = search needs
+
+-- src/cycle.rt:223:77
+array-add-missing-2 : (t : ℕ) → array-lts.Need-add-missing-2 (array-calls t) (array-at t) array.Post array-Inv-loop array-μ-loop
+array-add-missing-2 t c = search needs
+
+-- src/cycle.rt:223:42
+array-missing-requires : (t : ℕ) → array-lts.Need-missing-requires (array-calls t) (array-at t) array.Post array-Inv-loop array-μ-loop
+array-missing-requires t c κs = search needs
+
+-- src/cycle.rt:224:31
+array-enum-known-e : (t : ℕ) → array-lts.Need-enum-known-e (array-calls t) (array-at t) array.Post array-Inv-loop array-μ-loop
+array-enum-known-e t c = search needs
+
+-- src/cycle.rt:225:21
+array-same-length : (t : ℕ) → array-lts.Need-same-length (array-calls t) (array-at t) array.Post array-Inv-loop array-μ-loop
+array-same-length t c = search needs
+
+-- src/cycle.rt:225:21
+array-same-length-2 : (t : ℕ) → array-lts.Need-same-length-2 (array-calls t) (array-at t) array.Post array-Inv-loop array-μ-loop
+array-same-length-2 t c = search needs
+
+-- src/cycle.rt:225:21
+array-returns : (t : ℕ) → array-lts.Need-returns (array-calls t) (array-at t) array.Post array-Inv-loop array-μ-loop
+array-returns t c = reads-no (over-no (table (c .before .before .before .before .before .before .before .before .before .before .before .before .before .before .before .before .before .before .before .before .args .types .now) (c .before .before .before .before .before .before .before .before .before .before .before .before .before .before .before .before .before .before .before .before .args .names .now)) (c .before .before .before .before .before .before .before .before .before .before .before .before .before .before .before .before .before .before .before .before .args .row) (array-no (λ q u. readAt (c .before .before .before .before .before .before .before .before .before .before .before .before .before .before .before .before .before .before .before .before .args .depth - 1) (table (c .before .before .before .before .before .before .before .before .before .before .before .before .before .before .before .before .before .before .before .before .args .types .now) (c .before .before .before .before .before .before .before .before .before .before .before .before .before .before .before .before .before .before .before .before .args .names .now)) (c .before .before .before .before .before .before .before .before .before .before .before .before .before .before .before .before .before .before .before .before .args .s .now) q u) (table (c .before .before .before .before .before .before .before .before .before .before .before .before .before .before .before .before .before .before .before .before .args .types .now) (c .before .before .before .before .before .before .before .before .before .before .before .before .before .before .before .before .before .before .before .before .args .names .now)) (c .before .before .before .before .before .before .before .before .before .before .before .before .before .before .before .before .before .before .before .before .args .s .now) (c .before .before .before .before .before .before .before .before .before .before .before .before .before .before .before .before .before .before .before .before .args .row) (c .before .before .before .before .before .before .before .before .before .before .before .before .before .before .before .before .before .before .before .before .args .p) (c .before .before .before .before .before .before .before .before .before .before .before .before .before .before .before .before .before .before .before .before .args .depth - 1) (elements-lost (λ q u. readAt (c .before .before .before .before .before .before .before .before .before .before .before .before .before .before .before .before .before .before .before .before .args .depth - 1) (table (c .before .before .before .before .before .before .before .before .before .before .before .before .before .before .before .before .before .before .before .before .args .types .now) (c .before .before .before .before .before .before .before .before .before .before .before .before .before .before .before .before .before .before .before .before .args .names .now)) (c .before .before .before .before .before .before .before .before .before .before .before .before .before .before .before .before .before .before .before .before .args .s .now) q u) (c .before .before .before .before .before .before .before .before .before .before .before .before .before .before .before .before .before .before .before .before .args .depth - 1) (table (c .before .before .before .before .before .before .before .before .before .before .before .before .before .before .before .before .before .before .before .before .args .types .now) (c .before .before .before .before .before .before .before .before .before .before .before .before .before .before .before .before .before .before .before .before .args .names .now)) (c .before .before .before .before .before .before .before .before .before .before .before .before .before .before .before .before .before .before .before .before .args .s .now) (c .before .before .before .before .before .before .before .before .before .before .before .before .before .before .before .before .before .before .before .before .args .row) (c .before .before .before .before .before .before .before .before .before .before .before .before .before .before .before .before .before .before .before .before .args .p) (c .before .before .before .before .before .before .before .before .before .before .before .before .loop .inv .3) (rw (← c .before .before .before .before .before .before .before .before .before .before .before .before .loop .inv .0) (c .before .before .before .before .before .before .before .before .before .before .before .loop-test .taken)) (sym (ap nextOf (c .before .before .before .before .before .before .before .before .q .given .1)) ∙ c .before .before .before .before .before .before .before .before .before .before .element-found .ensures (c .before .before .before .before .before .before .before .before .before .before .before .before .before .before .before .before .before .before .before .before .args .names .now)) (missing-no (table (c .before .before .before .before .before .before .before .before .before .before .before .before .before .before .before .before .before .before .before .before .args .types .now) (c .before .before .before .before .before .before .before .before .before .before .before .before .before .before .before .before .before .before .before .before .args .names .now)) (c .before .before .before .before .before .before .before .before .before .before .before .before .before .before .before .before .before .before .before .before .args .row) (c .before .before .before .before .before .before .before .before .before .before .before .before .before .before .before .before .before .before .before .before .args .p) (c .before .before .before .before .before .before .before .before .before .before .before .before .loop .k) (c .before .before .before .before .before .before .before .before .q .given .0 .0) (not-took (table (c .before .before .before .before .before .before .before .before .before .before .before .before .before .before .before .before .before .before .before .before .args .types .now) (c .before .before .before .before .before .before .before .before .before .before .before .before .before .before .before .before .before .before .before .before .args .names .now)) (typeAt (table (c .before .before .before .before .before .before .before .before .before .before .before .before .before .before .before .before .before .before .before .before .args .types .now) (c .before .before .before .before .before .before .before .before .before .before .before .before .before .before .before .before .before .before .before .before .args .names .now)) (c .before .before .before .before .before .before .before .before .before .before .before .before .before .before .before .before .before .before .before .before .args .row) (c .before .before .before .before .before .before .before .before .before .before .before .before .loop .k)) _ (c .before .e .given .0 .0) (sym (c .before .e .given .1) ∙ (c .before .before .before .before .before .missing .ensures (c .before .before .before .before .before .before .before .before .before .before .before .before .before .before .before .before .before .before .before .before .args .names .now) (c .before .before .before .before .before .before .before .before .before .before .before .before .loop .pool) (c .before .before .before .before .before .before .before .before .before .before .before .before .before .before .before .before .before .before .before .before .args .o + c .before .before .before .before .before .before .before .before .before .before .before .before .loop .m)) .answer))))))
+
+-- src/cycle.rt:229:27
+array-enum-known-a : (t : ℕ) → array-lts.Need-enum-known-a (array-calls t) (array-at t) array.Post array-Inv-loop array-μ-loop
+array-enum-known-a t c = search needs
+
+-- src/cycle.rt:232:21
+array-with-requires : (t : ℕ) → array-lts.Need-with-requires (array-calls t) (array-at t) array.Post array-Inv-loop array-μ-loop
+array-with-requires t c κs = search needs
+
+-- src/cycle.rt:233:21
+array-add-n-2 : (t : ℕ) → array-lts.Need-add-n-2 (array-calls t) (array-at t) array.Post array-Inv-loop array-μ-loop
+array-add-n-2 t c = omega (arith, missing-small (table (c .before .before .before .before .before .before .before .before .before .before .before .before .before .before .before .before .before .before .before .before .before .args .types .now) (c .before .before .before .before .before .before .before .before .before .before .before .before .before .before .before .before .before .before .before .before .before .args .names .now)) (c .before .before .before .before .before .before .before .before .before .before .before .before .before .before .before .before .before .before .before .before .before .args .row) (c .before .before .before .before .before .before .before .before .before .before .before .before .before .before .before .before .before .before .before .before .before .args .p) (c .before .before .before .before .before .before .before .before .before .before .before .before .before .loop .k) (c .before .before .before .before .before .before .before .before .before .q .given .0 .0) (took (table (c .before .before .before .before .before .before .before .before .before .before .before .before .before .before .before .before .before .before .before .before .before .args .types .now) (c .before .before .before .before .before .before .before .before .before .before .before .before .before .before .before .before .before .before .before .before .before .args .names .now)) (typeAt (table (c .before .before .before .before .before .before .before .before .before .before .before .before .before .before .before .before .before .before .before .before .before .args .types .now) (c .before .before .before .before .before .before .before .before .before .before .before .before .before .before .before .before .before .before .before .before .before .args .names .now)) (c .before .before .before .before .before .before .before .before .before .before .before .before .before .before .before .before .before .before .before .before .before .args .row) (c .before .before .before .before .before .before .before .before .before .before .before .before .before .loop .k)) (ending (c .before .before .before .before .before .before .before .before .before .q .given .0 .0) (missingElement (table (c .before .before .before .before .before .before .before .before .before .before .before .before .before .before .before .before .before .before .before .before .before .args .types .now) (c .before .before .before .before .before .before .before .before .before .before .before .before .before .before .before .before .before .before .before .before .before .args .names .now)) (c .before .before .before .before .before .before .before .before .before .before .before .before .before .before .before .before .before .before .before .before .before .args .row) (c .before .before .before .before .before .before .before .before .before .before .before .before .before .before .before .before .before .before .before .before .before .args .p) (c .before .before .before .before .before .before .before .before .before .before .before .before .before .loop .k))) (c .before .before .a .given .0 .0) (c .before .before .a .given .0 .1 .0) (c .before .before .a .given .0 .1 .1 .0) (sym (c .before .before .a .given .1) ∙ (c .before .before .before .before .before .before .missing .ensures (c .before .before .before .before .before .before .before .before .before .before .before .before .before .before .before .before .before .before .before .before .before .args .names .now) (c .before .before .before .before .before .before .before .before .before .before .before .before .before .loop .pool) (c .before .before .before .before .before .before .before .before .before .before .before .before .before .before .before .before .before .before .before .before .before .args .o + c .before .before .before .before .before .before .before .before .before .before .before .before .before .loop .m)) .answer)) .0, c .before .before .before .before .before .before .before .before .before .before .before .before .before .loop .inv .3 .done .sofar .fewRows, c .before .before .before .before .before .before .before .before .before .before .before .before .before .loop .inv .1, c .before .before .before .before .before .before .before .before .before .before .before .before .loop-test .taken)
+
+-- src/cycle.rt:234:21
+array-add-m : (t : ℕ) → array-lts.Need-add-m (array-calls t) (array-at t) array.Post array-Inv-loop array-μ-loop
+array-add-m t c = omega (arith, missing-small (table (c .before .before .before .before .before .before .before .before .before .before .before .before .before .before .before .before .before .before .before .before .before .args .types .now) (c .before .before .before .before .before .before .before .before .before .before .before .before .before .before .before .before .before .before .before .before .before .args .names .now)) (c .before .before .before .before .before .before .before .before .before .before .before .before .before .before .before .before .before .before .before .before .before .args .row) (c .before .before .before .before .before .before .before .before .before .before .before .before .before .before .before .before .before .before .before .before .before .args .p) (c .before .before .before .before .before .before .before .before .before .before .before .before .before .loop .k) (c .before .before .before .before .before .before .before .before .before .q .given .0 .0) (took (table (c .before .before .before .before .before .before .before .before .before .before .before .before .before .before .before .before .before .before .before .before .before .args .types .now) (c .before .before .before .before .before .before .before .before .before .before .before .before .before .before .before .before .before .before .before .before .before .args .names .now)) (typeAt (table (c .before .before .before .before .before .before .before .before .before .before .before .before .before .before .before .before .before .before .before .before .before .args .types .now) (c .before .before .before .before .before .before .before .before .before .before .before .before .before .before .before .before .before .before .before .before .before .args .names .now)) (c .before .before .before .before .before .before .before .before .before .before .before .before .before .before .before .before .before .before .before .before .before .args .row) (c .before .before .before .before .before .before .before .before .before .before .before .before .before .loop .k)) (ending (c .before .before .before .before .before .before .before .before .before .q .given .0 .0) (missingElement (table (c .before .before .before .before .before .before .before .before .before .before .before .before .before .before .before .before .before .before .before .before .before .args .types .now) (c .before .before .before .before .before .before .before .before .before .before .before .before .before .before .before .before .before .before .before .before .before .args .names .now)) (c .before .before .before .before .before .before .before .before .before .before .before .before .before .before .before .before .before .before .before .before .before .args .row) (c .before .before .before .before .before .before .before .before .before .before .before .before .before .before .before .before .before .before .before .before .before .args .p) (c .before .before .before .before .before .before .before .before .before .before .before .before .before .loop .k))) (c .before .before .a .given .0 .0) (c .before .before .a .given .0 .1 .0) (c .before .before .a .given .0 .1 .1 .0) (sym (c .before .before .a .given .1) ∙ (c .before .before .before .before .before .before .missing .ensures (c .before .before .before .before .before .before .before .before .before .before .before .before .before .before .before .before .before .before .before .before .before .args .names .now) (c .before .before .before .before .before .before .before .before .before .before .before .before .before .loop .pool) (c .before .before .before .before .before .before .before .before .before .before .before .before .before .before .before .before .before .before .before .before .before .args .o + c .before .before .before .before .before .before .before .before .before .before .before .before .before .loop .m)) .answer)) .1, c .before .before .before .before .before .before .before .before .before .before .before .before .before .loop .inv .3 .done .sofar .fewBytes, c .before .before .before .before .before .before .before .before .before .before .before .before .before .loop .inv .1, c .before .before .before .before .before .before .before .before .before .before .before .before .loop-test .taken)
+
+-- src/cycle.rt:235:21
+array-add-k-2 : (t : ℕ) → array-lts.Need-add-k-2 (array-calls t) (array-at t) array.Post array-Inv-loop array-μ-loop
+array-add-k-2 t c = search needs
+
+-- src/cycle.rt:215:5
+array-loop-less-2 : (t : ℕ) → array-lts.Need-loop-less-2 (array-calls t) (array-at t) array.Post array-Inv-loop array-μ-loop
+array-loop-less-2 t c = search needs
+
+-- src/cycle.rt:215:5
+array-loop-again-2 : (t : ℕ) → array-lts.Need-loop-again-2 (array-calls t) (array-at t) array.Post array-Inv-loop array-μ-loop
+array-loop-again-2 t c = (c .before .before .before .before .before .before .before .before .before .before .before .before .before .loop .inv .0, c .before .before .before .before .before .before .before .before .before .before .before .before .before .loop .inv .1, c .before .before .before .before .before .before .before .before .before .before .before .before .before .loop .inv .2, elements-null (λ q u. readAt (c .before .before .before .before .before .before .before .before .before .before .before .before .before .before .before .before .before .before .before .before .before .args .depth - 1) (table (c .before .before .before .before .before .before .before .before .before .before .before .before .before .before .before .before .before .before .before .before .before .args .types .now) (c .before .before .before .before .before .before .before .before .before .before .before .before .before .before .before .before .before .before .before .before .before .args .names .now)) (c .before .before .before .before .before .before .before .before .before .before .before .before .before .before .before .before .before .before .before .before .before .args .s .now) q u) (c .before .before .before .before .before .before .before .before .before .before .before .before .before .before .before .before .before .before .before .before .before .args .depth - 1) (table (c .before .before .before .before .before .before .before .before .before .before .before .before .before .before .before .before .before .before .before .before .before .args .types .now) (c .before .before .before .before .before .before .before .before .before .before .before .before .before .before .before .before .before .before .before .before .before .args .names .now)) (c .before .before .before .before .before .before .before .before .before .before .before .before .before .before .before .before .before .before .before .before .before .args .s .now) (c .before .before .before .before .before .before .before .before .before .before .before .before .before .before .before .before .before .before .before .before .before .args .row) (c .before .before .before .before .before .before .before .before .before .before .before .before .before .before .before .before .before .before .before .before .before .args .p) (c .before .before .before .before .before .before .before .before .before .before .before .before .before .loop .inv .3) (rw (← c .before .before .before .before .before .before .before .before .before .before .before .before .before .loop .inv .0) (c .before .before .before .before .before .before .before .before .before .before .before .before .loop-test .taken)) (sym (ap nextOf (c .before .before .before .before .before .before .before .before .before .q .given .1)) ∙ c .before .before .before .before .before .before .before .before .before .before .before .element-found .ensures (c .before .before .before .before .before .before .before .before .before .before .before .before .before .before .before .before .before .before .before .before .before .args .names .now)) (took (table (c .before .before .before .before .before .before .before .before .before .before .before .before .before .before .before .before .before .before .before .before .before .args .types .now) (c .before .before .before .before .before .before .before .before .before .before .before .before .before .before .before .before .before .before .before .before .before .args .names .now)) (typeAt (table (c .before .before .before .before .before .before .before .before .before .before .before .before .before .before .before .before .before .before .before .before .before .args .types .now) (c .before .before .before .before .before .before .before .before .before .before .before .before .before .before .before .before .before .before .before .before .before .args .names .now)) (c .before .before .before .before .before .before .before .before .before .before .before .before .before .before .before .before .before .before .before .before .before .args .row) (c .before .before .before .before .before .before .before .before .before .before .before .before .before .loop .k)) (ending (c .before .before .before .before .before .before .before .before .before .q .given .0 .0) (missingElement (table (c .before .before .before .before .before .before .before .before .before .before .before .before .before .before .before .before .before .before .before .before .before .args .types .now) (c .before .before .before .before .before .before .before .before .before .before .before .before .before .before .before .before .before .before .before .before .before .args .names .now)) (c .before .before .before .before .before .before .before .before .before .before .before .before .before .before .before .before .before .before .before .before .before .args .row) (c .before .before .before .before .before .before .before .before .before .before .before .before .before .before .before .before .before .before .before .before .before .args .p) (c .before .before .before .before .before .before .before .before .before .before .before .before .before .loop .k))) (c .before .before .a .given .0 .0) (c .before .before .a .given .0 .1 .0) (c .before .before .a .given .0 .1 .1 .0) (sym (c .before .before .a .given .1) ∙ (c .before .before .before .before .before .before .missing .ensures (c .before .before .before .before .before .before .before .before .before .before .before .before .before .before .before .before .before .before .before .before .before .args .names .now) (c .before .before .before .before .before .before .before .before .before .before .before .before .before .loop .pool) (c .before .before .before .before .before .before .before .before .before .before .before .before .before .before .before .before .before .before .before .before .before .args .o + c .before .before .before .before .before .before .before .before .before .before .before .before .before .loop .m)) .answer)) (c .before .before .before .before .before .before .missing .ensures (c .before .before .before .before .before .before .before .before .before .before .before .before .before .before .before .before .before .before .before .before .before .args .names .now) (c .before .before .before .before .before .before .before .before .before .before .before .before .before .loop .pool) (c .before .before .before .before .before .before .before .before .before .before .before .before .before .before .before .before .before .before .before .before .before .args .o + c .before .before .before .before .before .before .before .before .before .before .before .before .before .loop .m)) (missing-small (table (c .before .before .before .before .before .before .before .before .before .before .before .before .before .before .before .before .before .before .before .before .before .args .types .now) (c .before .before .before .before .before .before .before .before .before .before .before .before .before .before .before .before .before .before .before .before .before .args .names .now)) (c .before .before .before .before .before .before .before .before .before .before .before .before .before .before .before .before .before .before .before .before .before .args .row) (c .before .before .before .before .before .before .before .before .before .before .before .before .before .before .before .before .before .before .before .before .before .args .p) (c .before .before .before .before .before .before .before .before .before .before .before .before .before .loop .k) (c .before .before .before .before .before .before .before .before .before .q .given .0 .0) (took (table (c .before .before .before .before .before .before .before .before .before .before .before .before .before .before .before .before .before .before .before .before .before .args .types .now) (c .before .before .before .before .before .before .before .before .before .before .before .before .before .before .before .before .before .before .before .before .before .args .names .now)) (typeAt (table (c .before .before .before .before .before .before .before .before .before .before .before .before .before .before .before .before .before .before .before .before .before .args .types .now) (c .before .before .before .before .before .before .before .before .before .before .before .before .before .before .before .before .before .before .before .before .before .args .names .now)) (c .before .before .before .before .before .before .before .before .before .before .before .before .before .before .before .before .before .before .before .before .before .args .row) (c .before .before .before .before .before .before .before .before .before .before .before .before .before .loop .k)) (ending (c .before .before .before .before .before .before .before .before .before .q .given .0 .0) (missingElement (table (c .before .before .before .before .before .before .before .before .before .before .before .before .before .before .before .before .before .before .before .before .before .args .types .now) (c .before .before .before .before .before .before .before .before .before .before .before .before .before .before .before .before .before .before .before .before .before .args .names .now)) (c .before .before .before .before .before .before .before .before .before .before .before .before .before .before .before .before .before .before .before .before .before .args .row) (c .before .before .before .before .before .before .before .before .before .before .before .before .before .before .before .before .before .before .before .before .before .args .p) (c .before .before .before .before .before .before .before .before .before .before .before .before .before .loop .k))) (c .before .before .a .given .0 .0) (c .before .before .a .given .0 .1 .0) (c .before .before .a .given .0 .1 .1 .0) (sym (c .before .before .a .given .1) ∙ (c .before .before .before .before .before .before .missing .ensures (c .before .before .before .before .before .before .before .before .before .before .before .before .before .before .before .before .before .before .before .before .before .args .names .now) (c .before .before .before .before .before .before .before .before .before .before .before .before .before .loop .pool) (c .before .before .before .before .before .before .before .before .before .before .before .before .before .before .before .before .before .before .before .before .before .args .o + c .before .before .before .before .before .before .before .before .before .before .before .before .before .loop .m)) .answer)) .0) (missing-small (table (c .before .before .before .before .before .before .before .before .before .before .before .before .before .before .before .before .before .before .before .before .before .args .types .now) (c .before .before .before .before .before .before .before .before .before .before .before .before .before .before .before .before .before .before .before .before .before .args .names .now)) (c .before .before .before .before .before .before .before .before .before .before .before .before .before .before .before .before .before .before .before .before .before .args .row) (c .before .before .before .before .before .before .before .before .before .before .before .before .before .before .before .before .before .before .before .before .before .args .p) (c .before .before .before .before .before .before .before .before .before .before .before .before .before .loop .k) (c .before .before .before .before .before .before .before .before .before .q .given .0 .0) (took (table (c .before .before .before .before .before .before .before .before .before .before .before .before .before .before .before .before .before .before .before .before .before .args .types .now) (c .before .before .before .before .before .before .before .before .before .before .before .before .before .before .before .before .before .before .before .before .before .args .names .now)) (typeAt (table (c .before .before .before .before .before .before .before .before .before .before .before .before .before .before .before .before .before .before .before .before .before .args .types .now) (c .before .before .before .before .before .before .before .before .before .before .before .before .before .before .before .before .before .before .before .before .before .args .names .now)) (c .before .before .before .before .before .before .before .before .before .before .before .before .before .before .before .before .before .before .before .before .before .args .row) (c .before .before .before .before .before .before .before .before .before .before .before .before .before .loop .k)) (ending (c .before .before .before .before .before .before .before .before .before .q .given .0 .0) (missingElement (table (c .before .before .before .before .before .before .before .before .before .before .before .before .before .before .before .before .before .before .before .before .before .args .types .now) (c .before .before .before .before .before .before .before .before .before .before .before .before .before .before .before .before .before .before .before .before .before .args .names .now)) (c .before .before .before .before .before .before .before .before .before .before .before .before .before .before .before .before .before .before .before .before .before .args .row) (c .before .before .before .before .before .before .before .before .before .before .before .before .before .before .before .before .before .before .before .before .before .args .p) (c .before .before .before .before .before .before .before .before .before .before .before .before .before .loop .k))) (c .before .before .a .given .0 .0) (c .before .before .a .given .0 .1 .0) (c .before .before .a .given .0 .1 .1 .0) (sym (c .before .before .a .given .1) ∙ (c .before .before .before .before .before .before .missing .ensures (c .before .before .before .before .before .before .before .before .before .before .before .before .before .before .before .before .before .before .before .before .before .args .names .now) (c .before .before .before .before .before .before .before .before .before .before .before .before .before .loop .pool) (c .before .before .before .before .before .before .before .before .before .before .before .before .before .before .before .before .before .before .before .before .before .args .o + c .before .before .before .before .before .before .before .before .before .before .before .before .before .loop .m)) .answer)) .1) (c .before .before .before .before .before .before .missing .kept .1 .0) refl (c .with .ensures), omega (arith, c .before .before .before .before .before .before .before .before .before .before .before .before .loop-test .taken))
+
+-- src/cycle.rt:238:28
+array-enum-known-q-2 : (t : ℕ) → array-lts.Need-enum-known-q-2 (array-calls t) (array-at t) array.Post array-Inv-loop array-μ-loop
+array-enum-known-q-2 t c = search needs
+
+-- src/cycle.rt:239:21
+array-type-at-requires : (t : ℕ) → array-lts.Need-type-at-requires (array-calls t) (array-at t) array.Post array-Inv-loop array-μ-loop
+array-type-at-requires t c κs = search needs
+
+-- src/cycle.rt:248:21
+array-add-value : (t : ℕ) → array-lts.Need-add-value (array-calls t) (array-at t) array.Post array-Inv-loop array-μ-loop
+array-add-value t c = search needs
+
+-- src/cycle.rt:248:21
+array-add-value-2 : (t : ℕ) → array-lts.Need-add-value-2 (array-calls t) (array-at t) array.Post array-Inv-loop array-μ-loop
+array-add-value-2 t c = search needs
+
+-- src/cycle.rt:249:21
+array-add-value-3 : (t : ℕ) → array-lts.Need-add-value-3 (array-calls t) (array-at t) array.Post array-Inv-loop array-μ-loop
+array-add-value-3 t c = search needs
+
+-- src/cycle.rt:250:21
+array-sub-value : (t : ℕ) → array-lts.Need-sub-value (array-calls t) (array-at t) array.Post array-Inv-loop array-μ-loop
+array-sub-value t c = search needs
+
+-- src/cycle.rt:240:23
+array-value-requires : (t : ℕ) → array-lts.Need-value-requires (array-calls t) (array-at t) array.Post array-Inv-loop array-μ-loop
+array-value-requires t c κs = (omega arith, given-part (c .before .before .before .before .before .before .before .before .before .before .before .before .before .before .before .before .pre .1 .0) (c .before .before .before .before .before .before .before .before .before .before .before .before .before .before .before .before .pre .1 .1 .1) (rw (c .before .before .type-at .ensures (c .before .before .before .before .before .before .before .before .before .before .before .before .before .before .before .before .args .names .now)) ((c .before .before .before .before .before .before .before .before .before .before .before .before .before .before .before .before .pre .1 .0) .sane .member (c .before .before .before .before .before .before .before .before .before .before .before .before .before .before .before .before .args .row) (c .before .before .before .before .before .before .before .before .loop .k) ((c .before .before .before .before .before .before .before .before .before .before .before .before .before .before .before .before .pre .1 .0) .typed) (rw (← c .before .before .before .before .before .before .before .before .loop .inv .0) (c .before .before .before .before .before .before .before .loop-test .taken)))) (omega (arith, near-there (table (c .before .before .before .before .before .before .before .before .before .before .before .before .before .before .before .before .args .types .now) (c .before .before .before .before .before .before .before .before .before .before .before .before .before .before .before .before .args .names .now)) (c .before .before .before .before .before .before .before .before .before .before .before .before .before .before .before .before .args .s .now) (c .before .before .before .before .before .before .before .before .before .before .before .before .before .before .before .before .args .row) (c .before .before .before .before .before .before .before .before .loop .k) (65539 + c .before .before .before .before .before .before .before .before .before .before .before .before .before .before .before .before .args .depth) (followsOf (c .before .before .before .before .before .before .before .before .loop .next)) (c .before .before .before .before .before .before .before .before .loop .inv .2) (sym (ap nextOf (c .before .before .before .before .q2 .given .1)) ∙ c .before .before .before .before .before .before .element-found .ensures (c .before .before .before .before .before .before .before .before .before .before .before .before .before .before .before .before .args .names .now)))) (omega (arith, c .before .before .before .before .before .before .before .before .loop .inv .3 .done .sofar .fewRows, c .before .before .before .before .before .before .before .before .loop .inv .1, c .before .before .before .before .before .before .before .loop-test .taken)) (omega (arith, c .before .before .before .before .before .before .before .before .loop .inv .3 .done .sofar .fewBytes, c .before .before .before .before .before .before .before .before .loop .inv .1, c .before .before .before .before .before .before .before .loop-test .taken)))
+
+-- src/cycle.rt:252:35
+array-enum-known-e-2 : (t : ℕ) → array-lts.Need-enum-known-e-2 (array-calls t) (array-at t) array.Post array-Inv-loop array-μ-loop
+array-enum-known-e-2 t c = search needs
+
+-- src/cycle.rt:253:25
+array-same-length-3 : (t : ℕ) → array-lts.Need-same-length-3 (array-calls t) (array-at t) array.Post array-Inv-loop array-μ-loop
+array-same-length-3 t c = search needs
+
+-- src/cycle.rt:253:25
+array-same-length-4 : (t : ℕ) → array-lts.Need-same-length-4 (array-calls t) (array-at t) array.Post array-Inv-loop array-μ-loop
+array-same-length-4 t c = search needs
+
+-- src/cycle.rt:253:25
+array-returns-2 : (t : ℕ) → array-lts.Need-returns-2 (array-calls t) (array-at t) array.Post array-Inv-loop array-μ-loop
+array-returns-2 t c = reads-no (over-no (table (c .before .before .before .before .before .before .before .before .before .before .before .before .before .before .before .before .before .before .before .before .before .before .before .before .args .types .now) (c .before .before .before .before .before .before .before .before .before .before .before .before .before .before .before .before .before .before .before .before .before .before .before .before .args .names .now)) (c .before .before .before .before .before .before .before .before .before .before .before .before .before .before .before .before .before .before .before .before .before .before .before .before .args .row) (array-no (λ q u. readAt (c .before .before .before .before .before .before .before .before .before .before .before .before .before .before .before .before .before .before .before .before .before .before .before .before .args .depth - 1) (table (c .before .before .before .before .before .before .before .before .before .before .before .before .before .before .before .before .before .before .before .before .before .before .before .before .args .types .now) (c .before .before .before .before .before .before .before .before .before .before .before .before .before .before .before .before .before .before .before .before .before .before .before .before .args .names .now)) (c .before .before .before .before .before .before .before .before .before .before .before .before .before .before .before .before .before .before .before .before .before .before .before .before .args .s .now) q u) (table (c .before .before .before .before .before .before .before .before .before .before .before .before .before .before .before .before .before .before .before .before .before .before .before .before .args .types .now) (c .before .before .before .before .before .before .before .before .before .before .before .before .before .before .before .before .before .before .before .before .before .before .before .before .args .names .now)) (c .before .before .before .before .before .before .before .before .before .before .before .before .before .before .before .before .before .before .before .before .before .before .before .before .args .s .now) (c .before .before .before .before .before .before .before .before .before .before .before .before .before .before .before .before .before .before .before .before .before .before .before .before .args .row) (c .before .before .before .before .before .before .before .before .before .before .before .before .before .before .before .before .before .before .before .before .before .before .before .before .args .p) (c .before .before .before .before .before .before .before .before .before .before .before .before .before .before .before .before .before .before .before .before .before .before .before .before .args .depth - 1) (elements-refused (λ q u. readAt (c .before .before .before .before .before .before .before .before .before .before .before .before .before .before .before .before .before .before .before .before .before .before .before .before .args .depth - 1) (table (c .before .before .before .before .before .before .before .before .before .before .before .before .before .before .before .before .before .before .before .before .before .before .before .before .args .types .now) (c .before .before .before .before .before .before .before .before .before .before .before .before .before .before .before .before .before .before .before .before .before .before .before .before .args .names .now)) (c .before .before .before .before .before .before .before .before .before .before .before .before .before .before .before .before .before .before .before .before .before .before .before .before .args .s .now) q u) (c .before .before .before .before .before .before .before .before .before .before .before .before .before .before .before .before .before .before .before .before .before .before .before .before .args .depth - 1) (table (c .before .before .before .before .before .before .before .before .before .before .before .before .before .before .before .before .before .before .before .before .before .before .before .before .args .types .now) (c .before .before .before .before .before .before .before .before .before .before .before .before .before .before .before .before .before .before .before .before .before .before .before .before .args .names .now)) (c .before .before .before .before .before .before .before .before .before .before .before .before .before .before .before .before .before .before .before .before .before .before .before .before .args .s .now) (c .before .before .before .before .before .before .before .before .before .before .before .before .before .before .before .before .before .before .before .before .before .before .before .before .args .row) (c .before .before .before .before .before .before .before .before .before .before .before .before .before .before .before .before .before .before .before .before .before .before .before .before .args .p) (c .before .before .before .before .before .before .before .before .before .before .before .before .before .before .before .before .loop .inv .3) (rw (← c .before .before .before .before .before .before .before .before .before .before .before .before .before .before .before .before .loop .inv .0) (c .before .before .before .before .before .before .before .before .before .before .before .before .before .before .before .loop-test .taken)) (sym (ap nextOf (c .before .before .before .before .before .before .before .before .before .before .before .before .q2 .given .1)) ∙ c .before .before .before .before .before .before .before .before .before .before .before .before .before .before .element-found .ensures (c .before .before .before .before .before .before .before .before .before .before .before .before .before .before .before .before .before .before .before .before .before .before .before .before .args .names .now)) (failed (at-row (λ q u. readAt (c .before .before .before .before .before .before .before .before .before .before .before .before .before .before .before .before .before .before .before .before .before .before .before .before .args .depth - 1) (table (c .before .before .before .before .before .before .before .before .before .before .before .before .before .before .before .before .before .before .before .before .before .before .before .before .args .types .now) (c .before .before .before .before .before .before .before .before .before .before .before .before .before .before .before .before .before .before .before .before .before .before .before .before .args .names .now)) (c .before .before .before .before .before .before .before .before .before .before .before .before .before .before .before .before .before .before .before .before .before .before .before .before .args .s .now) q u) (c .before .before .before .before .before .before .before .before .before .before .before .before .q2 .given .0 .0) (c .before .before .before .before .before .before .before .before .before .before .type-at .ensures (c .before .before .before .before .before .before .before .before .before .before .before .before .before .before .before .before .before .before .before .before .before .before .before .before .args .names .now)) (c .before .before .before .before .before .before .before .value .ensures)) (c .before .e2 .given .1)))))
+
+-- src/cycle.rt:256:31
+array-enum-known-end : (t : ℕ) → array-lts.Need-enum-known-end (array-calls t) (array-at t) array.Post array-Inv-loop array-μ-loop
+array-enum-known-end t c = search needs
+
+-- src/cycle.rt:260:25
+array-after-part-requires : (t : ℕ) → array-lts.Need-after-part-requires (array-calls t) (array-at t) array.Post array-Inv-loop array-μ-loop
+array-after-part-requires t c κs = ((c .before .before .before .before .before .before .before .before .before .before .before .before .before .before .before .before .before .before .before .before .before .before .before .before .pre .1 .0) .short, omega (arith, (passed (at-row (λ q u. readAt (c .before .before .before .before .before .before .before .before .before .before .before .before .before .before .before .before .before .before .before .before .before .before .before .before .args .depth - 1) (table (c .before .before .before .before .before .before .before .before .before .before .before .before .before .before .before .before .before .before .before .before .before .before .before .before .args .types .now) (c .before .before .before .before .before .before .before .before .before .before .before .before .before .before .before .before .before .before .before .before .before .before .before .before .args .names .now)) (c .before .before .before .before .before .before .before .before .before .before .before .before .before .before .before .before .before .before .before .before .before .before .before .before .args .s .now) q u) (c .before .before .before .before .before .before .before .before .before .before .before .before .q2 .given .0 .0) (c .before .before .before .before .before .before .before .before .before .before .type-at .ensures (c .before .before .before .before .before .before .before .before .before .before .before .before .before .before .before .before .before .before .before .before .before .before .before .before .args .names .now)) (c .before .before .before .before .before .before .before .value .ensures)) (c .before .end .given .1)) .near, near-there (table (c .before .before .before .before .before .before .before .before .before .before .before .before .before .before .before .before .before .before .before .before .before .before .before .before .args .types .now) (c .before .before .before .before .before .before .before .before .before .before .before .before .before .before .before .before .before .before .before .before .before .before .before .before .args .names .now)) (c .before .before .before .before .before .before .before .before .before .before .before .before .before .before .before .before .before .before .before .before .before .before .before .before .args .s .now) (c .before .before .before .before .before .before .before .before .before .before .before .before .before .before .before .before .before .before .before .before .before .before .before .before .args .row) (c .before .before .before .before .before .before .before .before .before .before .before .before .before .before .before .before .loop .k) (65539 + c .before .before .before .before .before .before .before .before .before .before .before .before .before .before .before .before .before .before .before .before .before .before .before .before .args .depth) (followsOf (c .before .before .before .before .before .before .before .before .before .before .before .before .before .before .before .before .loop .next)) (c .before .before .before .before .before .before .before .before .before .before .before .before .before .before .before .before .loop .inv .2) (sym (ap nextOf (c .before .before .before .before .before .before .before .before .before .before .before .before .q2 .given .1)) ∙ c .before .before .before .before .before .before .before .before .before .before .before .before .before .before .element-found .ensures (c .before .before .before .before .before .before .before .before .before .before .before .before .before .before .before .before .before .before .before .before .before .before .before .before .args .names .now)), (c .before .before .before .before .before .before .before .before .before .before .before .before .before .before .before .before .before .before .before .before .before .before .before .before .pre .1 .0) .rowRoom))
+
+-- src/cycle.rt:261:25
+array-with-requires-2 : (t : ℕ) → array-lts.Need-with-requires-2 (array-calls t) (array-at t) array.Post array-Inv-loop array-μ-loop
+array-with-requires-2 t c κs = search needs
+
+-- src/cycle.rt:262:25
+array-add-n-3 : (t : ℕ) → array-lts.Need-add-n-3 (array-calls t) (array-at t) array.Post array-Inv-loop array-μ-loop
+array-add-n-3 t c = omega (arith, (passed (at-row (λ q u. readAt (c .before .before .before .before .before .before .before .before .before .before .before .before .before .before .before .before .before .before .before .before .before .before .before .before .before .before .args .depth - 1) (table (c .before .before .before .before .before .before .before .before .before .before .before .before .before .before .before .before .before .before .before .before .before .before .before .before .before .before .args .types .now) (c .before .before .before .before .before .before .before .before .before .before .before .before .before .before .before .before .before .before .before .before .before .before .before .before .before .before .args .names .now)) (c .before .before .before .before .before .before .before .before .before .before .before .before .before .before .before .before .before .before .before .before .before .before .before .before .before .before .args .s .now) q u) (c .before .before .before .before .before .before .before .before .before .before .before .before .before .before .q2 .given .0 .0) (c .before .before .before .before .before .before .before .before .before .before .before .before .type-at .ensures (c .before .before .before .before .before .before .before .before .before .before .before .before .before .before .before .before .before .before .before .before .before .before .before .before .before .before .args .names .now)) (c .before .before .before .before .before .before .before .before .before .value .ensures)) (c .before .before .before .end .given .1)) .fewRows, c .before .before .before .before .before .before .before .before .before .before .before .before .before .before .before .before .before .before .loop .inv .3 .done .sofar .fewRows, c .before .before .before .before .before .before .before .before .before .before .before .before .before .before .before .before .before .before .loop .inv .1, c .before .before .before .before .before .before .before .before .before .before .before .before .before .before .before .before .before .loop-test .taken)
+
+-- src/cycle.rt:263:25
+array-add-m-2 : (t : ℕ) → array-lts.Need-add-m-2 (array-calls t) (array-at t) array.Post array-Inv-loop array-μ-loop
+array-add-m-2 t c = omega (arith, (passed (at-row (λ q u. readAt (c .before .before .before .before .before .before .before .before .before .before .before .before .before .before .before .before .before .before .before .before .before .before .before .before .before .before .args .depth - 1) (table (c .before .before .before .before .before .before .before .before .before .before .before .before .before .before .before .before .before .before .before .before .before .before .before .before .before .before .args .types .now) (c .before .before .before .before .before .before .before .before .before .before .before .before .before .before .before .before .before .before .before .before .before .before .before .before .before .before .args .names .now)) (c .before .before .before .before .before .before .before .before .before .before .before .before .before .before .before .before .before .before .before .before .before .before .before .before .before .before .args .s .now) q u) (c .before .before .before .before .before .before .before .before .before .before .before .before .before .before .q2 .given .0 .0) (c .before .before .before .before .before .before .before .before .before .before .before .before .type-at .ensures (c .before .before .before .before .before .before .before .before .before .before .before .before .before .before .before .before .before .before .before .before .before .before .before .before .before .before .args .names .now)) (c .before .before .before .before .before .before .before .before .before .value .ensures)) (c .before .before .before .end .given .1)) .fewBytes, c .before .before .before .before .before .before .before .before .before .before .before .before .before .before .before .before .before .before .loop .inv .3 .done .sofar .fewBytes, c .before .before .before .before .before .before .before .before .before .before .before .before .before .before .before .before .before .before .loop .inv .1, c .before .before .before .before .before .before .before .before .before .before .before .before .before .before .before .before .before .loop-test .taken)
+
+-- src/cycle.rt:264:25
+array-add-k-3 : (t : ℕ) → array-lts.Need-add-k-3 (array-calls t) (array-at t) array.Post array-Inv-loop array-μ-loop
+array-add-k-3 t c = search needs
+
+-- src/cycle.rt:215:5
+array-loop-less-3 : (t : ℕ) → array-lts.Need-loop-less-3 (array-calls t) (array-at t) array.Post array-Inv-loop array-μ-loop
+array-loop-less-3 t c = search needs
+
+-- src/cycle.rt:215:5
+array-loop-again-3 : (t : ℕ) → array-lts.Need-loop-again-3 (array-calls t) (array-at t) array.Post array-Inv-loop array-μ-loop
+array-loop-again-3 t c = (c .before .before .before .before .before .before .before .before .before .before .before .before .before .before .before .before .before .before .loop .inv .0, c .before .before .before .before .before .before .before .before .before .before .before .before .before .before .before .before .before .before .loop .inv .1, near-after (c .before .before .before .before .before .before .before .before .before .before .before .before .before .before .before .before .before .before .before .before .before .before .before .before .before .before .args .s .now) (c .before .before .before .end .given .0 .0) (65539 + c .before .before .before .before .before .before .before .before .before .before .before .before .before .before .before .before .before .before .before .before .before .before .before .before .before .before .args .depth) (followsOf (c .before .after-part .result)) ((c .before .before .before .before .before .before .before .before .before .before .before .before .before .before .before .before .before .before .before .before .before .before .before .before .before .before .pre .1 .0) .short) (omega (arith, (passed (at-row (λ q u. readAt (c .before .before .before .before .before .before .before .before .before .before .before .before .before .before .before .before .before .before .before .before .before .before .before .before .before .before .args .depth - 1) (table (c .before .before .before .before .before .before .before .before .before .before .before .before .before .before .before .before .before .before .before .before .before .before .before .before .before .before .args .types .now) (c .before .before .before .before .before .before .before .before .before .before .before .before .before .before .before .before .before .before .before .before .before .before .before .before .before .before .args .names .now)) (c .before .before .before .before .before .before .before .before .before .before .before .before .before .before .before .before .before .before .before .before .before .before .before .before .before .before .args .s .now) q u) (c .before .before .before .before .before .before .before .before .before .before .before .before .before .before .q2 .given .0 .0) (c .before .before .before .before .before .before .before .before .before .before .before .before .type-at .ensures (c .before .before .before .before .before .before .before .before .before .before .before .before .before .before .before .before .before .before .before .before .before .before .before .before .before .before .args .names .now)) (c .before .before .before .before .before .before .before .before .before .value .ensures)) (c .before .before .before .end .given .1)) .near, near-there (table (c .before .before .before .before .before .before .before .before .before .before .before .before .before .before .before .before .before .before .before .before .before .before .before .before .before .before .args .types .now) (c .before .before .before .before .before .before .before .before .before .before .before .before .before .before .before .before .before .before .before .before .before .before .before .before .before .before .args .names .now)) (c .before .before .before .before .before .before .before .before .before .before .before .before .before .before .before .before .before .before .before .before .before .before .before .before .before .before .args .s .now) (c .before .before .before .before .before .before .before .before .before .before .before .before .before .before .before .before .before .before .before .before .before .before .before .before .before .before .args .row) (c .before .before .before .before .before .before .before .before .before .before .before .before .before .before .before .before .before .before .loop .k) (65539 + c .before .before .before .before .before .before .before .before .before .before .before .before .before .before .before .before .before .before .before .before .before .before .before .before .before .before .args .depth) (followsOf (c .before .before .before .before .before .before .before .before .before .before .before .before .before .before .before .before .before .before .loop .next)) (c .before .before .before .before .before .before .before .before .before .before .before .before .before .before .before .before .before .before .loop .inv .2) (sym (ap nextOf (c .before .before .before .before .before .before .before .before .before .before .before .before .before .before .q2 .given .1)) ∙ c .before .before .before .before .before .before .before .before .before .before .before .before .before .before .before .before .element-found .ensures (c .before .before .before .before .before .before .before .before .before .before .before .before .before .before .before .before .before .before .before .before .before .before .before .before .before .before .args .names .now)), c .before .before .before .before .before .before .before .before .before .before .before .before .before .before .before .before .before .before .before .before .before .before .before .before .before .before .pre .1 .1 .1)) (omega arith) (c .before .after-part .ensures), elements-more (λ q u. readAt (c .before .before .before .before .before .before .before .before .before .before .before .before .before .before .before .before .before .before .before .before .before .before .before .before .before .before .args .depth - 1) (table (c .before .before .before .before .before .before .before .before .before .before .before .before .before .before .before .before .before .before .before .before .before .before .before .before .before .before .args .types .now) (c .before .before .before .before .before .before .before .before .before .before .before .before .before .before .before .before .before .before .before .before .before .before .before .before .before .before .args .names .now)) (c .before .before .before .before .before .before .before .before .before .before .before .before .before .before .before .before .before .before .before .before .before .before .before .before .before .before .args .s .now) q u) (c .before .before .before .before .before .before .before .before .before .before .before .before .before .before .before .before .before .before .before .before .before .before .before .before .before .before .args .depth - 1) (table (c .before .before .before .before .before .before .before .before .before .before .before .before .before .before .before .before .before .before .before .before .before .before .before .before .before .before .args .types .now) (c .before .before .before .before .before .before .before .before .before .before .before .before .before .before .before .before .before .before .before .before .before .before .before .before .before .before .args .names .now)) (c .before .before .before .before .before .before .before .before .before .before .before .before .before .before .before .before .before .before .before .before .before .before .before .before .before .before .args .s .now) (c .before .before .before .before .before .before .before .before .before .before .before .before .before .before .before .before .before .before .before .before .before .before .before .before .before .before .args .row) (c .before .before .before .before .before .before .before .before .before .before .before .before .before .before .before .before .before .before .before .before .before .before .before .before .before .before .args .p) (c .before .before .before .before .before .before .before .before .before .before .before .before .before .before .before .before .before .before .loop .inv .3) (rw (← c .before .before .before .before .before .before .before .before .before .before .before .before .before .before .before .before .before .before .loop .inv .0) (c .before .before .before .before .before .before .before .before .before .before .before .before .before .before .before .before .before .loop-test .taken)) (sym (ap nextOf (c .before .before .before .before .before .before .before .before .before .before .before .before .before .before .q2 .given .1)) ∙ c .before .before .before .before .before .before .before .before .before .before .before .before .before .before .before .before .element-found .ensures (c .before .before .before .before .before .before .before .before .before .before .before .before .before .before .before .before .before .before .before .before .before .before .before .before .before .before .args .names .now)) ((passed (at-row (λ q u. readAt (c .before .before .before .before .before .before .before .before .before .before .before .before .before .before .before .before .before .before .before .before .before .before .before .before .before .before .args .depth - 1) (table (c .before .before .before .before .before .before .before .before .before .before .before .before .before .before .before .before .before .before .before .before .before .before .before .before .before .before .args .types .now) (c .before .before .before .before .before .before .before .before .before .before .before .before .before .before .before .before .before .before .before .before .before .before .before .before .before .before .args .names .now)) (c .before .before .before .before .before .before .before .before .before .before .before .before .before .before .before .before .before .before .before .before .before .before .before .before .before .before .args .s .now) q u) (c .before .before .before .before .before .before .before .before .before .before .before .before .before .before .q2 .given .0 .0) (c .before .before .before .before .before .before .before .before .before .before .before .before .type-at .ensures (c .before .before .before .before .before .before .before .before .before .before .before .before .before .before .before .before .before .before .before .before .before .before .before .before .before .before .args .names .now)) (c .before .before .before .before .before .before .before .before .before .value .ensures)) (c .before .before .before .end .given .1)) .took) ((at-row (λ q u. readAt (c .before .before .before .before .before .before .before .before .before .before .before .before .before .before .before .before .before .before .before .before .before .before .before .before .before .before .args .depth - 1) (table (c .before .before .before .before .before .before .before .before .before .before .before .before .before .before .before .before .before .before .before .before .before .before .before .before .before .before .args .types .now) (c .before .before .before .before .before .before .before .before .before .before .before .before .before .before .before .before .before .before .before .before .before .before .before .before .before .before .args .names .now)) (c .before .before .before .before .before .before .before .before .before .before .before .before .before .before .before .before .before .before .before .before .before .before .before .before .before .before .args .s .now) q u) (c .before .before .before .before .before .before .before .before .before .before .before .before .before .before .q2 .given .0 .0) (c .before .before .before .before .before .before .before .before .before .before .before .before .type-at .ensures (c .before .before .before .before .before .before .before .before .before .before .before .before .before .before .before .before .before .before .before .before .before .before .before .before .before .before .args .names .now)) (c .before .before .before .before .before .before .before .before .before .value .ensures)) .stepped) ((passed (at-row (λ q u. readAt (c .before .before .before .before .before .before .before .before .before .before .before .before .before .before .before .before .before .before .before .before .before .before .before .before .before .before .args .depth - 1) (table (c .before .before .before .before .before .before .before .before .before .before .before .before .before .before .before .before .before .before .before .before .before .before .before .before .before .before .args .types .now) (c .before .before .before .before .before .before .before .before .before .before .before .before .before .before .before .before .before .before .before .before .before .before .before .before .before .before .args .names .now)) (c .before .before .before .before .before .before .before .before .before .before .before .before .before .before .before .before .before .before .before .before .before .before .before .before .before .before .args .s .now) q u) (c .before .before .before .before .before .before .before .before .before .before .before .before .before .before .q2 .given .0 .0) (c .before .before .before .before .before .before .before .before .before .before .before .before .type-at .ensures (c .before .before .before .before .before .before .before .before .before .before .before .before .before .before .before .before .before .before .before .before .before .before .before .before .before .before .args .names .now)) (c .before .before .before .before .before .before .before .before .before .value .ensures)) (c .before .before .before .end .given .1)) .fewRows) ((passed (at-row (λ q u. readAt (c .before .before .before .before .before .before .before .before .before .before .before .before .before .before .before .before .before .before .before .before .before .before .before .before .before .before .args .depth - 1) (table (c .before .before .before .before .before .before .before .before .before .before .before .before .before .before .before .before .before .before .before .before .before .before .before .before .before .before .args .types .now) (c .before .before .before .before .before .before .before .before .before .before .before .before .before .before .before .before .before .before .before .before .before .before .before .before .before .before .args .names .now)) (c .before .before .before .before .before .before .before .before .before .before .before .before .before .before .before .before .before .before .before .before .before .before .before .before .before .before .args .s .now) q u) (c .before .before .before .before .before .before .before .before .before .before .before .before .before .before .q2 .given .0 .0) (c .before .before .before .before .before .before .before .before .before .before .before .before .type-at .ensures (c .before .before .before .before .before .before .before .before .before .before .before .before .before .before .before .before .before .before .before .before .before .before .before .before .before .before .args .names .now)) (c .before .before .before .before .before .before .before .before .before .value .ensures)) (c .before .before .before .end .given .1)) .fewBytes) (c .before .before .before .before .before .before .before .before .before .value .kept .1 .1 .1 .0) (c .before .before .before .before .before .before .before .before .before .value .kept .1 .1 .1 .1 .0) (c .with2 .ensures) (c .before .after-part .ensures), omega (arith, c .before .before .before .before .before .before .before .before .before .before .before .before .before .before .before .before .before .loop-test .taken))
+
+-- src/cycle.rt:270:11
+array-surplus-requires : (t : ℕ) → array-lts.Need-surplus-requires (array-calls t) (array-at t) array.Post array-Inv-loop array-μ-loop
+array-surplus-requires t c κs = search needs
+
+-- src/cycle.rt:271:24
+array-enum-known-e-3 : (t : ℕ) → array-lts.Need-enum-known-e-3 (array-calls t) (array-at t) array.Post array-Inv-loop array-μ-loop
+array-enum-known-e-3 t c = search needs
+
+-- src/cycle.rt:272:23
+array-enum-known-q-3 : (t : ℕ) → array-lts.Need-enum-known-q-3 (array-calls t) (array-at t) array.Post array-Inv-loop array-μ-loop
+array-enum-known-q-3 t c = search needs
+
+-- src/cycle.rt:272:59
+array-ones-requires : (t : ℕ) → array-lts.Need-ones-requires (array-calls t) (array-at t) array.Post array-Inv-loop array-μ-loop
+array-ones-requires t c κs = search needs
+
+-- src/cycle.rt:272:29
+array-close-requires : (t : ℕ) → array-lts.Need-close-requires (array-calls t) (array-at t) array.Post array-Inv-loop array-μ-loop
+array-close-requires t c κs = (omega (arith, (c .before .before .before .before .before .before .before .before .before .before .before .before .before .before .before .pre .1 .0) .rowRoom), omega (arith, c .before .before .before .before .before .before .before .loop .inv .3 .done .sofar .fewRows, c .before .before .before .before .before .before .before .loop .inv .4, c .before .before .before .before .before .before .before .loop .inv .1))
+
+-- src/cycle.rt:193:1
+array-same-length-5 : (t : ℕ) → array-lts.Need-same-length-5 (array-calls t) (array-at t) array.Post array-Inv-loop array-μ-loop
+array-same-length-5 t c = search needs
+
+-- src/cycle.rt:193:1
+array-same-length-6 : (t : ℕ) → array-lts.Need-same-length-6 (array-calls t) (array-at t) array.Post array-Inv-loop array-μ-loop
+array-same-length-6 t c = search needs
+
+-- src/cycle.rt:193:1
+array-returns-3 : (t : ℕ) → array-lts.Need-returns-3 (array-calls t) (array-at t) array.Post array-Inv-loop array-μ-loop
+array-returns-3 t c = reads-no (over-no (table (c .before .before .before .before .before .before .before .before .before .before .before .before .before .args .types .now) (c .before .before .before .before .before .before .before .before .before .before .before .before .before .args .names .now)) (c .before .before .before .before .before .before .before .before .before .before .before .before .before .args .row) (array-no (λ q u. readAt (c .before .before .before .before .before .before .before .before .before .before .before .before .before .args .depth - 1) (table (c .before .before .before .before .before .before .before .before .before .before .before .before .before .args .types .now) (c .before .before .before .before .before .before .before .before .before .before .before .before .before .args .names .now)) (c .before .before .before .before .before .before .before .before .before .before .before .before .before .args .s .now) q u) (table (c .before .before .before .before .before .before .before .before .before .before .before .before .before .args .types .now) (c .before .before .before .before .before .before .before .before .before .before .before .before .before .args .names .now)) (c .before .before .before .before .before .before .before .before .before .before .before .before .before .args .s .now) (c .before .before .before .before .before .before .before .before .before .before .before .before .before .args .row) (c .before .before .before .before .before .before .before .before .before .before .before .before .before .args .p) (c .before .before .before .before .before .before .before .before .before .before .before .before .before .args .depth - 1) (elements-surplus (λ q u. readAt (c .before .before .before .before .before .before .before .before .before .before .before .before .before .args .depth - 1) (table (c .before .before .before .before .before .before .before .before .before .before .before .before .before .args .types .now) (c .before .before .before .before .before .before .before .before .before .before .before .before .before .args .names .now)) (c .before .before .before .before .before .before .before .before .before .before .before .before .before .args .s .now) q u) (c .before .before .before .before .before .before .before .before .before .before .before .before .before .args .depth - 1) (table (c .before .before .before .before .before .before .before .before .before .before .before .before .before .args .types .now) (c .before .before .before .before .before .before .before .before .before .before .before .before .before .args .names .now)) (c .before .before .before .before .before .before .before .before .before .before .before .before .before .args .s .now) (c .before .before .before .before .before .before .before .before .before .before .before .before .before .args .row) (c .before .before .before .before .before .before .before .before .before .before .before .before .before .args .p) (c .before .before .before .before .before .loop .inv .3) (omega (arith, c .before .before .before .before .before .loop .inv .0, c .before .before .before .before .loop-test .left)) (sym (ap surplusOf (c .before .e3 .given .1)) ∙ c .before .before .before .surplus .ensures (c .before .before .before .before .before .before .before .before .before .before .before .before .before .args .names .now)))))
+
+-- src/cycle.rt:193:1
+array-same-length-7 : (t : ℕ) → array-lts.Need-same-length-7 (array-calls t) (array-at t) array.Post array-Inv-loop array-μ-loop
+array-same-length-7 t c = search needs
+
+-- src/cycle.rt:193:1
+array-same-length-8 : (t : ℕ) → array-lts.Need-same-length-8 (array-calls t) (array-at t) array.Post array-Inv-loop array-μ-loop
+array-same-length-8 t c = search needs
+
+-- src/cycle.rt:193:1
+array-returns-4 : (t : ℕ) → array-lts.Need-returns-4 (array-calls t) (array-at t) array.Post array-Inv-loop array-μ-loop
+array-returns-4 t c = along (over-ok (table (c .before .before .before .before .before .before .before .before .before .before .before .before .before .before .before .before .before .before .args .types .now) (c .before .before .before .before .before .before .before .before .before .before .before .before .before .before .before .before .before .before .args .names .now)) (c .before .before .before .before .before .before .before .before .before .before .before .before .before .before .before .before .before .before .args .row) (array-ok (λ q u. readAt (c .before .before .before .before .before .before .before .before .before .before .before .before .before .before .before .before .before .before .args .depth - 1) (table (c .before .before .before .before .before .before .before .before .before .before .before .before .before .before .before .before .before .before .args .types .now) (c .before .before .before .before .before .before .before .before .before .before .before .before .before .before .before .before .before .before .args .names .now)) (c .before .before .before .before .before .before .before .before .before .before .before .before .before .before .before .before .before .before .args .s .now) q u) (table (c .before .before .before .before .before .before .before .before .before .before .before .before .before .before .before .before .before .before .args .types .now) (c .before .before .before .before .before .before .before .before .before .before .before .before .before .before .before .before .before .before .args .names .now)) (c .before .before .before .before .before .before .before .before .before .before .before .before .before .before .before .before .before .before .args .s .now) (c .before .before .before .before .before .before .before .before .before .before .before .before .before .before .before .before .before .before .args .row) (c .before .before .before .before .before .before .before .before .before .before .before .before .before .before .before .before .before .before .args .p) (c .before .before .before .before .before .before .before .before .before .before .before .before .before .before .before .before .before .before .args .depth - 1) (elements-end (λ q u. readAt (c .before .before .before .before .before .before .before .before .before .before .before .before .before .before .before .before .before .before .args .depth - 1) (table (c .before .before .before .before .before .before .before .before .before .before .before .before .before .before .before .before .before .before .args .types .now) (c .before .before .before .before .before .before .before .before .before .before .before .before .before .before .before .before .before .before .args .names .now)) (c .before .before .before .before .before .before .before .before .before .before .before .before .before .before .before .before .before .before .args .s .now) q u) (c .before .before .before .before .before .before .before .before .before .before .before .before .before .before .before .before .before .before .args .depth - 1) (table (c .before .before .before .before .before .before .before .before .before .before .before .before .before .before .before .before .before .before .args .types .now) (c .before .before .before .before .before .before .before .before .before .before .before .before .before .before .before .before .before .before .args .names .now)) (c .before .before .before .before .before .before .before .before .before .before .before .before .before .before .before .before .before .before .args .s .now) (c .before .before .before .before .before .before .before .before .before .before .before .before .before .before .before .before .before .before .args .row) (c .before .before .before .before .before .before .before .before .before .before .before .before .before .before .before .before .before .before .args .p) (c .before .before .before .before .before .before .before .before .before .before .loop .inv .3) (omega (arith, c .before .before .before .before .before .before .before .before .before .before .loop .inv .0, c .before .before .before .before .before .before .before .before .before .loop-test .left)) (sym (ap surplusOf (c .before .before .before .before .before .before .q3 .given .1)) ∙ c .before .before .before .before .before .before .before .before .surplus .ensures (c .before .before .before .before .before .before .before .before .before .before .before .before .before .before .before .before .before .before .args .names .now))))) (closed (whole-seq (c .before .before .before .before .before .before .before .before .before .before .loop .inv .3 .done .sofar) (c .before .before .before .before .before .before .before .before .before .before .before .before .before .before .before .before .before .before .pre .1 .1 .2) (c .before .before .before .before .before .before .before .before .before .before .loop .inv .3 .done .members) (c .before .before .before .ones .ensures ∙ c .before .before .before .before .before .before .before .before .before .before .loop .inv .3 .done .count)) (omega (arith, surplus-near (c .before .before .before .before .before .before .before .before .before .before .before .before .before .before .before .before .before .before .args .depth - 1) (table (c .before .before .before .before .before .before .before .before .before .before .before .before .before .before .before .before .before .before .args .types .now) (c .before .before .before .before .before .before .before .before .before .before .before .before .before .before .before .before .before .before .args .names .now)) (c .before .before .before .before .before .before .before .before .before .before .before .before .before .before .before .before .before .before .args .s .now) (c .before .before .before .before .before .before .before .before .before .before .before .before .before .before .before .before .before .before .args .row) (65539 + c .before .before .before .before .before .before .before .before .before .before .before .before .before .before .before .before .before .before .args .depth) (c .before .before .before .before .before .before .q3 .given .0 .0) (followsOf (c .before .before .before .before .before .before .before .before .before .before .loop .next)) ((c .before .before .before .before .before .before .before .before .before .before .before .before .before .before .before .before .before .before .pre .1 .0) .short) (omega (arith, c .before .before .before .before .before .before .before .before .before .before .before .before .before .before .before .before .before .before .pre .1 .1 .1)) (c .before .before .before .before .before .before .before .before .before .before .loop .inv .2) (sym (ap surplusOf (c .before .before .before .before .before .before .q3 .given .1)) ∙ c .before .before .before .before .before .before .before .before .surplus .ensures (c .before .before .before .before .before .before .before .before .before .before .before .before .before .before .before .before .before .before .args .names .now)), c .before .before .before .before .before .before .before .before .before .before .before .before .before .before .before .before .before .before .pre .1 .1 .0, (c .before .before .before .before .before .before .before .before .before .before .before .before .before .before .before .before .before .before .pre .1 .0) .short)) (c .before .before .close .ensures .0) (c .before .before .close .ensures .1))
+
+-- src/cycle.rt:405:24
+choice-sub-one-at : (t : ℕ) → choice-lts.Need-sub-one-at (choice-calls t) (choice-at t) choice.Post
+choice-sub-one-at t c = search needs
+
+-- src/cycle.rt:405:11
+choice-one-at-requires : (t : ℕ) → choice-lts.Need-one-at-requires (choice-calls t) (choice-at t) choice.Post
+choice-one-at-requires t c κs = search needs
+
+-- src/cycle.rt:406:32
+choice-enum-told : (t : ℕ) → choice-lts.Need-enum-told (choice-calls t) (choice-at t) choice.Post
+choice-enum-told t c = search needs
+
+-- src/cycle.rt:406:24
+choice-refused-requires : (t : ℕ) → choice-lts.Need-refused-requires (choice-calls t) (choice-at t) choice.Post
+choice-refused-requires t c κs = search needs
+
+-- src/cycle.rt:407:17
+choice-enum-known-q : (t : ℕ) → choice-lts.Need-enum-known-q (choice-calls t) (choice-at t) choice.Post
+choice-enum-known-q t c = search needs
+
+-- src/cycle.rt:407:29
+choice-position-requires : (t : ℕ) → choice-lts.Need-position-requires (choice-calls t) (choice-at t) choice.Post
+choice-position-requires t c κs = ((c .before .before .before .before .before .before .before .before .before .pre .1 .0) .short, one-near (c .before .before .before .before .before .before .before .before .before .args .depth - 1) (c .before .before .before .before .before .before .before .before .before .args .s .now) (c .before .before .before .before .before .before .before .before .before .args .p) ((c .before .before .before .before .before .before .before .before .before .pre .1 .0) .short) (c .before .before .before .before .before .before .before .before .before .pre .1 .1 .0) (sym (ap oneOf (c .before .q .given .1)) ∙ c .before .before .before .one-at .ensures))
+
+-- src/cycle.rt:408:54
+choice-enum-told-2 : (t : ℕ) → choice-lts.Need-enum-told-2 (choice-calls t) (choice-at t) choice.Post
+choice-enum-told-2 t c = search needs
+
+-- src/cycle.rt:408:31
+choice-unknown-requires : (t : ℕ) → choice-lts.Need-unknown-requires (choice-calls t) (choice-at t) choice.Post
+choice-unknown-requires t c κs = search needs
+
+-- src/cycle.rt:409:23
+choice-enum-known-k : (t : ℕ) → choice-lts.Need-enum-known-k (choice-calls t) (choice-at t) choice.Post
+choice-enum-known-k t c = search needs
+
+-- src/cycle.rt:410:21
+choice-type-at-requires : (t : ℕ) → choice-lts.Need-type-at-requires (choice-calls t) (choice-at t) choice.Post
+choice-type-at-requires t c κs = search needs
+
+-- src/cycle.rt:411:21
+choice-value-place-requires : (t : ℕ) → choice-lts.Need-value-place-requires (choice-calls t) (choice-at t) choice.Post
+choice-value-place-requires t c κs = ((c .before .before .before .before .before .before .before .before .before .before .before .before .before .before .pre .1 .0) .short, one-near (c .before .before .before .before .before .before .before .before .before .before .before .before .before .before .args .depth - 1) (c .before .before .before .before .before .before .before .before .before .before .before .before .before .before .args .s .now) (c .before .before .before .before .before .before .before .before .before .before .before .before .before .before .args .p) ((c .before .before .before .before .before .before .before .before .before .before .before .before .before .before .pre .1 .0) .short) (c .before .before .before .before .before .before .before .before .before .before .before .before .before .before .pre .1 .1 .0) (sym (ap oneOf (c .before .before .before .before .before .before .q .given .1)) ∙ c .before .before .before .before .before .before .before .before .one-at .ensures))
+
+-- src/cycle.rt:412:65
+choice-add-value : (t : ℕ) → choice-lts.Need-add-value (choice-calls t) (choice-at t) choice.Post
+choice-add-value t c = search needs
+
+-- src/cycle.rt:412:75
+choice-sub-value : (t : ℕ) → choice-lts.Need-sub-value (choice-calls t) (choice-at t) choice.Post
+choice-sub-value t c = search needs
+
+-- src/cycle.rt:412:23
+choice-value-requires : (t : ℕ) → choice-lts.Need-value-requires (choice-calls t) (choice-at t) choice.Post
+choice-value-requires t c κs = (omega arith, given-one (c .before .before .before .before .before .before .before .before .before .before .before .before .before .before .before .before .before .pre .1 .0) (c .before .before .before .before .before .before .before .before .before .before .before .before .before .before .before .before .before .pre .1 .1 .1) (rw (c .before .before .before .type-at .ensures (c .before .before .before .before .before .before .before .before .before .before .before .before .before .before .before .before .before .args .names .now)) ((c .before .before .before .before .before .before .before .before .before .before .before .before .before .before .before .before .before .pre .1 .0) .sane .member (c .before .before .before .before .before .before .before .before .before .before .before .before .before .before .before .before .before .args .row) (c .before .before .before .before .before .k .given .0 .0) ((c .before .before .before .before .before .before .before .before .before .before .before .before .before .before .before .before .before .pre .1 .0) .typed) (position-found (table (c .before .before .before .before .before .before .before .before .before .before .before .before .before .before .before .before .before .args .types .now) (c .before .before .before .before .before .before .before .before .before .before .before .before .before .before .before .before .before .args .names .now)) (c .before .before .before .before .before .before .before .before .before .before .before .before .before .before .before .before .before .args .row) (denoted (c .before .before .before .before .before .before .before .before .before .before .before .before .before .before .before .before .before .args .s .now) (c .before .before .before .before .before .before .before .before .before .q .given .0 .0 + 1)) (c .before .before .before .before .before .k .given .0 .0) (found-some _ (sym (c .before .before .before .before .before .k .given .1) ∙ c .before .before .before .before .before .before .before .position .ensures)) .1))) (omega (arith, c .before .before .value-place .ensures .1)))
+
+-- src/cycle.rt:413:35
+choice-enum-known-e : (t : ℕ) → choice-lts.Need-enum-known-e (choice-calls t) (choice-at t) choice.Post
+choice-enum-known-e t c = search needs
+
+-- src/cycle.rt:415:25
+choice-enum-known-next : (t : ℕ) → choice-lts.Need-enum-known-next (choice-calls t) (choice-at t) choice.Post
+choice-enum-known-next t c = search needs
+
+-- src/cycle.rt:420:33
+choice-skip-space-requires : (t : ℕ) → choice-lts.Need-skip-space-requires (choice-calls t) (choice-at t) choice.Post
+choice-skip-space-requires t c κs = search needs
+
+-- src/cycle.rt:420:29
+choice-advance-requires : (t : ℕ) → choice-lts.Need-advance-requires (choice-calls t) (choice-at t) choice.Post
+choice-advance-requires t c κs = let z : c .skip-space .result .at + 1 < 18446744073709551616 = omega (arith, c .skip-space .ensures, c .before .before .before .before .before .before .before .before .before .before .before .value-place .ensures .1, (c .before .before .before .before .before .before .before .before .before .before .before .before .before .before .before .before .before .before .before .before .before .before .before .before .before .before .pre .1 .0) .rowRoom, space-within (c .before .before .before .before .before .before .before .before .before .before .before .before .before .before .before .before .before .before .before .before .before .before .before .before .before .before .args .s .now) (limit (c .before .before .before .before .before .before .before .before .before .before .before .value-place .result) + (c .before .before .before .before .before .before .before .before .before .before .before .before .before .before .before .before .before .before .before .before .before .before .before .before .before .before .args .depth - 1)) (c .before .before .next .given .0 .0) (omega (arith, (c .before .before .before .before .before .before .before .before .before .before .before .before .before .before .before .before .before .before .before .before .before .before .before .before .before .before .pre .1 .0) .short)) (passed (c .before .before .before .before .before .before .before .before .value .ensures) (c .before .before .next .given .1) .near)) in z
+
+-- src/cycle.rt:421:25
+choice-close-requires : (t : ℕ) → choice-lts.Need-close-requires (choice-calls t) (choice-at t) choice.Post
+choice-close-requires t c κs = (omega (arith, (c .before .before .before .before .before .before .before .before .before .before .before .before .before .before .before .before .before .before .before .before .before .before .before .before .before .before .before .before .pre .1 .0) .rowRoom), omega (arith, (passed (at-place (λ q u. readAt (c .before .before .before .before .before .before .before .before .before .before .before .before .before .before .before .before .before .before .before .before .before .before .before .before .before .before .before .before .args .depth - 1) (table (c .before .before .before .before .before .before .before .before .before .before .before .before .before .before .before .before .before .before .before .before .before .before .before .before .before .before .before .before .args .types .now) (c .before .before .before .before .before .before .before .before .before .before .before .before .before .before .before .before .before .before .before .before .before .before .before .before .before .before .before .before .args .names .now)) (c .before .before .before .before .before .before .before .before .before .before .before .before .before .before .before .before .before .before .before .before .before .before .before .before .before .before .before .before .args .s .now) q u) (c .before .before .before .before .before .before .before .before .before .before .before .before .before .before .type-at .ensures (c .before .before .before .before .before .before .before .before .before .before .before .before .before .before .before .before .before .before .before .before .before .before .before .before .before .before .before .before .args .names .now)) (c .before .before .before .before .before .before .before .before .before .before .before .before .before .value-place .ensures .0) (c .before .before .before .before .before .before .before .before .before .before .value .ensures)) (c .before .before .before .before .next .given .1)) .fewRows))
+
+-- src/cycle.rt:389:1
+choice-returns : (t : ℕ) → choice-lts.Need-returns (choice-calls t) (choice-at t) choice.Post
+choice-returns t c = rw (c .refused .ensures) (reads-no (over-no (table (c .before .before .before .before .before .before .before .before .before .args .types .now) (c .before .before .before .before .before .before .before .before .before .args .names .now)) (c .before .before .before .before .before .before .before .before .before .args .row) (choice-not-one (λ q u. readAt (c .before .before .before .before .before .before .before .before .before .args .depth - 1) (table (c .before .before .before .before .before .before .before .before .before .args .types .now) (c .before .before .before .before .before .before .before .before .before .args .names .now)) (c .before .before .before .before .before .before .before .before .before .args .s .now) q u) (c .before .before .before .before .before .before .before .before .before .args .depth - 1) (table (c .before .before .before .before .before .before .before .before .before .args .types .now) (c .before .before .before .before .before .before .before .before .before .args .names .now)) (c .before .before .before .before .before .before .before .before .before .args .s .now) (c .before .before .before .before .before .before .before .before .before .args .row) (c .before .before .before .before .before .before .before .before .before .args .p) (sym (ap oneOf (c .before .enum-told .given .1)) ∙ c .before .before .before .one-at .ensures))))
+
+-- src/cycle.rt:389:1
+choice-returns-2 : (t : ℕ) → choice-lts.Need-returns-2 (choice-calls t) (choice-at t) choice.Post
+choice-returns-2 t c = unknown-over UnknownName (c .before .before .before .before .before .before .before .before .before .before .before .before .before .args .p) (c .before .before .before .before .before .q .given .0 .0) (extensible (table (c .before .before .before .before .before .before .before .before .before .before .before .before .before .args .types .now) (c .before .before .before .before .before .before .before .before .before .before .before .before .before .args .names .now)) (c .before .before .before .before .before .before .before .before .before .before .before .before .before .args .row)) (c .unknown .ensures (c .before .before .before .before .before .before .before .before .before .before .before .before .before .args .names .now)) (choice-none (λ q u. readAt (c .before .before .before .before .before .before .before .before .before .before .before .before .before .args .depth - 1) (table (c .before .before .before .before .before .before .before .before .before .before .before .before .before .args .types .now) (c .before .before .before .before .before .before .before .before .before .before .before .before .before .args .names .now)) (c .before .before .before .before .before .before .before .before .before .before .before .before .before .args .s .now) q u) (c .before .before .before .before .before .before .before .before .before .before .before .before .before .args .depth - 1) (table (c .before .before .before .before .before .before .before .before .before .before .before .before .before .args .types .now) (c .before .before .before .before .before .before .before .before .before .before .before .before .before .args .names .now)) (c .before .before .before .before .before .before .before .before .before .before .before .before .before .args .s .now) (c .before .before .before .before .before .before .before .before .before .before .before .before .before .args .row) (c .before .before .before .before .before .before .before .before .before .before .before .before .before .args .p) (sym (ap oneOf (c .before .before .before .before .before .q .given .1)) ∙ c .before .before .before .before .before .before .before .one-at .ensures) (found-none _ (sym (c .before .enum-told2 .given .1) ∙ c .before .before .before .position .ensures)))
+
+-- src/cycle.rt:389:1
+choice-same-length : (t : ℕ) → choice-lts.Need-same-length (choice-calls t) (choice-at t) choice.Post
+choice-same-length t c = search needs
+
+-- src/cycle.rt:389:1
+choice-same-length-2 : (t : ℕ) → choice-lts.Need-same-length-2 (choice-calls t) (choice-at t) choice.Post
+choice-same-length-2 t c = search needs
+
+-- src/cycle.rt:389:1
+choice-returns-3 : (t : ℕ) → choice-lts.Need-returns-3 (choice-calls t) (choice-at t) choice.Post
+choice-returns-3 t c = reads-no (over-no (table (c .before .before .before .before .before .before .before .before .before .before .before .before .before .before .before .before .before .before .before .before .before .before .before .before .before .args .types .now) (c .before .before .before .before .before .before .before .before .before .before .before .before .before .before .before .before .before .before .before .before .before .before .before .before .before .args .names .now)) (c .before .before .before .before .before .before .before .before .before .before .before .before .before .before .before .before .before .before .before .before .before .before .before .before .before .args .row) (choice-refused (λ q u. readAt (c .before .before .before .before .before .before .before .before .before .before .before .before .before .before .before .before .before .before .before .before .before .before .before .before .before .args .depth - 1) (table (c .before .before .before .before .before .before .before .before .before .before .before .before .before .before .before .before .before .before .before .before .before .before .before .before .before .args .types .now) (c .before .before .before .before .before .before .before .before .before .before .before .before .before .before .before .before .before .before .before .before .before .before .before .before .before .args .names .now)) (c .before .before .before .before .before .before .before .before .before .before .before .before .before .before .before .before .before .before .before .before .before .before .before .before .before .args .s .now) q u) (c .before .before .before .before .before .before .before .before .before .before .before .before .before .before .before .before .before .before .before .before .before .before .before .before .before .args .depth - 1) (table (c .before .before .before .before .before .before .before .before .before .before .before .before .before .before .before .before .before .before .before .before .before .before .before .before .before .args .types .now) (c .before .before .before .before .before .before .before .before .before .before .before .before .before .before .before .before .before .before .before .before .before .before .before .before .before .args .names .now)) (c .before .before .before .before .before .before .before .before .before .before .before .before .before .before .before .before .before .before .before .before .before .before .before .before .before .args .s .now) (c .before .before .before .before .before .before .before .before .before .before .before .before .before .before .before .before .before .before .before .before .before .before .before .before .before .args .row) (c .before .before .before .before .before .before .before .before .before .before .before .before .before .before .before .before .before .before .before .before .before .before .before .before .before .args .p) (sym (ap oneOf (c .before .before .before .before .before .before .before .before .before .before .before .before .before .before .before .before .before .q .given .1)) ∙ c .before .before .before .before .before .before .before .before .before .before .before .before .before .before .before .before .before .before .before .one-at .ensures) (found-some _ (sym (c .before .before .before .before .before .before .before .before .before .before .before .before .before .k .given .1) ∙ c .before .before .before .before .before .before .before .before .before .before .before .before .before .before .before .position .ensures)) (failed (at-place (λ q u. readAt (c .before .before .before .before .before .before .before .before .before .before .before .before .before .before .before .before .before .before .before .before .before .before .before .before .before .args .depth - 1) (table (c .before .before .before .before .before .before .before .before .before .before .before .before .before .before .before .before .before .before .before .before .before .before .before .before .before .args .types .now) (c .before .before .before .before .before .before .before .before .before .before .before .before .before .before .before .before .before .before .before .before .before .before .before .before .before .args .names .now)) (c .before .before .before .before .before .before .before .before .before .before .before .before .before .before .before .before .before .before .before .before .before .before .before .before .before .args .s .now) q u) (c .before .before .before .before .before .before .before .before .before .before .before .type-at .ensures (c .before .before .before .before .before .before .before .before .before .before .before .before .before .before .before .before .before .before .before .before .before .before .before .before .before .args .names .now)) (c .before .before .before .before .before .before .before .before .before .before .value-place .ensures .0) (c .before .before .before .before .before .before .before .value .ensures)) (c .before .e .given .1))))
+
+-- src/cycle.rt:389:1
+choice-same-length-3 : (t : ℕ) → choice-lts.Need-same-length-3 (choice-calls t) (choice-at t) choice.Post
+choice-same-length-3 t c = search needs
+
+-- src/cycle.rt:389:1
+choice-same-length-4 : (t : ℕ) → choice-lts.Need-same-length-4 (choice-calls t) (choice-at t) choice.Post
+choice-same-length-4 t c = search needs
+
+-- src/cycle.rt:389:1
+choice-returns-4 : (t : ℕ) → choice-lts.Need-returns-4 (choice-calls t) (choice-at t) choice.Post
+choice-returns-4 t c = along (over-ok (table (c .before .before .before .before .before .before .before .before .before .before .before .before .before .before .before .before .before .before .before .before .before .before .before .before .before .before .before .before .before .before .before .args .types .now) (c .before .before .before .before .before .before .before .before .before .before .before .before .before .before .before .before .before .before .before .before .before .before .before .before .before .before .before .before .before .before .before .args .names .now)) (c .before .before .before .before .before .before .before .before .before .before .before .before .before .before .before .before .before .before .before .before .before .before .before .before .before .before .before .before .before .before .before .args .row) (choice-picked (λ q u. readAt (c .before .before .before .before .before .before .before .before .before .before .before .before .before .before .before .before .before .before .before .before .before .before .before .before .before .before .before .before .before .before .before .args .depth - 1) (table (c .before .before .before .before .before .before .before .before .before .before .before .before .before .before .before .before .before .before .before .before .before .before .before .before .before .before .before .before .before .before .before .args .types .now) (c .before .before .before .before .before .before .before .before .before .before .before .before .before .before .before .before .before .before .before .before .before .before .before .before .before .before .before .before .before .before .before .args .names .now)) (c .before .before .before .before .before .before .before .before .before .before .before .before .before .before .before .before .before .before .before .before .before .before .before .before .before .before .before .before .before .before .before .args .s .now) q u) (c .before .before .before .before .before .before .before .before .before .before .before .before .before .before .before .before .before .before .before .before .before .before .before .before .before .before .before .before .before .before .before .args .depth - 1) (table (c .before .before .before .before .before .before .before .before .before .before .before .before .before .before .before .before .before .before .before .before .before .before .before .before .before .before .before .before .before .before .before .args .types .now) (c .before .before .before .before .before .before .before .before .before .before .before .before .before .before .before .before .before .before .before .before .before .before .before .before .before .before .before .before .before .before .before .args .names .now)) (c .before .before .before .before .before .before .before .before .before .before .before .before .before .before .before .before .before .before .before .before .before .before .before .before .before .before .before .before .before .before .before .args .s .now) (c .before .before .before .before .before .before .before .before .before .before .before .before .before .before .before .before .before .before .before .before .before .before .before .before .before .before .before .before .before .before .before .args .row) (c .before .before .before .before .before .before .before .before .before .before .before .before .before .before .before .before .before .before .before .before .before .before .before .before .before .before .before .before .before .before .before .args .p) (sym (ap oneOf (c .before .before .before .before .before .before .before .before .before .before .before .before .before .before .before .before .before .before .before .before .before .before .before .q .given .1)) ∙ c .before .before .before .before .before .before .before .before .before .before .before .before .before .before .before .before .before .before .before .before .before .before .before .before .before .one-at .ensures) (found-some _ (sym (c .before .before .before .before .before .before .before .before .before .before .before .before .before .before .before .before .before .before .before .k .given .1) ∙ c .before .before .before .before .before .before .before .before .before .before .before .before .before .before .before .before .before .before .before .before .before .position .ensures)) ((passed (at-place (λ q u. readAt (c .before .before .before .before .before .before .before .before .before .before .before .before .before .before .before .before .before .before .before .before .before .before .before .before .before .before .before .before .before .before .before .args .depth - 1) (table (c .before .before .before .before .before .before .before .before .before .before .before .before .before .before .before .before .before .before .before .before .before .before .before .before .before .before .before .before .before .before .before .args .types .now) (c .before .before .before .before .before .before .before .before .before .before .before .before .before .before .before .before .before .before .before .before .before .before .before .before .before .before .before .before .before .before .before .args .names .now)) (c .before .before .before .before .before .before .before .before .before .before .before .before .before .before .before .before .before .before .before .before .before .before .before .before .before .before .before .before .before .before .before .args .s .now) q u) (c .before .before .before .before .before .before .before .before .before .before .before .before .before .before .before .before .before .type-at .ensures (c .before .before .before .before .before .before .before .before .before .before .before .before .before .before .before .before .before .before .before .before .before .before .before .before .before .before .before .before .before .before .before .args .names .now)) (c .before .before .before .before .before .before .before .before .before .before .before .before .before .before .before .before .value-place .ensures .0) (c .before .before .before .before .before .before .before .before .before .before .before .before .before .value .ensures)) (c .before .before .before .before .before .before .before .next .given .1)) .took .is))) (closed (whole-choice ((passed (at-place (λ q u. readAt (c .before .before .before .before .before .before .before .before .before .before .before .before .before .before .before .before .before .before .before .before .before .before .before .before .before .before .before .before .before .before .before .args .depth - 1) (table (c .before .before .before .before .before .before .before .before .before .before .before .before .before .before .before .before .before .before .before .before .before .before .before .before .before .before .before .before .before .before .before .args .types .now) (c .before .before .before .before .before .before .before .before .before .before .before .before .before .before .before .before .before .before .before .before .before .before .before .before .before .before .before .before .before .before .before .args .names .now)) (c .before .before .before .before .before .before .before .before .before .before .before .before .before .before .before .before .before .before .before .before .before .before .before .before .before .before .before .before .before .before .before .args .s .now) q u) (c .before .before .before .before .before .before .before .before .before .before .before .before .before .before .before .before .before .type-at .ensures (c .before .before .before .before .before .before .before .before .before .before .before .before .before .before .before .before .before .before .before .before .before .before .before .before .before .before .before .before .before .before .before .args .names .now)) (c .before .before .before .before .before .before .before .before .before .before .before .before .before .before .before .before .value-place .ensures .0) (c .before .before .before .before .before .before .before .before .before .before .before .before .before .value .ensures)) (c .before .before .before .before .before .before .before .next .given .1)) .took) ((at-place (λ q u. readAt (c .before .before .before .before .before .before .before .before .before .before .before .before .before .before .before .before .before .before .before .before .before .before .before .before .before .before .before .before .before .before .before .args .depth - 1) (table (c .before .before .before .before .before .before .before .before .before .before .before .before .before .before .before .before .before .before .before .before .before .before .before .before .before .before .before .before .before .before .before .args .types .now) (c .before .before .before .before .before .before .before .before .before .before .before .before .before .before .before .before .before .before .before .before .before .before .before .before .before .before .before .before .before .before .before .args .names .now)) (c .before .before .before .before .before .before .before .before .before .before .before .before .before .before .before .before .before .before .before .before .before .before .before .before .before .before .before .before .before .before .before .args .s .now) q u) (c .before .before .before .before .before .before .before .before .before .before .before .before .before .before .before .before .before .type-at .ensures (c .before .before .before .before .before .before .before .before .before .before .before .before .before .before .before .before .before .before .before .before .before .before .before .before .before .before .before .before .before .before .before .args .names .now)) (c .before .before .before .before .before .before .before .before .before .before .before .before .before .before .before .before .value-place .ensures .0) (c .before .before .before .before .before .before .before .before .before .before .before .before .before .value .ensures)) .stepped) (c .before .before .before .before .before .before .before .before .before .before .before .before .before .before .before .before .before .before .before .before .before .before .before .before .before .before .before .before .before .before .before .pre .1 .1 .2)) (omega (arith, space-within (c .before .before .before .before .before .before .before .before .before .before .before .before .before .before .before .before .before .before .before .before .before .before .before .before .before .before .before .before .before .before .before .args .s .now) (limit (c .before .before .before .before .before .before .before .before .before .before .before .before .before .before .before .before .value-place .result) + (c .before .before .before .before .before .before .before .before .before .before .before .before .before .before .before .before .before .before .before .before .before .before .before .before .before .before .before .before .before .before .before .args .depth - 1)) ((passed (at-place (λ q u. readAt (c .before .before .before .before .before .before .before .before .before .before .before .before .before .before .before .before .before .before .before .before .before .before .before .before .before .before .before .before .before .before .before .args .depth - 1) (table (c .before .before .before .before .before .before .before .before .before .before .before .before .before .before .before .before .before .before .before .before .before .before .before .before .before .before .before .before .before .before .before .args .types .now) (c .before .before .before .before .before .before .before .before .before .before .before .before .before .before .before .before .before .before .before .before .before .before .before .before .before .before .before .before .before .before .before .args .names .now)) (c .before .before .before .before .before .before .before .before .before .before .before .before .before .before .before .before .before .before .before .before .before .before .before .before .before .before .before .before .before .before .before .args .s .now) q u) (c .before .before .before .before .before .before .before .before .before .before .before .before .before .before .before .before .before .type-at .ensures (c .before .before .before .before .before .before .before .before .before .before .before .before .before .before .before .before .before .before .before .before .before .before .before .before .before .before .before .before .before .before .before .args .names .now)) (c .before .before .before .before .before .before .before .before .before .before .before .before .before .before .before .before .value-place .ensures .0) (c .before .before .before .before .before .before .before .before .before .before .before .before .before .value .ensures)) (c .before .before .before .before .before .before .before .next .given .1)) .took .g .next) (omega (arith, (c .before .before .before .before .before .before .before .before .before .before .before .before .before .before .before .before .before .before .before .before .before .before .before .before .before .before .before .before .before .before .before .pre .1 .0) .short)) (omega (arith, (passed (at-place (λ q u. readAt (c .before .before .before .before .before .before .before .before .before .before .before .before .before .before .before .before .before .before .before .before .before .before .before .before .before .before .before .before .before .before .before .args .depth - 1) (table (c .before .before .before .before .before .before .before .before .before .before .before .before .before .before .before .before .before .before .before .before .before .before .before .before .before .before .before .before .before .before .before .args .types .now) (c .before .before .before .before .before .before .before .before .before .before .before .before .before .before .before .before .before .before .before .before .before .before .before .before .before .before .before .before .before .before .before .args .names .now)) (c .before .before .before .before .before .before .before .before .before .before .before .before .before .before .before .before .before .before .before .before .before .before .before .before .before .before .before .before .before .before .before .args .s .now) q u) (c .before .before .before .before .before .before .before .before .before .before .before .before .before .before .before .before .before .type-at .ensures (c .before .before .before .before .before .before .before .before .before .before .before .before .before .before .before .before .before .before .before .before .before .before .before .before .before .before .before .before .before .before .before .args .names .now)) (c .before .before .before .before .before .before .before .before .before .before .before .before .before .before .before .before .value-place .ensures .0) (c .before .before .before .before .before .before .before .before .before .before .before .before .before .value .ensures)) (c .before .before .before .before .before .before .before .next .given .1)) .took .next, passed (c .before .before .before .before .before .before .before .before .before .before .before .before .before .value .ensures) (c .before .before .before .before .before .before .before .next .given .1) .near)), c .before .before .before .before .before .before .before .before .before .before .before .before .before .before .before .before .before .before .before .before .before .before .before .before .before .before .before .before .before .before .before .pre .1 .1 .0, c .before .before .before .before .before .before .before .before .before .before .before .before .before .before .before .before .before .before .before .before .before .before .before .before .before .before .before .before .before .before .before .pre .1 .1 .1, c .before .before .before .before .before .before .before .before .before .before .before .before .before .before .before .before .value-place .ensures .1, (c .before .before .before .before .before .before .before .before .before .before .before .before .before .before .before .before .before .before .before .before .before .before .before .before .before .before .before .before .before .before .before .pre .1 .0) .short)) (rw (sym (c .before .before .before .before .advance .ensures ∙ ap (λ (x : ℕ). x + 1) (c .before .before .before .before .before .skip-space .ensures ∙ ap (λ (x : ℕ). pastSpace (c .before .before .before .before .before .before .before .before .before .before .before .before .before .before .before .before .before .before .before .before .before .before .before .before .before .before .before .before .before .before .before .args .s .now) x) (sym ((passed (at-place (λ q u. readAt (c .before .before .before .before .before .before .before .before .before .before .before .before .before .before .before .before .before .before .before .before .before .before .before .before .before .before .before .before .before .before .before .args .depth - 1) (table (c .before .before .before .before .before .before .before .before .before .before .before .before .before .before .before .before .before .before .before .before .before .before .before .before .before .before .before .before .before .before .before .args .types .now) (c .before .before .before .before .before .before .before .before .before .before .before .before .before .before .before .before .before .before .before .before .before .before .before .before .before .before .before .before .before .before .before .args .names .now)) (c .before .before .before .before .before .before .before .before .before .before .before .before .before .before .before .before .before .before .before .before .before .before .before .before .before .before .before .before .before .before .before .args .s .now) q u) (c .before .before .before .before .before .before .before .before .before .before .before .before .before .before .before .before .before .type-at .ensures (c .before .before .before .before .before .before .before .before .before .before .before .before .before .before .before .before .before .before .before .before .before .before .before .before .before .before .before .before .before .before .before .args .names .now)) (c .before .before .before .before .before .before .before .before .before .before .before .before .before .before .before .before .value-place .ensures .0) (c .before .before .before .before .before .before .before .before .before .before .before .before .before .value .ensures)) (c .before .before .before .before .before .before .before .next .given .1)) .took .next))))) (c .before .before .close .ensures .0)) (c .before .before .close .ensures .1))
+
+abbrev each-member-Inv-loop : each-member-lts.InvT-loop
+each-member-Inv-loop types names s rows₀ pool₀ met row p next i o depth places count k₀ present₀ n₀ m₀ rows pool k present n m =
+    (count ≡ countOf (table types names) row) × (count ≤ 64) × InOrder (λ q u. readAt (depth - 1) (table types names) s q u) (table types names) s row p met places (membersAt (λ q u. readAt (depth - 1) (table types names) s q u) (table types names) s row p met places 0 (countOf (table types names) row)) i o n m k present rows rows₀ pool pool₀ × (k ≤ count)
+
+abbrev each-member-μ-loop : each-member-lts.MeasureT-loop
+each-member-μ-loop types names s rows₀ pool₀ met row p next i o depth places count k₀ present₀ n₀ m₀ rows pool k present n m =
+    count - k
+
+-- src/cycle.rt:337:9
+each-member-field-requires : (t : ℕ) → each-member-lts.Need-field-requires (each-member-calls t) (each-member-at t) each-member.Post each-member-Inv-loop each-member-μ-loop
+each-member-field-requires t c κs = search needs
+
+-- src/cycle.rt:342:5
+each-member-loop-holds : (t : ℕ) → each-member-lts.Need-loop-holds (each-member-calls t) (each-member-at t) each-member.Post each-member-Inv-loop each-member-μ-loop
+each-member-loop-holds t c = (count-is (table (c .before .before .before .before .before .before .args .types .now) (c .before .before .before .before .before .before .args .names .now)) (c .before .before .before .before .before .before .args .row) (c .field .ensures (c .before .before .before .before .before .before .args .names .now)), omega (arith, (c .before .before .before .before .before .before .pre .1 .0) .sane .few (c .before .before .before .before .before .before .args .row) ((c .before .before .before .before .before .before .pre .1 .0) .typed), count-is (table (c .before .before .before .before .before .before .args .types .now) (c .before .before .before .before .before .before .args .names .now)) (c .before .before .before .before .before .before .args .row) (c .field .ensures (c .before .before .before .before .before .before .args .names .now))), order-start (λ q u. readAt (c .before .before .before .before .before .before .args .depth - 1) (table (c .before .before .before .before .before .before .args .types .now) (c .before .before .before .before .before .before .args .names .now)) (c .before .before .before .before .before .before .args .s .now) q u) (table (c .before .before .before .before .before .before .args .types .now) (c .before .before .before .before .before .before .args .names .now)) (c .before .before .before .before .before .before .args .s .now) (c .before .before .before .before .before .before .args .row) (c .before .before .before .before .before .before .args .p) (c .before .before .before .before .before .before .args .met) (c .before .before .before .before .before .before .args .t6) (c .before .before .before .before .before .before .args .i) (c .before .before .before .before .before .before .args .o) (c .before .before .before .before .before .before .args .rows .now) (c .before .before .before .before .before .before .args .pool .now), omega arith)
+
+-- src/cycle.rt:343:13
+each-member-wide-requires : (t : ℕ) → each-member-lts.Need-wide-requires (each-member-calls t) (each-member-at t) each-member.Post each-member-Inv-loop each-member-μ-loop
+each-member-wide-requires t c κs = search needs
+
+-- src/cycle.rt:344:26
+each-member-mul-wide : (t : ℕ) → each-member-lts.Need-mul-wide (each-member-calls t) (each-member-at t) each-member.Post each-member-Inv-loop each-member-μ-loop
+each-member-mul-wide t c = search needs
+
+-- src/cycle.rt:344:26
+each-member-array-read-wide : (t : ℕ) → each-member-lts.Need-array-read-wide (each-member-calls t) (each-member-at t) each-member.Post each-member-Inv-loop each-member-μ-loop
+each-member-array-read-wide t c = search needs
+
+-- src/cycle.rt:344:13
+each-member-wide-requires-2 : (t : ℕ) → each-member-lts.Need-wide-requires-2 (each-member-calls t) (each-member-at t) each-member.Post each-member-Inv-loop each-member-μ-loop
+each-member-wide-requires-2 t c κs = search needs
+
+-- src/cycle.rt:345:46
+each-member-bit-requires : (t : ℕ) → each-member-lts.Need-bit-requires (each-member-calls t) (each-member-at t) each-member.Post each-member-Inv-loop each-member-μ-loop
+each-member-bit-requires t c κs = search needs
+
+-- src/cycle.rt:345:15
+each-member-member-found-requires : (t : ℕ) → each-member-lts.Need-member-found-requires (each-member-calls t) (each-member-at t) each-member.Post each-member-Inv-loop each-member-μ-loop
+each-member-member-found-requires t c κs = search needs
+
+-- src/cycle.rt:347:32
+each-member-enum-told : (t : ℕ) → each-member-lts.Need-enum-told (each-member-calls t) (each-member-at t) each-member.Post each-member-Inv-loop each-member-μ-loop
+each-member-enum-told t c = search needs
+
+-- src/cycle.rt:347:17
+each-member-refused-requires : (t : ℕ) → each-member-lts.Need-refused-requires (each-member-calls t) (each-member-at t) each-member.Post each-member-Inv-loop each-member-μ-loop
+each-member-refused-requires t c κs = search needs
+
+-- src/cycle.rt:347:17
+each-member-same-length : (t : ℕ) → each-member-lts.Need-same-length (each-member-calls t) (each-member-at t) each-member.Post each-member-Inv-loop each-member-μ-loop
+each-member-same-length t c = search needs
+
+-- src/cycle.rt:347:17
+each-member-same-length-2 : (t : ℕ) → each-member-lts.Need-same-length-2 (each-member-calls t) (each-member-at t) each-member.Post each-member-Inv-loop each-member-μ-loop
+each-member-same-length-2 t c = search needs
+
+-- src/cycle.rt:347:17
+each-member-returns : (t : ℕ) → each-member-lts.Need-returns (each-member-calls t) (each-member-at t) each-member.Post each-member-Inv-loop each-member-μ-loop
+each-member-returns t c = rw (c .refused .ensures) (reads-no (over-no (table (c .before .before .before .before .before .before .before .before .before .before .before .before .before .before .before .args .types .now) (c .before .before .before .before .before .before .before .before .before .before .before .before .before .before .before .args .names .now)) (c .before .before .before .before .before .before .before .before .before .before .before .before .before .before .before .args .row) (object-no (λ q u. readAt (c .before .before .before .before .before .before .before .before .before .before .before .before .before .before .before .args .depth - 1) (table (c .before .before .before .before .before .before .before .before .before .before .before .before .before .before .before .args .types .now) (c .before .before .before .before .before .before .before .before .before .before .before .before .before .before .before .args .names .now)) (c .before .before .before .before .before .before .before .before .before .before .before .before .before .before .before .args .s .now) q u) (table (c .before .before .before .before .before .before .before .before .before .before .before .before .before .before .before .args .types .now) (c .before .before .before .before .before .before .before .before .before .before .before .before .before .before .before .args .names .now)) (c .before .before .before .before .before .before .before .before .before .before .before .before .before .before .before .args .s .now) (c .before .before .before .before .before .before .before .before .before .before .before .before .before .before .before .args .row) (c .before .before .before .before .before .before .before .before .before .before .before .before .before .before .before .args .p) (c .before .before .before .before .before .before .before .before .before .before .before .before .before .before .before .args .met) (c .before .before .before .before .before .before .before .before .before .before .before .before .before .before .before .args .t6) (c .before .before .before .before .before .before .before .before .before .before .before .before .before .before .before .args .next) (order-missing (λ q u. readAt (c .before .before .before .before .before .before .before .before .before .before .before .before .before .before .before .args .depth - 1) (table (c .before .before .before .before .before .before .before .before .before .before .before .before .before .before .before .args .types .now) (c .before .before .before .before .before .before .before .before .before .before .before .before .before .before .before .args .names .now)) (c .before .before .before .before .before .before .before .before .before .before .before .before .before .before .before .args .s .now) q u) (table (c .before .before .before .before .before .before .before .before .before .before .before .before .before .before .before .args .types .now) (c .before .before .before .before .before .before .before .before .before .before .before .before .before .before .before .args .names .now)) (c .before .before .before .before .before .before .before .before .before .before .before .before .before .before .before .args .s .now) (c .before .before .before .before .before .before .before .before .before .before .before .before .before .before .before .args .row) (c .before .before .before .before .before .before .before .before .before .before .before .before .before .before .before .args .p) (c .before .before .before .before .before .before .before .before .before .before .before .before .before .before .before .args .met) (c .before .before .before .before .before .before .before .before .before .before .before .before .before .before .before .args .t6) (c .before .before .before .before .before .before .before .before .loop .inv .2) (rw (← c .before .before .before .before .before .before .before .before .loop .inv .0) (c .before .before .before .before .before .before .before .loop-test .taken)) (sym (c .before .enum-told .given .1) ∙ member-is (table (c .before .before .before .before .before .before .before .before .before .before .before .before .before .before .before .args .types .now) (c .before .before .before .before .before .before .before .before .before .before .before .before .before .before .before .args .names .now)) (c .before .before .before .before .before .before .before .before .before .before .before .before .before .before .before .args .s .now) (c .before .before .before .before .before .before .before .before .before .before .before .before .before .before .before .args .row) (c .before .before .before .before .before .before .before .before .loop .k) (c .before .before .before .before .before .before .before .before .before .before .before .before .before .before .before .args .met) (c .before .before .before .before .before .before .before .before .before .before .before .before .before .before .before .args .t6) (c .before .before .before .before .before .before .wide .ensures .0) (c .before .before .before .before .before .wide2 .ensures .0) (c .before .before .before .before .bit .ensures) (c .before .before .before .member-found .ensures (c .before .before .before .before .before .before .before .before .before .before .before .before .before .before .before .args .names .now)))))))
+
+-- src/cycle.rt:350:25
+each-member-enum-told-2 : (t : ℕ) → each-member-lts.Need-enum-told-2 (each-member-calls t) (each-member-at t) each-member.Post each-member-Inv-loop each-member-μ-loop
+each-member-enum-told-2 t c = search needs
+
+-- src/cycle.rt:350:31
+each-member-add-put-row : (t : ℕ) → each-member-lts.Need-add-put-row (each-member-calls t) (each-member-at t) each-member.Post each-member-Inv-loop each-member-μ-loop
+each-member-add-put-row t c = search needs
+
+-- src/cycle.rt:350:31
+each-member-add-put-row-2 : (t : ℕ) → each-member-lts.Need-add-put-row-2 (each-member-calls t) (each-member-at t) each-member.Post each-member-Inv-loop each-member-μ-loop
+each-member-add-put-row-2 t c = search needs
+
+-- src/cycle.rt:350:17
+each-member-put-row-requires : (t : ℕ) → each-member-lts.Need-put-row-requires (each-member-calls t) (each-member-at t) each-member.Post each-member-Inv-loop each-member-μ-loop
+each-member-put-row-requires t c κs = search needs
+
+-- src/cycle.rt:351:17
+each-member-add-n : (t : ℕ) → each-member-lts.Need-add-n (each-member-calls t) (each-member-at t) each-member.Post each-member-Inv-loop each-member-μ-loop
+each-member-add-n t c = search needs
+
+-- src/cycle.rt:352:17
+each-member-add-k : (t : ℕ) → each-member-lts.Need-add-k (each-member-calls t) (each-member-at t) each-member.Post each-member-Inv-loop each-member-μ-loop
+each-member-add-k t c = search needs
+
+-- src/cycle.rt:342:5
+each-member-loop-less : (t : ℕ) → each-member-lts.Need-loop-less (each-member-calls t) (each-member-at t) each-member.Post each-member-Inv-loop each-member-μ-loop
+each-member-loop-less t c = search needs
+
+-- src/cycle.rt:342:5
+each-member-loop-again : (t : ℕ) → each-member-lts.Need-loop-again (each-member-calls t) (each-member-at t) each-member.Post each-member-Inv-loop each-member-μ-loop
+each-member-loop-again t c = (c .before .before .before .before .before .before .before .before .before .before .before .loop .inv .0, c .before .before .before .before .before .before .before .before .before .before .before .loop .inv .1, order-absent (λ q u. readAt (c .before .before .before .before .before .before .before .before .before .before .before .before .before .before .before .before .before .before .args .depth - 1) (table (c .before .before .before .before .before .before .before .before .before .before .before .before .before .before .before .before .before .before .args .types .now) (c .before .before .before .before .before .before .before .before .before .before .before .before .before .before .before .before .before .before .args .names .now)) (c .before .before .before .before .before .before .before .before .before .before .before .before .before .before .before .before .before .before .args .s .now) q u) (table (c .before .before .before .before .before .before .before .before .before .before .before .before .before .before .before .before .before .before .args .types .now) (c .before .before .before .before .before .before .before .before .before .before .before .before .before .before .before .before .before .before .args .names .now)) (c .before .before .before .before .before .before .before .before .before .before .before .before .before .before .before .before .before .before .args .s .now) (c .before .before .before .before .before .before .before .before .before .before .before .before .before .before .before .before .before .before .args .row) (c .before .before .before .before .before .before .before .before .before .before .before .before .before .before .before .before .before .before .args .p) (c .before .before .before .before .before .before .before .before .before .before .before .before .before .before .before .before .before .before .args .met) (c .before .before .before .before .before .before .before .before .before .before .before .before .before .before .before .before .before .before .args .t6) (c .before .before .before .before .before .before .before .before .before .before .before .loop .inv .2) (rw (← c .before .before .before .before .before .before .before .before .before .before .before .loop .inv .0) (c .before .before .before .before .before .before .before .before .before .before .loop-test .taken)) (sym (c .before .before .before .before .enum-told2 .given .1) ∙ member-is (table (c .before .before .before .before .before .before .before .before .before .before .before .before .before .before .before .before .before .before .args .types .now) (c .before .before .before .before .before .before .before .before .before .before .before .before .before .before .before .before .before .before .args .names .now)) (c .before .before .before .before .before .before .before .before .before .before .before .before .before .before .before .before .before .before .args .s .now) (c .before .before .before .before .before .before .before .before .before .before .before .before .before .before .before .before .before .before .args .row) (c .before .before .before .before .before .before .before .before .before .before .before .loop .k) (c .before .before .before .before .before .before .before .before .before .before .before .before .before .before .before .before .before .before .args .met) (c .before .before .before .before .before .before .before .before .before .before .before .before .before .before .before .before .before .before .args .t6) (c .before .before .before .before .before .before .before .before .before .wide .ensures .0) (c .before .before .before .before .before .before .before .before .wide2 .ensures .0) (c .before .before .before .before .before .before .before .bit .ensures) (c .before .before .before .before .before .before .member-found .ensures (c .before .before .before .before .before .before .before .before .before .before .before .before .before .before .before .before .before .before .args .names .now))) (c .before .before .put-row .ensures) (c .before .before .put-row .kept .0), omega (arith, c .before .before .before .before .before .before .before .before .before .before .loop-test .taken))
+
+-- src/cycle.rt:354:27
+each-member-enum-known-q : (t : ℕ) → each-member-lts.Need-enum-known-q (each-member-calls t) (each-member-at t) each-member.Post each-member-Inv-loop each-member-μ-loop
+each-member-enum-known-q t c = search needs
+
+-- src/cycle.rt:355:21
+each-member-type-at-requires : (t : ℕ) → each-member-lts.Need-type-at-requires (each-member-calls t) (each-member-at t) each-member.Post each-member-Inv-loop each-member-μ-loop
+each-member-type-at-requires t c κs = search needs
+
+-- src/cycle.rt:364:21
+each-member-add-value : (t : ℕ) → each-member-lts.Need-add-value (each-member-calls t) (each-member-at t) each-member.Post each-member-Inv-loop each-member-μ-loop
+each-member-add-value t c = search needs
+
+-- src/cycle.rt:364:21
+each-member-add-value-2 : (t : ℕ) → each-member-lts.Need-add-value-2 (each-member-calls t) (each-member-at t) each-member.Post each-member-Inv-loop each-member-μ-loop
+each-member-add-value-2 t c = search needs
+
+-- src/cycle.rt:365:21
+each-member-add-value-3 : (t : ℕ) → each-member-lts.Need-add-value-3 (each-member-calls t) (each-member-at t) each-member.Post each-member-Inv-loop each-member-μ-loop
+each-member-add-value-3 t c = search needs
+
+-- src/cycle.rt:366:21
+each-member-sub-value : (t : ℕ) → each-member-lts.Need-sub-value (each-member-calls t) (each-member-at t) each-member.Post each-member-Inv-loop each-member-μ-loop
+each-member-sub-value t c = search needs
+
+-- src/cycle.rt:356:23
+each-member-value-requires : (t : ℕ) → each-member-lts.Need-value-requires (each-member-calls t) (each-member-at t) each-member.Post each-member-Inv-loop each-member-μ-loop
+each-member-value-requires t c κs = (omega arith, given-part (c .before .before .before .before .before .before .before .before .before .before .before .before .before .before .before .before .before .before .pre .1 .0) (c .before .before .before .before .before .before .before .before .before .before .before .before .before .before .before .before .before .before .pre .1 .1 .0) (rw (c .before .before .type-at .ensures (c .before .before .before .before .before .before .before .before .before .before .before .before .before .before .before .before .before .before .args .names .now)) ((c .before .before .before .before .before .before .before .before .before .before .before .before .before .before .before .before .before .before .pre .1 .0) .sane .member (c .before .before .before .before .before .before .before .before .before .before .before .before .before .before .before .before .before .before .args .row) (c .before .before .before .before .before .before .before .before .before .before .before .loop .k) ((c .before .before .before .before .before .before .before .before .before .before .before .before .before .before .before .before .before .before .pre .1 .0) .typed) (rw (← c .before .before .before .before .before .before .before .before .before .before .before .loop .inv .0) (c .before .before .before .before .before .before .before .before .before .before .loop-test .taken)))) (omega (arith, there-place (table (c .before .before .before .before .before .before .before .before .before .before .before .before .before .before .before .before .before .before .args .types .now) (c .before .before .before .before .before .before .before .before .before .before .before .before .before .before .before .before .before .before .args .names .now)) (c .before .before .before .before .before .before .before .before .before .before .before .before .before .before .before .before .before .before .args .s .now) (c .before .before .before .before .before .before .before .before .before .before .before .before .before .before .before .before .before .before .args .row) (c .before .before .before .before .before .before .before .before .before .before .before .loop .k) (c .before .before .before .before .before .before .before .bit .result) (c .before .before .before .before .before .before .before .before .wide2 .result) (sym (c .before .before .before .before .q .given .1) ∙ c .before .before .before .before .before .before .member-found .ensures (c .before .before .before .before .before .before .before .before .before .before .before .before .before .before .before .before .before .before .args .names .now)), c .before .before .before .before .before .before .before .before .wide2 .ensures .0, c .before .before .before .before .before .before .before .before .wide2 .ensures .1)) (omega (arith, c .before .before .before .before .before .before .before .before .before .before .before .loop .inv .2 .done .sofar .fewRows, c .before .before .before .before .before .before .before .before .before .before .before .loop .inv .1, c .before .before .before .before .before .before .before .before .before .before .loop-test .taken)) (omega (arith, c .before .before .before .before .before .before .before .before .before .before .before .loop .inv .2 .done .sofar .fewBytes, c .before .before .before .before .before .before .before .before .before .before .before .loop .inv .1, c .before .before .before .before .before .before .before .before .before .before .loop-test .taken)))
+
+-- src/cycle.rt:368:35
+each-member-enum-known-e : (t : ℕ) → each-member-lts.Need-enum-known-e (each-member-calls t) (each-member-at t) each-member.Post each-member-Inv-loop each-member-μ-loop
+each-member-enum-known-e t c = search needs
+
+-- src/cycle.rt:369:25
+each-member-same-length-3 : (t : ℕ) → each-member-lts.Need-same-length-3 (each-member-calls t) (each-member-at t) each-member.Post each-member-Inv-loop each-member-μ-loop
+each-member-same-length-3 t c = c .before .before .before .before .before .before .before .value .kept .1 .1 .1 .0 ∙ c .before .before .before .before .before .before .before .before .before .before .before .before .before .before .before .before .before .before .before .loop .inv .2 .done .sofar .keptRows
+
+-- src/cycle.rt:369:25
+each-member-same-length-4 : (t : ℕ) → each-member-lts.Need-same-length-4 (each-member-calls t) (each-member-at t) each-member.Post each-member-Inv-loop each-member-μ-loop
+each-member-same-length-4 t c = c .before .before .before .before .before .before .before .value .kept .1 .1 .1 .1 .0 ∙ c .before .before .before .before .before .before .before .before .before .before .before .before .before .before .before .before .before .before .before .loop .inv .2 .done .sofar .keptPool
+
+-- src/cycle.rt:369:25
+each-member-returns-2 : (t : ℕ) → each-member-lts.Need-returns-2 (each-member-calls t) (each-member-at t) each-member.Post each-member-Inv-loop each-member-μ-loop
+each-member-returns-2 t c = reads-no (over-no (table (c .before .before .before .before .before .before .before .before .before .before .before .before .before .before .before .before .before .before .before .before .before .before .before .before .before .before .args .types .now) (c .before .before .before .before .before .before .before .before .before .before .before .before .before .before .before .before .before .before .before .before .before .before .before .before .before .before .args .names .now)) (c .before .before .before .before .before .before .before .before .before .before .before .before .before .before .before .before .before .before .before .before .before .before .before .before .before .before .args .row) (object-no (λ q u. readAt (c .before .before .before .before .before .before .before .before .before .before .before .before .before .before .before .before .before .before .before .before .before .before .before .before .before .before .args .depth - 1) (table (c .before .before .before .before .before .before .before .before .before .before .before .before .before .before .before .before .before .before .before .before .before .before .before .before .before .before .args .types .now) (c .before .before .before .before .before .before .before .before .before .before .before .before .before .before .before .before .before .before .before .before .before .before .before .before .before .before .args .names .now)) (c .before .before .before .before .before .before .before .before .before .before .before .before .before .before .before .before .before .before .before .before .before .before .before .before .before .before .args .s .now) q u) (table (c .before .before .before .before .before .before .before .before .before .before .before .before .before .before .before .before .before .before .before .before .before .before .before .before .before .before .args .types .now) (c .before .before .before .before .before .before .before .before .before .before .before .before .before .before .before .before .before .before .before .before .before .before .before .before .before .before .args .names .now)) (c .before .before .before .before .before .before .before .before .before .before .before .before .before .before .before .before .before .before .before .before .before .before .before .before .before .before .args .s .now) (c .before .before .before .before .before .before .before .before .before .before .before .before .before .before .before .before .before .before .before .before .before .before .before .before .before .before .args .row) (c .before .before .before .before .before .before .before .before .before .before .before .before .before .before .before .before .before .before .before .before .before .before .before .before .before .before .args .p) (c .before .before .before .before .before .before .before .before .before .before .before .before .before .before .before .before .before .before .before .before .before .before .before .before .before .before .args .met) (c .before .before .before .before .before .before .before .before .before .before .before .before .before .before .before .before .before .before .before .before .before .before .before .before .before .before .args .t6) (c .before .before .before .before .before .before .before .before .before .before .before .before .before .before .before .before .before .before .before .before .before .before .before .before .before .before .args .next) (order-refused (λ q u. readAt (c .before .before .before .before .before .before .before .before .before .before .before .before .before .before .before .before .before .before .before .before .before .before .before .before .before .before .args .depth - 1) (table (c .before .before .before .before .before .before .before .before .before .before .before .before .before .before .before .before .before .before .before .before .before .before .before .before .before .before .args .types .now) (c .before .before .before .before .before .before .before .before .before .before .before .before .before .before .before .before .before .before .before .before .before .before .before .before .before .before .args .names .now)) (c .before .before .before .before .before .before .before .before .before .before .before .before .before .before .before .before .before .before .before .before .before .before .before .before .before .before .args .s .now) q u) (table (c .before .before .before .before .before .before .before .before .before .before .before .before .before .before .before .before .before .before .before .before .before .before .before .before .before .before .args .types .now) (c .before .before .before .before .before .before .before .before .before .before .before .before .before .before .before .before .before .before .before .before .before .before .before .before .before .before .args .names .now)) (c .before .before .before .before .before .before .before .before .before .before .before .before .before .before .before .before .before .before .before .before .before .before .before .before .before .before .args .s .now) (c .before .before .before .before .before .before .before .before .before .before .before .before .before .before .before .before .before .before .before .before .before .before .before .before .before .before .args .row) (c .before .before .before .before .before .before .before .before .before .before .before .before .before .before .before .before .before .before .before .before .before .before .before .before .before .before .args .p) (c .before .before .before .before .before .before .before .before .before .before .before .before .before .before .before .before .before .before .before .before .before .before .before .before .before .before .args .met) (c .before .before .before .before .before .before .before .before .before .before .before .before .before .before .before .before .before .before .before .before .before .before .before .before .before .before .args .t6) (c .before .before .before .before .before .before .before .before .before .before .before .before .before .before .before .before .before .before .before .loop .inv .2) (rw (← c .before .before .before .before .before .before .before .before .before .before .before .before .before .before .before .before .before .before .before .loop .inv .0) (c .before .before .before .before .before .before .before .before .before .before .before .before .before .before .before .before .before .before .loop-test .taken)) (sym (c .before .before .before .before .before .before .before .before .before .before .before .before .q .given .1) ∙ member-is (table (c .before .before .before .before .before .before .before .before .before .before .before .before .before .before .before .before .before .before .before .before .before .before .before .before .before .before .args .types .now) (c .before .before .before .before .before .before .before .before .before .before .before .before .before .before .before .before .before .before .before .before .before .before .before .before .before .before .args .names .now)) (c .before .before .before .before .before .before .before .before .before .before .before .before .before .before .before .before .before .before .before .before .before .before .before .before .before .before .args .s .now) (c .before .before .before .before .before .before .before .before .before .before .before .before .before .before .before .before .before .before .before .before .before .before .before .before .before .before .args .row) (c .before .before .before .before .before .before .before .before .before .before .before .before .before .before .before .before .before .before .before .loop .k) (c .before .before .before .before .before .before .before .before .before .before .before .before .before .before .before .before .before .before .before .before .before .before .before .before .before .before .args .met) (c .before .before .before .before .before .before .before .before .before .before .before .before .before .before .before .before .before .before .before .before .before .before .before .before .before .before .args .t6) (c .before .before .before .before .before .before .before .before .before .before .before .before .before .before .before .before .before .wide .ensures .0) (c .before .before .before .before .before .before .before .before .before .before .before .before .before .before .before .before .wide2 .ensures .0) (c .before .before .before .before .before .before .before .before .before .before .before .before .before .before .before .bit .ensures) (c .before .before .before .before .before .before .before .before .before .before .before .before .before .before .member-found .ensures (c .before .before .before .before .before .before .before .before .before .before .before .before .before .before .before .before .before .before .before .before .before .before .before .before .before .before .args .names .now))) (failed (at-row (λ q u. readAt (c .before .before .before .before .before .before .before .before .before .before .before .before .before .before .before .before .before .before .before .before .before .before .before .before .before .before .args .depth - 1) (table (c .before .before .before .before .before .before .before .before .before .before .before .before .before .before .before .before .before .before .before .before .before .before .before .before .before .before .args .types .now) (c .before .before .before .before .before .before .before .before .before .before .before .before .before .before .before .before .before .before .before .before .before .before .before .before .before .before .args .names .now)) (c .before .before .before .before .before .before .before .before .before .before .before .before .before .before .before .before .before .before .before .before .before .before .before .before .before .before .args .s .now) q u) (c .before .before .before .before .before .before .before .before .before .before .before .before .q .given .0 .0) (c .before .before .before .before .before .before .before .before .before .before .type-at .ensures (c .before .before .before .before .before .before .before .before .before .before .before .before .before .before .before .before .before .before .before .before .before .before .before .before .before .before .args .names .now)) (c .before .before .before .before .before .before .before .value .ensures)) (c .before .e .given .1)))))
+
+-- src/cycle.rt:373:31
+each-member-enum-known-a : (t : ℕ) → each-member-lts.Need-enum-known-a (each-member-calls t) (each-member-at t) each-member.Post each-member-Inv-loop each-member-μ-loop
+each-member-enum-known-a t c = search needs
+
+-- src/cycle.rt:376:25
+each-member-with-requires : (t : ℕ) → each-member-lts.Need-with-requires (each-member-calls t) (each-member-at t) each-member.Post each-member-Inv-loop each-member-μ-loop
+each-member-with-requires t c κs = search needs
+
+-- src/cycle.rt:377:25
+each-member-add-n-2 : (t : ℕ) → each-member-lts.Need-add-n-2 (each-member-calls t) (each-member-at t) each-member.Post each-member-Inv-loop each-member-μ-loop
+each-member-add-n-2 t c = omega (arith, (passed (at-row (λ q u. readAt (c .before .before .before .before .before .before .before .before .before .before .before .before .before .before .before .before .before .before .before .before .before .before .before .before .before .before .before .args .depth - 1) (table (c .before .before .before .before .before .before .before .before .before .before .before .before .before .before .before .before .before .before .before .before .before .before .before .before .before .before .before .args .types .now) (c .before .before .before .before .before .before .before .before .before .before .before .before .before .before .before .before .before .before .before .before .before .before .before .before .before .before .before .args .names .now)) (c .before .before .before .before .before .before .before .before .before .before .before .before .before .before .before .before .before .before .before .before .before .before .before .before .before .before .before .args .s .now) q u) (c .before .before .before .before .before .before .before .before .before .before .before .before .before .q .given .0 .0) (c .before .before .before .before .before .before .before .before .before .before .before .type-at .ensures (c .before .before .before .before .before .before .before .before .before .before .before .before .before .before .before .before .before .before .before .before .before .before .before .before .before .before .before .args .names .now)) (c .before .before .before .before .before .before .before .before .value .ensures)) (c .before .before .a .given .1)) .fewRows, c .before .before .before .before .before .before .before .before .before .before .before .before .before .before .before .before .before .before .before .before .loop .inv .2 .done .sofar .fewRows, c .before .before .before .before .before .before .before .before .before .before .before .before .before .before .before .before .before .before .before .before .loop .inv .1, c .before .before .before .before .before .before .before .before .before .before .before .before .before .before .before .before .before .before .before .loop-test .taken)
+
+-- src/cycle.rt:378:25
+each-member-add-m : (t : ℕ) → each-member-lts.Need-add-m (each-member-calls t) (each-member-at t) each-member.Post each-member-Inv-loop each-member-μ-loop
+each-member-add-m t c = omega (arith, (passed (at-row (λ q u. readAt (c .before .before .before .before .before .before .before .before .before .before .before .before .before .before .before .before .before .before .before .before .before .before .before .before .before .before .before .args .depth - 1) (table (c .before .before .before .before .before .before .before .before .before .before .before .before .before .before .before .before .before .before .before .before .before .before .before .before .before .before .before .args .types .now) (c .before .before .before .before .before .before .before .before .before .before .before .before .before .before .before .before .before .before .before .before .before .before .before .before .before .before .before .args .names .now)) (c .before .before .before .before .before .before .before .before .before .before .before .before .before .before .before .before .before .before .before .before .before .before .before .before .before .before .before .args .s .now) q u) (c .before .before .before .before .before .before .before .before .before .before .before .before .before .q .given .0 .0) (c .before .before .before .before .before .before .before .before .before .before .before .type-at .ensures (c .before .before .before .before .before .before .before .before .before .before .before .before .before .before .before .before .before .before .before .before .before .before .before .before .before .before .before .args .names .now)) (c .before .before .before .before .before .before .before .before .value .ensures)) (c .before .before .a .given .1)) .fewBytes, c .before .before .before .before .before .before .before .before .before .before .before .before .before .before .before .before .before .before .before .before .loop .inv .2 .done .sofar .fewBytes, c .before .before .before .before .before .before .before .before .before .before .before .before .before .before .before .before .before .before .before .before .loop .inv .1, c .before .before .before .before .before .before .before .before .before .before .before .before .before .before .before .before .before .before .before .loop-test .taken)
+
+-- src/cycle.rt:379:25
+each-member-add-k-2 : (t : ℕ) → each-member-lts.Need-add-k-2 (each-member-calls t) (each-member-at t) each-member.Post each-member-Inv-loop each-member-μ-loop
+each-member-add-k-2 t c = search needs
+
+-- src/cycle.rt:342:5
+each-member-loop-less-2 : (t : ℕ) → each-member-lts.Need-loop-less-2 (each-member-calls t) (each-member-at t) each-member.Post each-member-Inv-loop each-member-μ-loop
+each-member-loop-less-2 t c = search needs
+
+-- src/cycle.rt:342:5
+each-member-loop-again-2 : (t : ℕ) → each-member-lts.Need-loop-again-2 (each-member-calls t) (each-member-at t) each-member.Post each-member-Inv-loop each-member-μ-loop
+each-member-loop-again-2 t c = (c .before .before .before .before .before .before .before .before .before .before .before .before .before .before .before .before .before .before .before .before .loop .inv .0, c .before .before .before .before .before .before .before .before .before .before .before .before .before .before .before .before .before .before .before .before .loop .inv .1, order-more (λ q u. readAt (c .before .before .before .before .before .before .before .before .before .before .before .before .before .before .before .before .before .before .before .before .before .before .before .before .before .before .before .args .depth - 1) (table (c .before .before .before .before .before .before .before .before .before .before .before .before .before .before .before .before .before .before .before .before .before .before .before .before .before .before .before .args .types .now) (c .before .before .before .before .before .before .before .before .before .before .before .before .before .before .before .before .before .before .before .before .before .before .before .before .before .before .before .args .names .now)) (c .before .before .before .before .before .before .before .before .before .before .before .before .before .before .before .before .before .before .before .before .before .before .before .before .before .before .before .args .s .now) q u) (table (c .before .before .before .before .before .before .before .before .before .before .before .before .before .before .before .before .before .before .before .before .before .before .before .before .before .before .before .args .types .now) (c .before .before .before .before .before .before .before .before .before .before .before .before .before .before .before .before .before .before .before .before .before .before .before .before .before .before .before .args .names .now)) (c .before .before .before .before .before .before .before .before .before .before .before .before .before .before .before .before .before .before .before .before .before .before .before .before .before .before .before .args .s .now) (c .before .before .before .before .before .before .before .before .before .before .before .before .before .before .before .before .before .before .before .before .before .before .before .before .before .before .before .args .row) (c .before .before .before .before .before .before .before .before .before .before .before .before .before .before .before .before .before .before .before .before .before .before .before .before .before .before .before .args .p) (c .before .before .before .before .before .before .before .before .before .before .before .before .before .before .before .before .before .before .before .before .before .before .before .before .before .before .before .args .met) (c .before .before .before .before .before .before .before .before .before .before .before .before .before .before .before .before .before .before .before .before .before .before .before .before .before .before .before .args .t6) (c .before .before .before .before .before .before .before .before .before .before .before .before .before .before .before .before .before .before .before .before .loop .inv .2) (rw (← c .before .before .before .before .before .before .before .before .before .before .before .before .before .before .before .before .before .before .before .before .loop .inv .0) (c .before .before .before .before .before .before .before .before .before .before .before .before .before .before .before .before .before .before .before .loop-test .taken)) (sym (c .before .before .before .before .before .before .before .before .before .before .before .before .before .q .given .1) ∙ member-is (table (c .before .before .before .before .before .before .before .before .before .before .before .before .before .before .before .before .before .before .before .before .before .before .before .before .before .before .before .args .types .now) (c .before .before .before .before .before .before .before .before .before .before .before .before .before .before .before .before .before .before .before .before .before .before .before .before .before .before .before .args .names .now)) (c .before .before .before .before .before .before .before .before .before .before .before .before .before .before .before .before .before .before .before .before .before .before .before .before .before .before .before .args .s .now) (c .before .before .before .before .before .before .before .before .before .before .before .before .before .before .before .before .before .before .before .before .before .before .before .before .before .before .before .args .row) (c .before .before .before .before .before .before .before .before .before .before .before .before .before .before .before .before .before .before .before .before .loop .k) (c .before .before .before .before .before .before .before .before .before .before .before .before .before .before .before .before .before .before .before .before .before .before .before .before .before .before .before .args .met) (c .before .before .before .before .before .before .before .before .before .before .before .before .before .before .before .before .before .before .before .before .before .before .before .before .before .before .before .args .t6) (c .before .before .before .before .before .before .before .before .before .before .before .before .before .before .before .before .before .before .wide .ensures .0) (c .before .before .before .before .before .before .before .before .before .before .before .before .before .before .before .before .before .wide2 .ensures .0) (c .before .before .before .before .before .before .before .before .before .before .before .before .before .before .before .before .bit .ensures) (c .before .before .before .before .before .before .before .before .before .before .before .before .before .before .before .member-found .ensures (c .before .before .before .before .before .before .before .before .before .before .before .before .before .before .before .before .before .before .before .before .before .before .before .before .before .before .before .args .names .now))) ((passed (at-row (λ q u. readAt (c .before .before .before .before .before .before .before .before .before .before .before .before .before .before .before .before .before .before .before .before .before .before .before .before .before .before .before .args .depth - 1) (table (c .before .before .before .before .before .before .before .before .before .before .before .before .before .before .before .before .before .before .before .before .before .before .before .before .before .before .before .args .types .now) (c .before .before .before .before .before .before .before .before .before .before .before .before .before .before .before .before .before .before .before .before .before .before .before .before .before .before .before .args .names .now)) (c .before .before .before .before .before .before .before .before .before .before .before .before .before .before .before .before .before .before .before .before .before .before .before .before .before .before .before .args .s .now) q u) (c .before .before .before .before .before .before .before .before .before .before .before .before .before .q .given .0 .0) (c .before .before .before .before .before .before .before .before .before .before .before .type-at .ensures (c .before .before .before .before .before .before .before .before .before .before .before .before .before .before .before .before .before .before .before .before .before .before .before .before .before .before .before .args .names .now)) (c .before .before .before .before .before .before .before .before .value .ensures)) (c .before .before .a .given .1)) .took) ((at-row (λ q u. readAt (c .before .before .before .before .before .before .before .before .before .before .before .before .before .before .before .before .before .before .before .before .before .before .before .before .before .before .before .args .depth - 1) (table (c .before .before .before .before .before .before .before .before .before .before .before .before .before .before .before .before .before .before .before .before .before .before .before .before .before .before .before .args .types .now) (c .before .before .before .before .before .before .before .before .before .before .before .before .before .before .before .before .before .before .before .before .before .before .before .before .before .before .before .args .names .now)) (c .before .before .before .before .before .before .before .before .before .before .before .before .before .before .before .before .before .before .before .before .before .before .before .before .before .before .before .args .s .now) q u) (c .before .before .before .before .before .before .before .before .before .before .before .before .before .q .given .0 .0) (c .before .before .before .before .before .before .before .before .before .before .before .type-at .ensures (c .before .before .before .before .before .before .before .before .before .before .before .before .before .before .before .before .before .before .before .before .before .before .before .before .before .before .before .args .names .now)) (c .before .before .before .before .before .before .before .before .value .ensures)) .stepped) ((passed (at-row (λ q u. readAt (c .before .before .before .before .before .before .before .before .before .before .before .before .before .before .before .before .before .before .before .before .before .before .before .before .before .before .before .args .depth - 1) (table (c .before .before .before .before .before .before .before .before .before .before .before .before .before .before .before .before .before .before .before .before .before .before .before .before .before .before .before .args .types .now) (c .before .before .before .before .before .before .before .before .before .before .before .before .before .before .before .before .before .before .before .before .before .before .before .before .before .before .before .args .names .now)) (c .before .before .before .before .before .before .before .before .before .before .before .before .before .before .before .before .before .before .before .before .before .before .before .before .before .before .before .args .s .now) q u) (c .before .before .before .before .before .before .before .before .before .before .before .before .before .q .given .0 .0) (c .before .before .before .before .before .before .before .before .before .before .before .type-at .ensures (c .before .before .before .before .before .before .before .before .before .before .before .before .before .before .before .before .before .before .before .before .before .before .before .before .before .before .before .args .names .now)) (c .before .before .before .before .before .before .before .before .value .ensures)) (c .before .before .a .given .1)) .fewRows) ((passed (at-row (λ q u. readAt (c .before .before .before .before .before .before .before .before .before .before .before .before .before .before .before .before .before .before .before .before .before .before .before .before .before .before .before .args .depth - 1) (table (c .before .before .before .before .before .before .before .before .before .before .before .before .before .before .before .before .before .before .before .before .before .before .before .before .before .before .before .args .types .now) (c .before .before .before .before .before .before .before .before .before .before .before .before .before .before .before .before .before .before .before .before .before .before .before .before .before .before .before .args .names .now)) (c .before .before .before .before .before .before .before .before .before .before .before .before .before .before .before .before .before .before .before .before .before .before .before .before .before .before .before .args .s .now) q u) (c .before .before .before .before .before .before .before .before .before .before .before .before .before .q .given .0 .0) (c .before .before .before .before .before .before .before .before .before .before .before .type-at .ensures (c .before .before .before .before .before .before .before .before .before .before .before .before .before .before .before .before .before .before .before .before .before .before .before .before .before .before .before .args .names .now)) (c .before .before .before .before .before .before .before .before .value .ensures)) (c .before .before .a .given .1)) .fewBytes) (c .before .before .before .before .before .before .before .before .value .kept .1 .1 .1 .0) (c .before .before .before .before .before .before .before .before .value .kept .1 .1 .1 .1 .0) (c .with .ensures), omega (arith, c .before .before .before .before .before .before .before .before .before .before .before .before .before .before .before .before .before .before .before .loop-test .taken))
+
+-- src/cycle.rt:385:35
+each-member-ones-requires : (t : ℕ) → each-member-lts.Need-ones-requires (each-member-calls t) (each-member-at t) each-member.Post each-member-Inv-loop each-member-μ-loop
+each-member-ones-requires t c κs = search needs
+
+-- src/cycle.rt:385:5
+each-member-close-requires : (t : ℕ) → each-member-lts.Need-close-requires (each-member-calls t) (each-member-at t) each-member.Post each-member-Inv-loop each-member-μ-loop
+each-member-close-requires t c κs = (omega (arith, (c .before .before .before .before .before .before .before .before .before .before .pre .1 .0) .rowRoom), omega (arith, c .before .before .before .loop .inv .2 .done .sofar .fewRows, c .before .before .before .loop .inv .3, c .before .before .before .loop .inv .1))
+
+-- src/cycle.rt:318:1
+each-member-same-length-5 : (t : ℕ) → each-member-lts.Need-same-length-5 (each-member-calls t) (each-member-at t) each-member.Post each-member-Inv-loop each-member-μ-loop
+each-member-same-length-5 t c = search needs
+
+-- src/cycle.rt:318:1
+each-member-same-length-6 : (t : ℕ) → each-member-lts.Need-same-length-6 (each-member-calls t) (each-member-at t) each-member.Post each-member-Inv-loop each-member-μ-loop
+each-member-same-length-6 t c = search needs
+
+-- src/cycle.rt:318:1
+each-member-returns-3 : (t : ℕ) → each-member-lts.Need-returns-3 (each-member-calls t) (each-member-at t) each-member.Post each-member-Inv-loop each-member-μ-loop
+each-member-returns-3 t c = along (over-ok (table (c .before .before .before .before .before .before .before .before .before .before .before .before .before .args .types .now) (c .before .before .before .before .before .before .before .before .before .before .before .before .before .args .names .now)) (c .before .before .before .before .before .before .before .before .before .before .before .before .before .args .row) (object-ok (λ q u. readAt (c .before .before .before .before .before .before .before .before .before .before .before .before .before .args .depth - 1) (table (c .before .before .before .before .before .before .before .before .before .before .before .before .before .args .types .now) (c .before .before .before .before .before .before .before .before .before .before .before .before .before .args .names .now)) (c .before .before .before .before .before .before .before .before .before .before .before .before .before .args .s .now) q u) (table (c .before .before .before .before .before .before .before .before .before .before .before .before .before .args .types .now) (c .before .before .before .before .before .before .before .before .before .before .before .before .before .args .names .now)) (c .before .before .before .before .before .before .before .before .before .before .before .before .before .args .s .now) (c .before .before .before .before .before .before .before .before .before .before .before .before .before .args .row) (c .before .before .before .before .before .before .before .before .before .before .before .before .before .args .p) (c .before .before .before .before .before .before .before .before .before .before .before .before .before .args .met) (c .before .before .before .before .before .before .before .before .before .before .before .before .before .args .t6) (order-end (λ q u. readAt (c .before .before .before .before .before .before .before .before .before .before .before .before .before .args .depth - 1) (table (c .before .before .before .before .before .before .before .before .before .before .before .before .before .args .types .now) (c .before .before .before .before .before .before .before .before .before .before .before .before .before .args .names .now)) (c .before .before .before .before .before .before .before .before .before .before .before .before .before .args .s .now) q u) (table (c .before .before .before .before .before .before .before .before .before .before .before .before .before .args .types .now) (c .before .before .before .before .before .before .before .before .before .before .before .before .before .args .names .now)) (c .before .before .before .before .before .before .before .before .before .before .before .before .before .args .s .now) (c .before .before .before .before .before .before .before .before .before .before .before .before .before .args .row) (c .before .before .before .before .before .before .before .before .before .before .before .before .before .args .p) (c .before .before .before .before .before .before .before .before .before .before .before .before .before .args .met) (c .before .before .before .before .before .before .before .before .before .before .before .before .before .args .t6) (c .before .before .before .before .before .before .loop .inv .2) (omega (arith, c .before .before .before .before .before .before .loop .inv .0, c .before .before .before .before .before .loop-test .left))))) (closed (whole-seq (c .before .before .before .before .before .before .loop .inv .2 .done .sofar) (c .before .before .before .before .before .before .before .before .before .before .before .before .before .pre .1 .1 .2) (c .before .before .before .before .before .before .loop .inv .2 .done .members) (c .before .before .before .ones .ensures ∙ c .before .before .before .before .before .before .loop .inv .2 .done .count)) (c .before .before .before .before .before .before .before .before .before .before .before .before .before .pre .1 .1 .1) (c .before .before .close .ensures .0) (c .before .before .close .ensures .1))
+
+abbrev list-Inv-loop : list-lts.InvT-loop
+list-Inv-loop types names s rows₀ pool₀ row p i o depth element next₀ count₀ n₀ m₀ rows pool next count n m =
+    (element ≡ elementOf (table types names) row) × Near (65539 + depth) (followsOf next) × Loop (λ q. readAt (depth - 1) (table types names) s (elementOf (table types names) row) q) s (table types names) (elementOf (table types names) row) (itemsAt (λ q. readAt (depth - 1) (table types names) s (elementOf (table types names) row) q) s (length s) (firstPart s 0x5D p)) (followsOf next) i o n m count rows rows₀ pool pool₀
+
+abbrev list-μ-loop : list-lts.MeasureT-loop
+list-μ-loop types names s rows₀ pool₀ row p i o depth element next₀ count₀ n₀ m₀ rows pool next count n m =
+    length s - count
+
+-- src/cycle.rt:147:24
+list-field-requires : (t : ℕ) → list-lts.Need-field-requires (list-calls t) (list-at t) list.Post list-Inv-loop list-μ-loop
+list-field-requires t c κs = search needs
+
+-- src/cycle.rt:147:9
+list-wide-requires : (t : ℕ) → list-lts.Need-wide-requires (list-calls t) (list-at t) list.Post list-Inv-loop list-μ-loop
+list-wide-requires t c κs = search needs
+
+-- src/cycle.rt:148:9
+list-first-part-requires : (t : ℕ) → list-lts.Need-first-part-requires (list-calls t) (list-at t) list.Post list-Inv-loop list-μ-loop
+list-first-part-requires t c κs = search needs
+
+-- src/cycle.rt:152:5
+list-loop-holds : (t : ℕ) → list-lts.Need-loop-holds (list-calls t) (list-at t) list.Post list-Inv-loop list-μ-loop
+list-loop-holds t c = (element-is (table (c .before .before .before .before .before .before .before .before .args .types .now) (c .before .before .before .before .before .before .before .before .args .names .now)) (c .before .before .before .before .before .before .before .before .args .row) (c .before .before .field .ensures (c .before .before .before .before .before .before .before .before .args .names .now)) (c .before .wide .ensures .0), near-first (c .before .before .before .before .before .before .before .before .args .s .now) 0x5D (c .before .before .before .before .before .before .before .before .args .p) (65539 + c .before .before .before .before .before .before .before .before .args .depth) (followsOf (c .first-part .result)) ((c .before .before .before .before .before .before .before .before .pre .1 .0) .short) (c .before .before .before .before .before .before .before .before .pre .1 .1 .0) (omega (arith, c .before .before .before .before .before .before .before .before .pre .1 .1 .1)) (c .first-part .ensures), loop-start (λ q. readAt (c .before .before .before .before .before .before .before .before .args .depth - 1) (table (c .before .before .before .before .before .before .before .before .args .types .now) (c .before .before .before .before .before .before .before .before .args .names .now)) (c .before .before .before .before .before .before .before .before .args .s .now) (elementOf (table (c .before .before .before .before .before .before .before .before .args .types .now) (c .before .before .before .before .before .before .before .before .args .names .now)) (c .before .before .before .before .before .before .before .before .args .row)) q) (c .before .before .before .before .before .before .before .before .args .s .now) (table (c .before .before .before .before .before .before .before .before .args .types .now) (c .before .before .before .before .before .before .before .before .args .names .now)) (elementOf (table (c .before .before .before .before .before .before .before .before .args .types .now) (c .before .before .before .before .before .before .before .before .args .names .now)) (c .before .before .before .before .before .before .before .before .args .row)) (firstPart (c .before .before .before .before .before .before .before .before .args .s .now) 0x5D (c .before .before .before .before .before .before .before .before .args .p)) (followsOf (c .first-part .result)) (c .before .before .before .before .before .before .before .before .args .i) (c .before .before .before .before .before .before .before .before .args .o) (c .before .before .before .before .before .before .before .before .args .rows .now) (c .before .before .before .before .before .before .before .before .args .pool .now) (c .first-part .ensures))
+
+-- src/cycle.rt:154:27
+list-enum-known-next : (t : ℕ) → list-lts.Need-enum-known-next (list-calls t) (list-at t) list.Post list-Inv-loop list-μ-loop
+list-enum-known-next t c = search needs
+
+-- src/cycle.rt:155:57
+list-narrow-requires : (t : ℕ) → list-lts.Need-narrow-requires (list-calls t) (list-at t) list.Post list-Inv-loop list-μ-loop
+list-narrow-requires t c κs = search needs
+
+-- src/cycle.rt:155:17
+list-close-requires : (t : ℕ) → list-lts.Need-close-requires (list-calls t) (list-at t) list.Post list-Inv-loop list-μ-loop
+list-close-requires t c κs = search needs
+
+-- src/cycle.rt:155:17
+list-same-length : (t : ℕ) → list-lts.Need-same-length (list-calls t) (list-at t) list.Post list-Inv-loop list-μ-loop
+list-same-length t c = search needs
+
+-- src/cycle.rt:155:17
+list-same-length-2 : (t : ℕ) → list-lts.Need-same-length-2 (list-calls t) (list-at t) list.Post list-Inv-loop list-μ-loop
+list-same-length-2 t c = search needs
+
+-- src/cycle.rt:155:17
+list-returns : (t : ℕ) → list-lts.Need-returns (list-calls t) (list-at t) list.Post list-Inv-loop list-μ-loop
+list-returns t c = along (over-ok (table (c .before .before .before .before .before .before .before .before .before .before .before .before .before .before .before .before .before .args .types .now) (c .before .before .before .before .before .before .before .before .before .before .before .before .before .before .before .before .before .args .names .now)) (c .before .before .before .before .before .before .before .before .before .before .before .before .before .before .before .before .before .args .row) (list-ok (λ q u. readAt (c .before .before .before .before .before .before .before .before .before .before .before .before .before .before .before .before .before .args .depth - 1) (table (c .before .before .before .before .before .before .before .before .before .before .before .before .before .before .before .before .before .args .types .now) (c .before .before .before .before .before .before .before .before .before .before .before .before .before .before .before .before .before .args .names .now)) (c .before .before .before .before .before .before .before .before .before .before .before .before .before .before .before .before .before .args .s .now) q u) (table (c .before .before .before .before .before .before .before .before .before .before .before .before .before .before .before .before .before .args .types .now) (c .before .before .before .before .before .before .before .before .before .before .before .before .before .before .before .before .before .args .names .now)) (c .before .before .before .before .before .before .before .before .before .before .before .before .before .before .before .before .before .args .s .now) (c .before .before .before .before .before .before .before .before .before .before .before .before .before .before .before .before .before .args .row) (c .before .before .before .before .before .before .before .before .before .before .before .before .before .before .before .before .before .args .p) (loop-shut (c .before .before .before .before .before .before .before .before .loop .inv .2) (ap followsOf (c .before .before .before .before .before .before .next .given .1))))) (closed (whole-list (c .before .before .before .before .before .before .before .before .loop .inv .2 .sofar) (c .before .before .before .before .before .before .before .before .before .before .before .before .before .before .before .before .before .pre .1 .1 .2) (c .before .before .before .before .before .before .before .before .loop .inv .2 .items) (c .before .before .before .narrow .ensures (omega (arith, (c .before .before .before .before .before .before .before .before .before .before .before .before .before .before .before .before .before .pre .1 .0) .short, c .before .before .before .before .before .before .before .before .loop .inv .2 .few)))) (omega (arith, c .before .before .before .before .before .before .before .before .before .before .before .before .before .before .before .before .before .pre .1 .1 .0, near-shut (65539 + c .before .before .before .before .before .before .before .before .before .before .before .before .before .before .before .before .before .args .depth) (ap followsOf (c .before .before .before .before .before .before .next .given .1)) (c .before .before .before .before .before .before .before .before .loop .inv .1))) (c .before .before .close .ensures .0) (c .before .before .close .ensures .1))
+
+-- src/cycle.rt:157:27
+list-enum-known-next-2 : (t : ℕ) → list-lts.Need-enum-known-next-2 (list-calls t) (list-at t) list.Post list-Inv-loop list-μ-loop
+list-enum-known-next-2 t c = search needs
+
+-- src/cycle.rt:159:61
+list-narrow-requires-2 : (t : ℕ) → list-lts.Need-narrow-requires-2 (list-calls t) (list-at t) list.Post list-Inv-loop list-μ-loop
+list-narrow-requires-2 t c κs = search needs
+
+-- src/cycle.rt:159:21
+list-close-requires-2 : (t : ℕ) → list-lts.Need-close-requires-2 (list-calls t) (list-at t) list.Post list-Inv-loop list-μ-loop
+list-close-requires-2 t c κs = search needs
+
+-- src/cycle.rt:159:21
+list-same-length-3 : (t : ℕ) → list-lts.Need-same-length-3 (list-calls t) (list-at t) list.Post list-Inv-loop list-μ-loop
+list-same-length-3 t c = search needs
+
+-- src/cycle.rt:159:21
+list-same-length-4 : (t : ℕ) → list-lts.Need-same-length-4 (list-calls t) (list-at t) list.Post list-Inv-loop list-μ-loop
+list-same-length-4 t c = search needs
+
+-- src/cycle.rt:159:21
+list-returns-2 : (t : ℕ) → list-lts.Need-returns-2 (list-calls t) (list-at t) list.Post list-Inv-loop list-μ-loop
+list-returns-2 t c = along (over-ok (table (c .before .before .before .before .before .before .before .before .before .before .before .before .before .before .before .before .before .before .args .types .now) (c .before .before .before .before .before .before .before .before .before .before .before .before .before .before .before .before .before .before .args .names .now)) (c .before .before .before .before .before .before .before .before .before .before .before .before .before .before .before .before .before .before .args .row) (list-ok (λ q u. readAt (c .before .before .before .before .before .before .before .before .before .before .before .before .before .before .before .before .before .before .args .depth - 1) (table (c .before .before .before .before .before .before .before .before .before .before .before .before .before .before .before .before .before .before .args .types .now) (c .before .before .before .before .before .before .before .before .before .before .before .before .before .before .before .before .before .before .args .names .now)) (c .before .before .before .before .before .before .before .before .before .before .before .before .before .before .before .before .before .before .args .s .now) q u) (table (c .before .before .before .before .before .before .before .before .before .before .before .before .before .before .before .before .before .before .args .types .now) (c .before .before .before .before .before .before .before .before .before .before .before .before .before .before .before .before .before .before .args .names .now)) (c .before .before .before .before .before .before .before .before .before .before .before .before .before .before .before .before .before .before .args .s .now) (c .before .before .before .before .before .before .before .before .before .before .before .before .before .before .before .before .before .before .args .row) (c .before .before .before .before .before .before .before .before .before .before .before .before .before .before .before .before .before .before .args .p) (loop-full (c .before .before .before .before .before .before .before .before .before .loop .inv .2) (ap followsOf (c .before .before .before .before .before .before .before .next2 .given .1)) (c .before .before .before .before .before .if1 .taken)))) (closed (whole-list (c .before .before .before .before .before .before .before .before .before .loop .inv .2 .sofar) (c .before .before .before .before .before .before .before .before .before .before .before .before .before .before .before .before .before .before .pre .1 .1 .2) (c .before .before .before .before .before .before .before .before .before .loop .inv .2 .items) (c .before .before .before .narrow2 .ensures (omega (arith, (c .before .before .before .before .before .before .before .before .before .before .before .before .before .before .before .before .before .before .pre .1 .0) .short, c .before .before .before .before .before .before .before .before .before .loop .inv .2 .few)))) (omega (arith, c .before .before .before .before .before .before .before .before .before .before .before .before .before .before .before .before .before .before .pre .1 .1 .0, near-part (65539 + c .before .before .before .before .before .before .before .before .before .before .before .before .before .before .before .before .before .before .args .depth) (ap followsOf (c .before .before .before .before .before .before .before .next2 .given .1)) (c .before .before .before .before .before .before .before .before .before .loop .inv .1))) (c .before .before .close2 .ensures .0) (c .before .before .close2 .ensures .1))
+
+-- src/cycle.rt:169:21
+list-add-value : (t : ℕ) → list-lts.Need-add-value (list-calls t) (list-at t) list.Post list-Inv-loop list-μ-loop
+list-add-value t c = search needs
+
+-- src/cycle.rt:169:21
+list-add-value-2 : (t : ℕ) → list-lts.Need-add-value-2 (list-calls t) (list-at t) list.Post list-Inv-loop list-μ-loop
+list-add-value-2 t c = search needs
+
+-- src/cycle.rt:170:21
+list-add-value-3 : (t : ℕ) → list-lts.Need-add-value-3 (list-calls t) (list-at t) list.Post list-Inv-loop list-μ-loop
+list-add-value-3 t c = search needs
+
+-- src/cycle.rt:171:21
+list-sub-value : (t : ℕ) → list-lts.Need-sub-value (list-calls t) (list-at t) list.Post list-Inv-loop list-μ-loop
+list-sub-value t c = search needs
+
+-- src/cycle.rt:161:23
+list-value-requires : (t : ℕ) → list-lts.Need-value-requires (list-calls t) (list-at t) list.Post list-Inv-loop list-μ-loop
+list-value-requires t c κs = (omega arith, given-part (c .before .before .before .before .before .before .before .before .before .before .before .before .before .before .before .pre .1 .0) (c .before .before .before .before .before .before .before .before .before .before .before .before .before .before .before .pre .1 .1 .1) (rw (c .before .before .before .before .before .before .loop .inv .0) ((c .before .before .before .before .before .before .before .before .before .before .before .before .before .before .before .pre .1 .0) .sane .element (c .before .before .before .before .before .before .before .before .before .before .before .before .before .before .before .args .row) (c .before .before .before .before .before .before .before .before .before .before .before .before .before .before .before .pre .1 .1 .2))) (omega (arith, near-part (65539 + c .before .before .before .before .before .before .before .before .before .before .before .before .before .before .before .args .depth) (ap followsOf (c .before .before .before .before .next2 .given .1)) (c .before .before .before .before .before .before .loop .inv .1))) (omega (arith, c .before .before .before .before .before .before .loop .inv .2 .sofar .fewRows, c .before .before .if1 .left, (c .before .before .before .before .before .before .before .before .before .before .before .before .before .before .before .pre .1 .0) .short)) (omega (arith, c .before .before .before .before .before .before .loop .inv .2 .sofar .fewBytes, c .before .before .if1 .left, (c .before .before .before .before .before .before .before .before .before .before .before .before .before .before .before .pre .1 .0) .short)))
+
+-- src/cycle.rt:173:35
+list-enum-known-e : (t : ℕ) → list-lts.Need-enum-known-e (list-calls t) (list-at t) list.Post list-Inv-loop list-μ-loop
+list-enum-known-e t c = search needs
+
+-- src/cycle.rt:174:25
+list-same-length-5 : (t : ℕ) → list-lts.Need-same-length-5 (list-calls t) (list-at t) list.Post list-Inv-loop list-μ-loop
+list-same-length-5 t c = search needs
+
+-- src/cycle.rt:174:25
+list-same-length-6 : (t : ℕ) → list-lts.Need-same-length-6 (list-calls t) (list-at t) list.Post list-Inv-loop list-μ-loop
+list-same-length-6 t c = search needs
+
+-- src/cycle.rt:174:25
+list-returns-3 : (t : ℕ) → list-lts.Need-returns-3 (list-calls t) (list-at t) list.Post list-Inv-loop list-μ-loop
+list-returns-3 t c = reads-no (over-no (table (c .before .before .before .before .before .before .before .before .before .before .before .before .before .before .before .before .before .before .before .before .before .before .before .args .types .now) (c .before .before .before .before .before .before .before .before .before .before .before .before .before .before .before .before .before .before .before .before .before .before .before .args .names .now)) (c .before .before .before .before .before .before .before .before .before .before .before .before .before .before .before .before .before .before .before .before .before .before .before .args .row) (list-no (λ q u. readAt (c .before .before .before .before .before .before .before .before .before .before .before .before .before .before .before .before .before .before .before .before .before .before .before .args .depth - 1) (table (c .before .before .before .before .before .before .before .before .before .before .before .before .before .before .before .before .before .before .before .before .before .before .before .args .types .now) (c .before .before .before .before .before .before .before .before .before .before .before .before .before .before .before .before .before .before .before .before .before .before .before .args .names .now)) (c .before .before .before .before .before .before .before .before .before .before .before .before .before .before .before .before .before .before .before .before .before .before .before .args .s .now) q u) (table (c .before .before .before .before .before .before .before .before .before .before .before .before .before .before .before .before .before .before .before .before .before .before .before .args .types .now) (c .before .before .before .before .before .before .before .before .before .before .before .before .before .before .before .before .before .before .before .before .before .before .before .args .names .now)) (c .before .before .before .before .before .before .before .before .before .before .before .before .before .before .before .before .before .before .before .before .before .before .before .args .s .now) (c .before .before .before .before .before .before .before .before .before .before .before .before .before .before .before .before .before .before .before .before .before .before .before .args .row) (c .before .before .before .before .before .before .before .before .before .before .before .before .before .before .before .before .before .before .before .before .before .before .before .args .p) (loop-refused (c .before .before .before .before .before .before .before .before .before .before .before .before .before .before .loop .inv .2) (ap followsOf (c .before .before .before .before .before .before .before .before .before .before .before .before .next2 .given .1)) (c .before .before .before .before .before .before .before .before .before .before .if1 .left) (failed (at-row (λ q u. readAt (c .before .before .before .before .before .before .before .before .before .before .before .before .before .before .before .before .before .before .before .before .before .before .before .args .depth - 1) (table (c .before .before .before .before .before .before .before .before .before .before .before .before .before .before .before .before .before .before .before .before .before .before .before .args .types .now) (c .before .before .before .before .before .before .before .before .before .before .before .before .before .before .before .before .before .before .before .before .before .before .before .args .names .now)) (c .before .before .before .before .before .before .before .before .before .before .before .before .before .before .before .before .before .before .before .before .before .before .before .args .s .now) q u) (c .before .before .before .before .before .before .before .before .before .before .before .before .next2 .given .0 .0) (c .before .before .before .before .before .before .before .before .before .before .before .before .before .before .loop .inv .0) (c .before .before .before .before .before .before .before .value .ensures)) (c .before .e .given .1)))))
+
+-- src/cycle.rt:177:31
+list-enum-known-end : (t : ℕ) → list-lts.Need-enum-known-end (list-calls t) (list-at t) list.Post list-Inv-loop list-μ-loop
+list-enum-known-end t c = search needs
+
+-- src/cycle.rt:181:25
+list-after-part-requires : (t : ℕ) → list-lts.Need-after-part-requires (list-calls t) (list-at t) list.Post list-Inv-loop list-μ-loop
+list-after-part-requires t c κs = ((c .before .before .before .before .before .before .before .before .before .before .before .before .before .before .before .before .before .before .before .before .before .before .before .pre .1 .0) .short, omega (arith, passed (c .before .before .before .before .before .before .before .value .ensures) (c .before .end .given .1) .near, near-part (65539 + c .before .before .before .before .before .before .before .before .before .before .before .before .before .before .before .before .before .before .before .before .before .before .before .args .depth) (ap followsOf (c .before .before .before .before .before .before .before .before .before .before .before .before .next2 .given .1)) (c .before .before .before .before .before .before .before .before .before .before .before .before .before .before .loop .inv .1), (c .before .before .before .before .before .before .before .before .before .before .before .before .before .before .before .before .before .before .before .before .before .before .before .pre .1 .0) .rowRoom))
+
+-- src/cycle.rt:182:25
+list-add-count : (t : ℕ) → list-lts.Need-add-count (list-calls t) (list-at t) list.Post list-Inv-loop list-μ-loop
+list-add-count t c = omega (arith, c .before .before .before .before .before .before .before .before .before .before .before .if1 .left, (c .before .before .before .before .before .before .before .before .before .before .before .before .before .before .before .before .before .before .before .before .before .before .before .before .pre .1 .0) .short)
+
+-- src/cycle.rt:183:25
+list-add-n : (t : ℕ) → list-lts.Need-add-n (list-calls t) (list-at t) list.Post list-Inv-loop list-μ-loop
+list-add-n t c = omega (arith, passed (c .before .before .before .before .before .before .before .before .value .ensures) (c .before .before .end .given .1) .fewRows, c .before .before .before .before .before .before .before .before .before .before .before .before .before .before .before .loop .inv .2 .sofar .fewRows, c .before .before .before .before .before .before .before .before .before .before .before .if1 .left, (c .before .before .before .before .before .before .before .before .before .before .before .before .before .before .before .before .before .before .before .before .before .before .before .before .pre .1 .0) .short)
+
+-- src/cycle.rt:184:25
+list-add-m : (t : ℕ) → list-lts.Need-add-m (list-calls t) (list-at t) list.Post list-Inv-loop list-μ-loop
+list-add-m t c = omega (arith, passed (c .before .before .before .before .before .before .before .before .value .ensures) (c .before .before .end .given .1) .fewBytes, c .before .before .before .before .before .before .before .before .before .before .before .before .before .before .before .loop .inv .2 .sofar .fewBytes, c .before .before .before .before .before .before .before .before .before .before .before .if1 .left, (c .before .before .before .before .before .before .before .before .before .before .before .before .before .before .before .before .before .before .before .before .before .before .before .before .pre .1 .0) .short)
+
+-- src/cycle.rt:152:5
+list-loop-less : (t : ℕ) → list-lts.Need-loop-less (list-calls t) (list-at t) list.Post list-Inv-loop list-μ-loop
+list-loop-less t c = search needs
+
+-- src/cycle.rt:152:5
+list-loop-again : (t : ℕ) → list-lts.Need-loop-again (list-calls t) (list-at t) list.Post list-Inv-loop list-μ-loop
+list-loop-again t c = (c .before .before .before .before .before .before .before .before .before .before .before .before .before .before .before .loop .inv .0, near-after (c .before .before .before .before .before .before .before .before .before .before .before .before .before .before .before .before .before .before .before .before .before .before .before .before .args .s .now) (c .before .before .end .given .0 .0) (65539 + c .before .before .before .before .before .before .before .before .before .before .before .before .before .before .before .before .before .before .before .before .before .before .before .before .args .depth) (followsOf (c .after-part .result)) ((c .before .before .before .before .before .before .before .before .before .before .before .before .before .before .before .before .before .before .before .before .before .before .before .before .pre .1 .0) .short) (omega (arith, passed (c .before .before .before .before .before .before .before .before .value .ensures) (c .before .before .end .given .1) .near, near-part (65539 + c .before .before .before .before .before .before .before .before .before .before .before .before .before .before .before .before .before .before .before .before .before .before .before .before .args .depth) (ap followsOf (c .before .before .before .before .before .before .before .before .before .before .before .before .before .next2 .given .1)) (c .before .before .before .before .before .before .before .before .before .before .before .before .before .before .before .loop .inv .1), c .before .before .before .before .before .before .before .before .before .before .before .before .before .before .before .before .before .before .before .before .before .before .before .before .pre .1 .1 .1)) (omega arith) (c .after-part .ensures), loop-more (c .before .before .before .before .before .before .before .before .before .before .before .before .before .before .before .loop .inv .2) (ap followsOf (c .before .before .before .before .before .before .before .before .before .before .before .before .before .next2 .given .1)) (c .before .before .before .before .before .before .before .before .before .before .before .if1 .left) (passed (at-row (λ q u. readAt (c .before .before .before .before .before .before .before .before .before .before .before .before .before .before .before .before .before .before .before .before .before .before .before .before .args .depth - 1) (table (c .before .before .before .before .before .before .before .before .before .before .before .before .before .before .before .before .before .before .before .before .before .before .before .before .args .types .now) (c .before .before .before .before .before .before .before .before .before .before .before .before .before .before .before .before .before .before .before .before .before .before .before .before .args .names .now)) (c .before .before .before .before .before .before .before .before .before .before .before .before .before .before .before .before .before .before .before .before .before .before .before .before .args .s .now) q u) (c .before .before .before .before .before .before .before .before .before .before .before .before .before .next2 .given .0 .0) (c .before .before .before .before .before .before .before .before .before .before .before .before .before .before .before .loop .inv .0) (c .before .before .before .before .before .before .before .before .value .ensures)) (c .before .before .end .given .1) .took) ((at-row (λ q u. readAt (c .before .before .before .before .before .before .before .before .before .before .before .before .before .before .before .before .before .before .before .before .before .before .before .before .args .depth - 1) (table (c .before .before .before .before .before .before .before .before .before .before .before .before .before .before .before .before .before .before .before .before .before .before .before .before .args .types .now) (c .before .before .before .before .before .before .before .before .before .before .before .before .before .before .before .before .before .before .before .before .before .before .before .before .args .names .now)) (c .before .before .before .before .before .before .before .before .before .before .before .before .before .before .before .before .before .before .before .before .before .before .before .before .args .s .now) q u) (c .before .before .before .before .before .before .before .before .before .before .before .before .before .next2 .given .0 .0) (c .before .before .before .before .before .before .before .before .before .before .before .before .before .before .before .loop .inv .0) (c .before .before .before .before .before .before .before .before .value .ensures)) .stepped) (passed (c .before .before .before .before .before .before .before .before .value .ensures) (c .before .before .end .given .1) .fewRows) (passed (c .before .before .before .before .before .before .before .before .value .ensures) (c .before .before .end .given .1) .fewBytes) (c .before .before .before .before .before .before .before .before .value .kept .1 .1 .1 .0) (c .before .before .before .before .before .before .before .before .value .kept .1 .1 .1 .1 .0) (c .after-part .ensures))
+
+-- src/cycle.rt:293:47
+object-sub-scan : (t : ℕ) → object-lts.Need-sub-scan (object-calls t) (object-at t) object.Post
+object-sub-scan t c = search needs
+
+-- src/cycle.rt:293:9
+object-scan-requires : (t : ℕ) → object-lts.Need-scan-requires (object-calls t) (object-at t) object.Post
+object-scan-requires t c κs = ((c .before .before .before .before .before .pre .1 .0) .short, c .before .before .before .before .before .pre .1 .1 .0, (c .before .before .before .before .before .pre .1 .0) .sane .few (c .before .before .before .before .before .args .row) ((c .before .before .before .before .before .pre .1 .0) .typed))
+
+-- src/cycle.rt:298:24
+object-enum-known-end : (t : ℕ) → object-lts.Need-enum-known-end (object-calls t) (object-at t) object.Post
+object-enum-known-end t c = search needs
+
+-- src/cycle.rt:299:23
+object-enum-known-end-2 : (t : ℕ) → object-lts.Need-enum-known-end-2 (object-calls t) (object-at t) object.Post
+object-enum-known-end-2 t c = search needs
+
+-- src/cycle.rt:299:32
+object-each-member-requires : (t : ℕ) → object-lts.Need-each-member-requires (object-calls t) (object-at t) object.Post
+object-each-member-requires t c κs = (omega arith, ((c .before .before .before .before .before .before .before .before .before .before .before .before .pre .1 .0), (c .before .before .before .before .before .before .before .before .before .before .before .before .pre .1 .1 .1, omega (arith, scan-near (c .before .before .before .before .before .before .before .before .before .before .before .before .args .depth - 1) (table (c .before .before .before .before .before .before .before .before .before .before .before .before .args .types .now) (c .before .before .before .before .before .before .before .before .before .before .before .before .args .names .now)) (c .before .before .before .before .before .before .before .before .before .before .before .before .args .s .now) (c .before .before .before .before .before .before .before .before .before .before .before .before .args .row) 65540 ((c .before .before .before .before .before .before .before .before .before .before .before .before .pre .1 .0) .short) (omega arith) (length (c .before .before .before .before .before .before .before .before .before .before .before .before .args .s .now)) (firstPart (c .before .before .before .before .before .before .before .before .before .before .before .before .args .s .now) 0x7D (c .before .before .before .before .before .before .before .before .before .before .before .before .args .p)) 0 noPlaces (c .before .before .before .before .before .before .scan .result .met) (c .before .before .before .before .before .before .scan .result .places) (c .before .before .before .end2 .given .0 .0) (near-first (c .before .before .before .before .before .before .before .before .before .before .before .before .args .s .now) 0x7D (c .before .before .before .before .before .before .before .before .before .before .before .before .args .p) 65540 (firstPart (c .before .before .before .before .before .before .before .before .before .before .before .before .args .s .now) 0x7D (c .before .before .before .before .before .before .before .before .before .before .before .before .args .p)) ((c .before .before .before .before .before .before .before .before .before .before .before .before .pre .1 .0) .short) (c .before .before .before .before .before .before .before .before .before .before .before .before .pre .1 .1 .0) (omega arith) refl) (sym (ap (λ (e : Ended). endedOf e (c .before .before .before .before .before .before .scan .result .met) (c .before .before .before .before .before .before .scan .result .places)) (c .before .before .before .end2 .given .1)) ∙ c .before .before .before .before .before .before .scan .ensures), c .before .before .before .before .before .before .before .before .before .before .before .before .pre .1 .1 .1, c .before .before .before .before .before .before .before .before .before .before .before .before .pre .1 .1 .0, (c .before .before .before .before .before .before .before .before .before .before .before .before .pre .1 .0) .short), c .before .before .before .before .before .before .before .before .before .before .before .before .pre .1 .1 .2)))
+
+-- src/cycle.rt:277:1
+object-returns : (t : ℕ) → object-lts.Need-returns (object-calls t) (object-at t) object.Post
+object-returns t c = reads-no (over-no (table (c .before .before .before .before .before .before .before .before .before .before .args .types .now) (c .before .before .before .before .before .before .before .before .before .before .args .names .now)) (c .before .before .before .before .before .before .before .before .before .before .args .row) (object-stopped (λ q u. readAt (c .before .before .before .before .before .before .before .before .before .before .args .depth - 1) (table (c .before .before .before .before .before .before .before .before .before .before .args .types .now) (c .before .before .before .before .before .before .before .before .before .before .args .names .now)) (c .before .before .before .before .before .before .before .before .before .before .args .s .now) q u) (c .before .before .before .before .before .before .before .before .before .before .args .depth - 1) (table (c .before .before .before .before .before .before .before .before .before .before .args .types .now) (c .before .before .before .before .before .before .before .before .before .before .args .names .now)) (c .before .before .before .before .before .before .before .before .before .before .args .s .now) (c .before .before .before .before .before .before .before .before .before .before .args .row) (c .before .before .before .before .before .before .before .before .before .before .args .p) (sym (ap (λ (e : Ended). endedOf e (c .before .before .before .before .scan .result .met) (c .before .before .before .before .scan .result .places)) (c .before .end .given .1)) ∙ c .before .before .before .before .scan .ensures)))
+
+-- src/cycle.rt:277:1
+object-same-length : (t : ℕ) → object-lts.Need-same-length (object-calls t) (object-at t) object.Post
+object-same-length t c = search needs
+
+-- src/cycle.rt:277:1
+object-same-length-2 : (t : ℕ) → object-lts.Need-same-length-2 (object-calls t) (object-at t) object.Post
+object-same-length-2 t c = search needs
+
+-- src/cycle.rt:277:1
+object-returns-2 : (t : ℕ) → object-lts.Need-returns-2 (object-calls t) (object-at t) object.Post
+object-returns-2 t c = along (ap (λ (x : Res (Got Val)). bind x (within (table (c .before .before .before .before .before .before .before .before .before .before .before .before .before .before .before .before .before .args .types .now) (c .before .before .before .before .before .before .before .before .before .before .before .before .before .before .before .before .before .args .names .now)) (c .before .before .before .before .before .before .before .before .before .before .before .before .before .before .before .before .before .args .row))) (object-scanned (λ q u. readAt (c .before .before .before .before .before .before .before .before .before .before .before .before .before .before .before .before .before .args .depth - 1) (table (c .before .before .before .before .before .before .before .before .before .before .before .before .before .before .before .before .before .args .types .now) (c .before .before .before .before .before .before .before .before .before .before .before .before .before .before .before .before .before .args .names .now)) (c .before .before .before .before .before .before .before .before .before .before .before .before .before .before .before .before .before .args .s .now) q u) (c .before .before .before .before .before .before .before .before .before .before .before .before .before .before .before .before .before .args .depth - 1) (table (c .before .before .before .before .before .before .before .before .before .before .before .before .before .before .before .before .before .args .types .now) (c .before .before .before .before .before .before .before .before .before .before .before .before .before .before .before .before .before .args .names .now)) (c .before .before .before .before .before .before .before .before .before .before .before .before .before .before .before .before .before .args .s .now) (c .before .before .before .before .before .before .before .before .before .before .before .before .before .before .before .before .before .args .row) (c .before .before .before .before .before .before .before .before .before .before .before .before .before .before .before .before .before .args .p) (sym (ap (λ (e : Ended). endedOf e (c .before .before .before .before .before .before .before .before .before .before .before .scan .result .met) (c .before .before .before .before .before .before .before .before .before .before .before .scan .result .places)) (c .before .before .before .before .before .before .before .before .end2 .given .1)) ∙ c .before .before .before .before .before .before .before .before .before .before .before .scan .ensures))) (c .before .before .before .before .each-member .ensures)
+
+-- src/cycle.rt:106:24
+plain-leaf-requires : (t : ℕ) → plain-lts.Need-leaf-requires (plain-calls t) (plain-at t) plain.Post
+plain-leaf-requires t c κs = ((c .before .before .before .before .before .before .before .before .pre .1 .0) .short, λ h. omega (arith, string-code (c .before .before .before .before .before .before .before .before .args .s .now) (c .before .before .before .before .before .before .before .before .args .p) (c .before .before .before .before .before .before .before .before .pre .1 .1) h, (c .before .before .before .before .before .before .before .before .pre .1 .0) .short), omega (arith, (c .before .before .before .before .before .before .before .before .pre .1 .0) .rowRoom))
+
+-- src/cycle.rt:106:9
+plain-bounded-requires : (t : ℕ) → plain-lts.Need-bounded-requires (plain-calls t) (plain-at t) plain.Post
+plain-bounded-requires t c κs = search needs
+
+-- src/cycle.rt:106:9
+plain-same-length : (t : ℕ) → plain-lts.Need-same-length (plain-calls t) (plain-at t) plain.Post
+plain-same-length t c = search needs
+
+-- src/cycle.rt:106:9
+plain-same-length-2 : (t : ℕ) → plain-lts.Need-same-length-2 (plain-calls t) (plain-at t) plain.Post
+plain-same-length-2 t c = search needs
+
+-- src/cycle.rt:106:9
+plain-returns : (t : ℕ) → plain-lts.Need-returns (plain-calls t) (plain-at t) plain.Post
+plain-returns t c = along (ap (λ (x : Res (Got Val)). bind x (within (table (c .before .before .before .before .before .before .before .before .before .before .before .before .before .before .args .types .now) (c .before .before .before .before .before .before .before .before .before .before .before .before .before .before .args .names .now)) (c .before .before .before .before .before .before .before .before .before .before .before .before .before .before .args .row))) (plain-leaf (table (c .before .before .before .before .before .before .before .before .before .before .before .before .before .before .args .types .now) (c .before .before .before .before .before .before .before .before .before .before .before .before .before .before .args .names .now)) (c .before .before .before .before .before .before .before .before .before .before .before .before .before .before .args .s .now) (c .before .before .before .before .before .before .before .before .before .before .before .before .before .before .args .row) (c .before .before .before .before .before .before .before .before .before .before .before .before .before .before .args .p) (c .before .before .before .before .before .before .before .before .before .before .before .before .before .before .args .depth) (tokenAt (c .before .before .before .before .before .before .before .before .before .before .before .before .before .before .args .s .now) (c .before .before .before .before .before .before .before .before .before .before .before .before .before .before .args .p)) (rw (← c .before .before .before .before .before .before .before .before .before .before .before .before .before .before .pre .1 .1) (c .before .before .before .before .before .before .before .before .if1 .taken)))) (bounded-near (c .before .before .before .before .before .before .before .before .before .before .before .before .before .before .args .p) (c .before .before .before .before .before .before .before .before .before .before .before .before .before .before .args .depth) (bounded-reads (leafAt (table (c .before .before .before .before .before .before .before .before .before .before .before .before .before .before .args .types .now) (c .before .before .before .before .before .before .before .before .before .before .before .before .before .before .args .names .now)) (c .before .before .before .before .before .before .before .before .before .before .before .before .before .before .args .s .now) (tokenAt (c .before .before .before .before .before .before .before .before .before .before .before .before .before .before .args .s .now) (c .before .before .before .before .before .before .before .before .before .before .before .before .before .before .args .p)) (c .before .before .before .before .before .before .before .before .before .before .before .before .before .before .args .row) (c .before .before .before .before .before .before .before .before .before .before .before .before .before .before .args .p)) (c .before .before .before .before .before .leaf .ensures (tokenAt (c .before .before .before .before .before .before .before .before .before .before .before .before .before .before .args .s .now) (c .before .before .before .before .before .before .before .before .before .before .before .before .before .before .args .p)) (c .before .before .before .before .before .before .before .before .before .before .before .before .before .before .pre .1 .1)) (c .bounded .ensures) (λ g e. leaf-near (table (c .before .before .before .before .before .before .before .before .before .before .before .before .before .before .args .types .now) (c .before .before .before .before .before .before .before .before .before .before .before .before .before .before .args .names .now)) (c .before .before .before .before .before .before .before .before .before .before .before .before .before .before .args .s .now) (c .before .before .before .before .before .before .before .before .before .before .before .before .before .before .args .row) (c .before .before .before .before .before .before .before .before .before .before .before .before .before .before .args .p) ((c .before .before .before .before .before .before .before .before .before .before .before .before .before .before .pre .1 .0) .short) (tokenAt (c .before .before .before .before .before .before .before .before .before .before .before .before .before .before .args .s .now) (c .before .before .before .before .before .before .before .before .before .before .before .before .before .before .args .p)) (λ h. token-inside (c .before .before .before .before .before .before .before .before .before .before .before .before .before .before .args .s .now) (c .before .before .before .before .before .before .before .before .before .before .before .before .before .before .args .p) (string-not (c .before .before .before .before .before .before .before .before .before .before .before .before .before .before .args .s .now) (c .before .before .before .before .before .before .before .before .before .before .before .before .before .before .args .p) h)) e)))
+
+-- src/cycle.rt:109:9
+plain-refused-requires : (t : ℕ) → plain-lts.Need-refused-requires (plain-calls t) (plain-at t) plain.Post
+plain-refused-requires t c κs = search needs
+
+-- src/cycle.rt:109:9
+plain-returns-2 : (t : ℕ) → plain-lts.Need-returns-2 (plain-calls t) (plain-at t) plain.Post
+plain-returns-2 t c = rw (c .refused .ensures) (reads-no (over-no (table (c .before .before .before .before .before .before .before .before .args .types .now) (c .before .before .before .before .before .before .before .before .args .names .now)) (c .before .before .before .before .before .before .before .before .args .row) (plain-deep (table (c .before .before .before .before .before .before .before .before .args .types .now) (c .before .before .before .before .before .before .before .before .args .names .now)) (c .before .before .before .before .before .before .before .before .args .s .now) (c .before .before .before .before .before .before .before .before .args .row) (c .before .before .before .before .before .before .before .before .args .p) (c .before .before .before .before .before .before .before .before .args .depth) (tokenAt (c .before .before .before .before .before .before .before .before .args .s .now) (c .before .before .before .before .before .before .before .before .args .p)) (rw (← c .before .before .before .before .before .before .before .before .pre .1 .1) (c .before .before .if1 .left)) (c .before .if2 .taken))))
+
+-- src/cycle.rt:111:9
+plain-at-requires : (t : ℕ) → plain-lts.Need-at-requires (plain-calls t) (plain-at t) plain.Post
+plain-at-requires t c κs = search needs
+
+-- src/cycle.rt:114:13
+plain-list-requires : (t : ℕ) → plain-lts.Need-list-requires (plain-calls t) (plain-at t) plain.Post
+plain-list-requires t c κs = (omega arith, ((c .before .before .before .before .before .before .before .before .before .before .before .before .before .pre .1 .0), (token-inside (c .before .before .before .before .before .before .before .before .before .before .before .before .before .args .s .now) (c .before .before .before .before .before .before .before .before .before .before .before .before .before .args .p) (λ e. omega (arith, c .before .before .before .before .before .before .before .before .before .before .before .before .before .pre .1 .1, c .before .before .before .before .before .before .before .if1 .left, e)), positive (c .before .before .before .before .before .before .before .before .before .before .before .before .before .args .depth) (c .before .before .before .before .before .before .if2 .left), ap (λ (w : Row). w .kind) (sym (c .before .before .before .before .before .at .ensures (c .before .before .before .before .before .before .before .before .before .before .before .before .before .args .names .now))) ∙ c .before .before .if4 .taken)))
+
+-- src/cycle.rt:114:13
+plain-same-length-3 : (t : ℕ) → plain-lts.Need-same-length-3 (plain-calls t) (plain-at t) plain.Post
+plain-same-length-3 t c = search needs
+
+-- src/cycle.rt:114:13
+plain-same-length-4 : (t : ℕ) → plain-lts.Need-same-length-4 (plain-calls t) (plain-at t) plain.Post
+plain-same-length-4 t c = search needs
+
+-- src/cycle.rt:114:13
+plain-returns-3 : (t : ℕ) → plain-lts.Need-returns-3 (plain-calls t) (plain-at t) plain.Post
+plain-returns-3 t c = along (ap (λ (x : Res (Got Val)). bind x (within (table (c .before .before .before .before .before .before .before .before .before .before .before .before .before .before .before .before .before .before .args .types .now) (c .before .before .before .before .before .before .before .before .before .before .before .before .before .before .before .before .before .before .args .names .now)) (c .before .before .before .before .before .before .before .before .before .before .before .before .before .before .before .before .before .before .args .row))) (plain-list (table (c .before .before .before .before .before .before .before .before .before .before .before .before .before .before .before .before .before .before .args .types .now) (c .before .before .before .before .before .before .before .before .before .before .before .before .before .before .before .before .before .before .args .names .now)) (c .before .before .before .before .before .before .before .before .before .before .before .before .before .before .before .before .before .before .args .s .now) (c .before .before .before .before .before .before .before .before .before .before .before .before .before .before .before .before .before .before .args .row) (c .before .before .before .before .before .before .before .before .before .before .before .before .before .before .before .before .before .before .args .p) (c .before .before .before .before .before .before .before .before .before .before .before .before .before .before .before .before .before .before .args .depth) (c .before .before .before .before .before .before .before .before .before .before .before .if2 .left) (token-array (tokenAt (c .before .before .before .before .before .before .before .before .before .before .before .before .before .before .before .before .before .before .args .s .now) (c .before .before .before .before .before .before .before .before .before .before .before .before .before .before .before .before .before .before .args .p)) (sym (c .before .before .before .before .before .before .before .before .before .before .before .before .before .before .before .before .before .before .pre .1 .1) ∙ c .before .before .before .before .before .before .before .before .before .if3 .taken)) (ap (λ (w : Row). w .kind) (sym (c .before .before .before .before .before .before .before .before .before .before .at .ensures (c .before .before .before .before .before .before .before .before .before .before .before .before .before .before .before .before .before .before .args .names .now))) ∙ c .before .before .before .before .before .before .before .if4 .taken))) (c .before .before .before .before .list .ensures)
+
+-- src/cycle.rt:116:12
+plain-is-array-requires : (t : ℕ) → plain-lts.Need-is-array-requires (plain-calls t) (plain-at t) plain.Post
+plain-is-array-requires t c κs = search needs
+
+-- src/cycle.rt:117:13
+plain-array-requires : (t : ℕ) → plain-lts.Need-array-requires (plain-calls t) (plain-at t) plain.Post
+plain-array-requires t c κs = (omega arith, ((c .before .before .before .before .before .before .before .before .before .before .before .before .before .before .before .pre .1 .0), (token-inside (c .before .before .before .before .before .before .before .before .before .before .before .before .before .before .before .args .s .now) (c .before .before .before .before .before .before .before .before .before .before .before .before .before .before .before .args .p) (λ e. omega (arith, c .before .before .before .before .before .before .before .before .before .before .before .before .before .before .before .pre .1 .1, c .before .before .before .before .before .before .before .before .before .if1 .left, e)), positive (c .before .before .before .before .before .before .before .before .before .before .before .before .before .before .before .args .depth) (c .before .before .before .before .before .before .before .before .if2 .left), array-kind (table (c .before .before .before .before .before .before .before .before .before .before .before .before .before .before .before .args .types .now) (c .before .before .before .before .before .before .before .before .before .before .before .before .before .before .before .args .names .now)) (c .before .before .before .before .before .before .before .before .before .before .before .before .before .before .before .args .row) (sym (c .before .before .before .is-array .ensures _ _ (c .before .before .before .before .before .before .before .at .ensures (c .before .before .before .before .before .before .before .before .before .before .before .before .before .before .before .args .names .now))) ∙ c .before .before .if5 .taken))))
+
+-- src/cycle.rt:117:13
+plain-same-length-5 : (t : ℕ) → plain-lts.Need-same-length-5 (plain-calls t) (plain-at t) plain.Post
+plain-same-length-5 t c = search needs
+
+-- src/cycle.rt:117:13
+plain-same-length-6 : (t : ℕ) → plain-lts.Need-same-length-6 (plain-calls t) (plain-at t) plain.Post
+plain-same-length-6 t c = search needs
+
+-- src/cycle.rt:117:13
+plain-returns-4 : (t : ℕ) → plain-lts.Need-returns-4 (plain-calls t) (plain-at t) plain.Post
+plain-returns-4 t c = along (ap (λ (x : Res (Got Val)). bind x (within (table (c .before .before .before .before .before .before .before .before .before .before .before .before .before .before .before .before .before .before .before .before .args .types .now) (c .before .before .before .before .before .before .before .before .before .before .before .before .before .before .before .before .before .before .before .before .args .names .now)) (c .before .before .before .before .before .before .before .before .before .before .before .before .before .before .before .before .before .before .before .before .args .row))) (plain-array (table (c .before .before .before .before .before .before .before .before .before .before .before .before .before .before .before .before .before .before .before .before .args .types .now) (c .before .before .before .before .before .before .before .before .before .before .before .before .before .before .before .before .before .before .before .before .args .names .now)) (c .before .before .before .before .before .before .before .before .before .before .before .before .before .before .before .before .before .before .before .before .args .s .now) (c .before .before .before .before .before .before .before .before .before .before .before .before .before .before .before .before .before .before .before .before .args .row) (c .before .before .before .before .before .before .before .before .before .before .before .before .before .before .before .before .before .before .before .before .args .p) (c .before .before .before .before .before .before .before .before .before .before .before .before .before .before .before .before .before .before .before .before .args .depth) (c .before .before .before .before .before .before .before .before .before .before .before .before .before .if2 .left) (token-array (tokenAt (c .before .before .before .before .before .before .before .before .before .before .before .before .before .before .before .before .before .before .before .before .args .s .now) (c .before .before .before .before .before .before .before .before .before .before .before .before .before .before .before .before .before .before .before .before .args .p)) (sym (c .before .before .before .before .before .before .before .before .before .before .before .before .before .before .before .before .before .before .before .before .pre .1 .1) ∙ c .before .before .before .before .before .before .before .before .before .before .before .if3 .taken)) (λ h. c .before .before .before .before .before .before .before .before .before .if4 .left (sym (ap (λ (w : Row). w .kind) (sym (c .before .before .before .before .before .before .before .before .before .before .before .before .at .ensures (c .before .before .before .before .before .before .before .before .before .before .before .before .before .before .before .before .before .before .before .before .args .names .now)))) ∙ h)) (sym (c .before .before .before .before .before .before .before .before .is-array .ensures _ _ (c .before .before .before .before .before .before .before .before .before .before .before .before .at .ensures (c .before .before .before .before .before .before .before .before .before .before .before .before .before .before .before .before .before .before .before .before .args .names .now))) ∙ c .before .before .before .before .before .before .before .if5 .taken))) (c .before .before .before .before .array .ensures)
+
+-- src/cycle.rt:119:9
+plain-refused-requires-2 : (t : ℕ) → plain-lts.Need-refused-requires-2 (plain-calls t) (plain-at t) plain.Post
+plain-refused-requires-2 t c κs = search needs
+
+-- src/cycle.rt:119:9
+plain-returns-5 : (t : ℕ) → plain-lts.Need-returns-5 (plain-calls t) (plain-at t) plain.Post
+plain-returns-5 t c = rw (c .refused2 .ensures) (reads-no (over-no (table (c .before .before .before .before .before .before .before .before .before .before .before .before .before .before .args .types .now) (c .before .before .before .before .before .before .before .before .before .before .before .before .before .before .args .names .now)) (c .before .before .before .before .before .before .before .before .before .before .before .before .before .before .args .row) (plain-no-array (table (c .before .before .before .before .before .before .before .before .before .before .before .before .before .before .args .types .now) (c .before .before .before .before .before .before .before .before .before .before .before .before .before .before .args .names .now)) (c .before .before .before .before .before .before .before .before .before .before .before .before .before .before .args .s .now) (c .before .before .before .before .before .before .before .before .before .before .before .before .before .before .args .row) (c .before .before .before .before .before .before .before .before .before .before .before .before .before .before .args .p) (c .before .before .before .before .before .before .before .before .before .before .before .before .before .before .args .depth) (c .before .before .before .before .before .before .before .if2 .left) (token-array (tokenAt (c .before .before .before .before .before .before .before .before .before .before .before .before .before .before .args .s .now) (c .before .before .before .before .before .before .before .before .before .before .before .before .before .before .args .p)) (sym (c .before .before .before .before .before .before .before .before .before .before .before .before .before .before .pre .1 .1) ∙ c .before .before .before .before .before .if3 .taken)) (λ h. c .before .before .before .if4 .left (sym (ap (λ (w : Row). w .kind) (sym (c .before .before .before .before .before .before .at .ensures (c .before .before .before .before .before .before .before .before .before .before .before .before .before .before .args .names .now)))) ∙ h)) (sym (c .before .before .is-array .ensures _ _ (c .before .before .before .before .before .before .at .ensures (c .before .before .before .before .before .before .before .before .before .before .before .before .before .before .args .names .now))) ∙ c .before .if5 .left))))
+
+-- src/cycle.rt:122:9
+plain-choice-requires : (t : ℕ) → plain-lts.Need-choice-requires (plain-calls t) (plain-at t) plain.Post
+plain-choice-requires t c κs = (omega arith, ((c .before .before .before .before .before .before .before .before .before .before .before .before .before .pre .1 .0), (token-inside (c .before .before .before .before .before .before .before .before .before .before .before .before .before .args .s .now) (c .before .before .before .before .before .before .before .before .before .before .before .before .before .args .p) (λ e. omega (arith, c .before .before .before .before .before .before .before .before .before .before .before .before .before .pre .1 .1, c .before .before .before .before .before .before .before .if1 .left, e)), positive (c .before .before .before .before .before .before .before .before .before .before .before .before .before .args .depth) (c .before .before .before .before .before .before .if2 .left), ap (λ (w : Row). w .kind) (sym (c .before .before .before .before .before .at .ensures (c .before .before .before .before .before .before .before .before .before .before .before .before .before .args .names .now))) ∙ c .before .before .if6 .taken)))
+
+-- src/cycle.rt:122:9
+plain-same-length-7 : (t : ℕ) → plain-lts.Need-same-length-7 (plain-calls t) (plain-at t) plain.Post
+plain-same-length-7 t c = search needs
+
+-- src/cycle.rt:122:9
+plain-same-length-8 : (t : ℕ) → plain-lts.Need-same-length-8 (plain-calls t) (plain-at t) plain.Post
+plain-same-length-8 t c = search needs
+
+-- src/cycle.rt:122:9
+plain-returns-6 : (t : ℕ) → plain-lts.Need-returns-6 (plain-calls t) (plain-at t) plain.Post
+plain-returns-6 t c = along (ap (λ (x : Res (Got Val)). bind x (within (table (c .before .before .before .before .before .before .before .before .before .before .before .before .before .before .before .before .before .before .args .types .now) (c .before .before .before .before .before .before .before .before .before .before .before .before .before .before .before .before .before .before .args .names .now)) (c .before .before .before .before .before .before .before .before .before .before .before .before .before .before .before .before .before .before .args .row))) (plain-choice (table (c .before .before .before .before .before .before .before .before .before .before .before .before .before .before .before .before .before .before .args .types .now) (c .before .before .before .before .before .before .before .before .before .before .before .before .before .before .before .before .before .before .args .names .now)) (c .before .before .before .before .before .before .before .before .before .before .before .before .before .before .before .before .before .before .args .s .now) (c .before .before .before .before .before .before .before .before .before .before .before .before .before .before .before .before .before .before .args .row) (c .before .before .before .before .before .before .before .before .before .before .before .before .before .before .before .before .before .before .args .p) (c .before .before .before .before .before .before .before .before .before .before .before .before .before .before .before .before .before .before .args .depth) (c .before .before .before .before .before .before .before .before .before .before .before .if2 .left) (token-object (tokenAt (c .before .before .before .before .before .before .before .before .before .before .before .before .before .before .before .before .before .before .args .s .now) (c .before .before .before .before .before .before .before .before .before .before .before .before .before .before .before .before .before .before .args .p)) (rw (← c .before .before .before .before .before .before .before .before .before .before .before .before .before .before .before .before .before .before .pre .1 .1) (c .before .before .before .before .before .before .before .before .before .before .before .before .if1 .left)) (λ h. c .before .before .before .before .before .before .before .before .before .if3 .left (c .before .before .before .before .before .before .before .before .before .before .before .before .before .before .before .before .before .before .pre .1 .1 ∙ h))) (ap (λ (w : Row). w .kind) (sym (c .before .before .before .before .before .before .before .before .before .before .at .ensures (c .before .before .before .before .before .before .before .before .before .before .before .before .before .before .before .before .before .before .args .names .now))) ∙ c .before .before .before .before .before .before .before .if6 .taken))) (c .before .before .before .before .choice .ensures)
+
+-- src/cycle.rt:124:37
+plain-is-array-requires-2 : (t : ℕ) → plain-lts.Need-is-array-requires-2 (plain-calls t) (plain-at t) plain.Post
+plain-is-array-requires-2 t c κs = search needs
+
+-- src/cycle.rt:125:9
+plain-object-requires : (t : ℕ) → plain-lts.Need-object-requires (plain-calls t) (plain-at t) plain.Post
+plain-object-requires t c κs = (omega arith, ((c .before .before .before .before .before .before .before .before .before .before .before .before .before .before .before .before .pre .1 .0), (token-inside (c .before .before .before .before .before .before .before .before .before .before .before .before .before .before .before .before .args .s .now) (c .before .before .before .before .before .before .before .before .before .before .before .before .before .before .before .before .args .p) (λ e. omega (arith, c .before .before .before .before .before .before .before .before .before .before .before .before .before .before .before .before .pre .1 .1, c .before .before .before .before .before .before .before .before .before .before .if1 .left, e)), positive (c .before .before .before .before .before .before .before .before .before .before .before .before .before .before .before .before .args .depth) (c .before .before .before .before .before .before .before .before .before .if2 .left), object-kind (table (c .before .before .before .before .before .before .before .before .before .before .before .before .before .before .before .before .args .types .now) (c .before .before .before .before .before .before .before .before .before .before .before .before .before .before .before .before .args .names .now)) (c .before .before .before .before .before .before .before .before .before .before .before .before .before .before .before .before .args .row) (sequence-is (table (c .before .before .before .before .before .before .before .before .before .before .before .before .before .before .before .before .args .types .now) (c .before .before .before .before .before .before .before .before .before .before .before .before .before .before .before .before .args .names .now)) (c .before .before .before .before .before .before .before .before .before .before .before .before .before .before .before .before .args .row) (c .before .before .before .before .before .before .before .before .at .ensures (c .before .before .before .before .before .before .before .before .before .before .before .before .before .before .before .before .args .names .now)) (c .before .before .before .is-array2 .ensures _ _ (c .before .before .before .before .before .before .before .before .at .ensures (c .before .before .before .before .before .before .before .before .before .before .before .before .before .before .before .before .args .names .now))) ∙ c .before .before .if7 .taken))))
+
+-- src/cycle.rt:125:9
+plain-same-length-9 : (t : ℕ) → plain-lts.Need-same-length-9 (plain-calls t) (plain-at t) plain.Post
+plain-same-length-9 t c = search needs
+
+-- src/cycle.rt:125:9
+plain-same-length-10 : (t : ℕ) → plain-lts.Need-same-length-10 (plain-calls t) (plain-at t) plain.Post
+plain-same-length-10 t c = search needs
+
+-- src/cycle.rt:125:9
+plain-returns-7 : (t : ℕ) → plain-lts.Need-returns-7 (plain-calls t) (plain-at t) plain.Post
+plain-returns-7 t c = along (ap (λ (x : Res (Got Val)). bind x (within (table (c .before .before .before .before .before .before .before .before .before .before .before .before .before .before .before .before .before .before .before .before .before .args .types .now) (c .before .before .before .before .before .before .before .before .before .before .before .before .before .before .before .before .before .before .before .before .before .args .names .now)) (c .before .before .before .before .before .before .before .before .before .before .before .before .before .before .before .before .before .before .before .before .before .args .row))) (plain-object (table (c .before .before .before .before .before .before .before .before .before .before .before .before .before .before .before .before .before .before .before .before .before .args .types .now) (c .before .before .before .before .before .before .before .before .before .before .before .before .before .before .before .before .before .before .before .before .before .args .names .now)) (c .before .before .before .before .before .before .before .before .before .before .before .before .before .before .before .before .before .before .before .before .before .args .s .now) (c .before .before .before .before .before .before .before .before .before .before .before .before .before .before .before .before .before .before .before .before .before .args .row) (c .before .before .before .before .before .before .before .before .before .before .before .before .before .before .before .before .before .before .before .before .before .args .p) (c .before .before .before .before .before .before .before .before .before .before .before .before .before .before .before .before .before .before .before .before .before .args .depth) (c .before .before .before .before .before .before .before .before .before .before .before .before .before .before .if2 .left) (token-object (tokenAt (c .before .before .before .before .before .before .before .before .before .before .before .before .before .before .before .before .before .before .before .before .before .args .s .now) (c .before .before .before .before .before .before .before .before .before .before .before .before .before .before .before .before .before .before .before .before .before .args .p)) (rw (← c .before .before .before .before .before .before .before .before .before .before .before .before .before .before .before .before .before .before .before .before .before .pre .1 .1) (c .before .before .before .before .before .before .before .before .before .before .before .before .before .before .before .if1 .left)) (λ h. c .before .before .before .before .before .before .before .before .before .before .before .before .if3 .left (c .before .before .before .before .before .before .before .before .before .before .before .before .before .before .before .before .before .before .before .before .before .pre .1 .1 ∙ h))) (λ h. c .before .before .before .before .before .before .before .before .before .before .if6 .left (sym (ap (λ (w : Row). w .kind) (sym (c .before .before .before .before .before .before .before .before .before .before .before .before .before .at .ensures (c .before .before .before .before .before .before .before .before .before .before .before .before .before .before .before .before .before .before .before .before .before .args .names .now)))) ∙ h)) (sequence-is (table (c .before .before .before .before .before .before .before .before .before .before .before .before .before .before .before .before .before .before .before .before .before .args .types .now) (c .before .before .before .before .before .before .before .before .before .before .before .before .before .before .before .before .before .before .before .before .before .args .names .now)) (c .before .before .before .before .before .before .before .before .before .before .before .before .before .before .before .before .before .before .before .before .before .args .row) (c .before .before .before .before .before .before .before .before .before .before .before .before .before .at .ensures (c .before .before .before .before .before .before .before .before .before .before .before .before .before .before .before .before .before .before .before .before .before .args .names .now)) (c .before .before .before .before .before .before .before .before .is-array2 .ensures _ _ (c .before .before .before .before .before .before .before .before .before .before .before .before .before .at .ensures (c .before .before .before .before .before .before .before .before .before .before .before .before .before .before .before .before .before .before .before .before .before .args .names .now))) ∙ c .before .before .before .before .before .before .before .if7 .taken))) (c .before .before .before .before .object .ensures)
+
+-- src/cycle.rt:127:5
+plain-refused-requires-3 : (t : ℕ) → plain-lts.Need-refused-requires-3 (plain-calls t) (plain-at t) plain.Post
+plain-refused-requires-3 t c κs = search needs
+
+-- src/cycle.rt:88:1
+plain-returns-8 : (t : ℕ) → plain-lts.Need-returns-8 (plain-calls t) (plain-at t) plain.Post
+plain-returns-8 t c = rw (c .refused3 .ensures) (reads-no (over-no (table (c .before .before .before .before .before .before .before .before .before .before .before .before .before .before .before .args .types .now) (c .before .before .before .before .before .before .before .before .before .before .before .before .before .before .before .args .names .now)) (c .before .before .before .before .before .before .before .before .before .before .before .before .before .before .before .args .row) (plain-no-object (table (c .before .before .before .before .before .before .before .before .before .before .before .before .before .before .before .args .types .now) (c .before .before .before .before .before .before .before .before .before .before .before .before .before .before .before .args .names .now)) (c .before .before .before .before .before .before .before .before .before .before .before .before .before .before .before .args .s .now) (c .before .before .before .before .before .before .before .before .before .before .before .before .before .before .before .args .row) (c .before .before .before .before .before .before .before .before .before .before .before .before .before .before .before .args .p) (c .before .before .before .before .before .before .before .before .before .before .before .before .before .before .before .args .depth) (c .before .before .before .before .before .before .before .before .if2 .left) (token-object (tokenAt (c .before .before .before .before .before .before .before .before .before .before .before .before .before .before .before .args .s .now) (c .before .before .before .before .before .before .before .before .before .before .before .before .before .before .before .args .p)) (rw (← c .before .before .before .before .before .before .before .before .before .before .before .before .before .before .before .pre .1 .1) (c .before .before .before .before .before .before .before .before .before .if1 .left)) (λ h. c .before .before .before .before .before .before .if3 .left (c .before .before .before .before .before .before .before .before .before .before .before .before .before .before .before .pre .1 .1 ∙ h))) (λ h. c .before .before .before .before .if6 .left (sym (ap (λ (w : Row). w .kind) (sym (c .before .before .before .before .before .before .before .at .ensures (c .before .before .before .before .before .before .before .before .before .before .before .before .before .before .before .args .names .now)))) ∙ h)) (sequence-is (table (c .before .before .before .before .before .before .before .before .before .before .before .before .before .before .before .args .types .now) (c .before .before .before .before .before .before .before .before .before .before .before .before .before .before .before .args .names .now)) (c .before .before .before .before .before .before .before .before .before .before .before .before .before .before .before .args .row) (c .before .before .before .before .before .before .before .at .ensures (c .before .before .before .before .before .before .before .before .before .before .before .before .before .before .before .args .names .now)) (c .before .before .is-array2 .ensures _ _ (c .before .before .before .before .before .before .before .at .ensures (c .before .before .before .before .before .before .before .before .before .before .before .before .before .before .before .args .names .now))) ∙ c .before .if7 .left))))
+
+-- src/cycle.rt:67:9
+value-token-at-requires : (t : ℕ) → value-lts.Need-token-at-requires (value-calls t) (value-at t) value.Post
+value-token-at-requires t c κs = search needs
+
+-- src/cycle.rt:68:9
+value-at-requires : (t : ℕ) → value-lts.Need-at-requires (value-calls t) (value-at t) value.Post
+value-at-requires t c κs = search needs
+
+-- src/cycle.rt:68:9
+value-is-unwrapped-requires : (t : ℕ) → value-lts.Need-is-unwrapped-requires (value-calls t) (value-at t) value.Post
+value-is-unwrapped-requires t c κs = search needs
+
+-- src/cycle.rt:69:9
+value-plain-requires : (t : ℕ) → value-lts.Need-plain-requires (value-calls t) (value-at t) value.Post
+value-plain-requires t c κs = (omega arith, (given-below (c .before .before .before .before .before .before .before .before .before .before .before .pre .1), c .before .before .before .before .before .token-at .ensures))
+
+-- src/cycle.rt:69:9
+value-same-length : (t : ℕ) → value-lts.Need-same-length (value-calls t) (value-at t) value.Post
+value-same-length t c = search needs
+
+-- src/cycle.rt:69:9
+value-same-length-2 : (t : ℕ) → value-lts.Need-same-length-2 (value-calls t) (value-at t) value.Post
+value-same-length-2 t c = search needs
+
+-- src/cycle.rt:69:9
+value-returns : (t : ℕ) → value-lts.Need-returns (value-calls t) (value-at t) value.Post
+value-returns t c = along (value-plain (c .before .before .before .before .before .before .before .before .before .before .before .before .before .before .before .before .args .depth) (table (c .before .before .before .before .before .before .before .before .before .before .before .before .before .before .before .before .args .types .now) (c .before .before .before .before .before .before .before .before .before .before .before .before .before .before .before .before .args .names .now)) (c .before .before .before .before .before .before .before .before .before .before .before .before .before .before .before .before .args .s .now) (c .before .before .before .before .before .before .before .before .before .before .before .before .before .before .before .before .args .row) (c .before .before .before .before .before .before .before .before .before .before .before .before .before .before .before .before .args .p) (sym (c .before .before .before .before .before .before .before .before .is-unwrapped .ensures _ _ (c .before .before .before .before .before .before .before .before .before .at .ensures (c .before .before .before .before .before .before .before .before .before .before .before .before .before .before .before .before .args .names .now))) ∙ not-true _ (c .before .before .before .before .before .before .before .if1 .taken))) (c .before .before .before .before .plain .ensures)
+
+-- src/cycle.rt:71:11
+value-alternative-requires : (t : ℕ) → value-lts.Need-alternative-requires (value-calls t) (value-at t) value.Post
+value-alternative-requires t c κs = search needs
+
+-- src/cycle.rt:72:50
+value-enum-told : (t : ℕ) → value-lts.Need-enum-told (value-calls t) (value-at t) value.Post
+value-enum-told t c = search needs
+
+-- src/cycle.rt:72:27
+value-unknown-requires : (t : ℕ) → value-lts.Need-unknown-requires (value-calls t) (value-at t) value.Post
+value-unknown-requires t c κs = search needs
+
+-- src/cycle.rt:73:19
+value-enum-known-k : (t : ℕ) → value-lts.Need-enum-known-k (value-calls t) (value-at t) value.Post
+value-enum-known-k t c = search needs
+
+-- src/cycle.rt:74:17
+value-type-at-requires : (t : ℕ) → value-lts.Need-type-at-requires (value-calls t) (value-at t) value.Post
+value-type-at-requires t c κs = search needs
+
+-- src/cycle.rt:75:67
+value-add-plain : (t : ℕ) → value-lts.Need-add-plain (value-calls t) (value-at t) value.Post
+value-add-plain t c = search needs
+
+-- src/cycle.rt:75:19
+value-plain-requires-2 : (t : ℕ) → value-lts.Need-plain-requires-2 (value-calls t) (value-at t) value.Post
+value-plain-requires-2 t c κs = (omega arith, (given-type (c .before .before .before .before .before .before .before .before .before .before .before .before .before .before .before .before .pre .1) (rw (c .before .before .type-at .ensures (c .before .before .before .before .before .before .before .before .before .before .before .before .before .before .before .before .args .names .now)) ((c .before .before .before .before .before .before .before .before .before .before .before .before .before .before .before .before .pre .1) .sane .member (c .before .before .before .before .before .before .before .before .before .before .before .before .before .before .before .before .args .row) (c .before .before .before .before .k .given .0 .0) ((c .before .before .before .before .before .before .before .before .before .before .before .before .before .before .before .before .pre .1) .typed) (alternative-found (table (c .before .before .before .before .before .before .before .before .before .before .before .before .before .before .before .before .args .types .now) (c .before .before .before .before .before .before .before .before .before .before .before .before .before .before .before .before .args .names .now)) (c .before .before .before .before .before .before .before .before .before .before .before .before .before .before .before .before .args .row) (tokenAt (c .before .before .before .before .before .before .before .before .before .before .before .before .before .before .before .before .args .s .now) (c .before .before .before .before .before .before .before .before .before .before .before .before .before .before .before .before .args .p)) (c .before .before .before .before .k .given .0 .0) (found-some _ (sym (c .before .before .before .before .k .given .1) ∙ c .before .before .before .before .before .before .alternative .ensures (c .before .before .before .before .before .before .before .before .before .before .before .before .before .before .before .before .args .names .now) (tokenAt (c .before .before .before .before .before .before .before .before .before .before .before .before .before .before .before .before .args .s .now) (c .before .before .before .before .before .before .before .before .before .before .before .before .before .before .before .before .args .p)) (c .before .before .before .before .before .before .before .before .before .before .token-at .ensures)))))), c .before .before .before .before .before .before .before .before .before .before .token-at .ensures))
+
+-- src/cycle.rt:76:31
+value-enum-known-e : (t : ℕ) → value-lts.Need-enum-known-e (value-calls t) (value-at t) value.Post
+value-enum-known-e t c = search needs
+
+-- src/cycle.rt:78:21
+value-enum-known-next : (t : ℕ) → value-lts.Need-enum-known-next (value-calls t) (value-at t) value.Post
+value-enum-known-next t c = search needs
+
+-- src/cycle.rt:81:22
+value-close-requires : (t : ℕ) → value-lts.Need-close-requires (value-calls t) (value-at t) value.Post
+value-close-requires t c κs = (omega (arith, (c .before .before .before .before .before .before .before .before .before .before .before .before .before .before .before .before .before .before .before .before .before .before .before .before .before .pre .1) .rowRoom), omega (arith, passed (c .before .before .before .before .before .before .before .before .plain2 .ensures) (c .before .before .next .given .1) .fewRows))
+
+-- src/cycle.rt:52:1
+value-returns-2 : (t : ℕ) → value-lts.Need-returns-2 (value-calls t) (value-at t) value.Post
+value-returns-2 t c = unknown-reads OtherKind (c .before .before .before .before .before .before .before .before .before .before .before .before .before .args .p) (c .before .before .before .before .before .before .before .before .before .before .before .before .before .args .p) (extensible (table (c .before .before .before .before .before .before .before .before .before .before .before .before .before .args .types .now) (c .before .before .before .before .before .before .before .before .before .before .before .before .before .args .names .now)) (c .before .before .before .before .before .before .before .before .before .before .before .before .before .args .row)) (c .unknown .ensures (c .before .before .before .before .before .before .before .before .before .before .before .before .before .args .names .now)) (value-none (c .before .before .before .before .before .before .before .before .before .before .before .before .before .args .depth) (table (c .before .before .before .before .before .before .before .before .before .before .before .before .before .args .types .now) (c .before .before .before .before .before .before .before .before .before .before .before .before .before .args .names .now)) (c .before .before .before .before .before .before .before .before .before .before .before .before .before .args .s .now) (c .before .before .before .before .before .before .before .before .before .before .before .before .before .args .row) (c .before .before .before .before .before .before .before .before .before .before .before .before .before .args .p) (sym (c .before .before .before .before .before .is-unwrapped .ensures _ _ (c .before .before .before .before .before .before .at .ensures (c .before .before .before .before .before .before .before .before .before .before .before .before .before .args .names .now))) ∙ not-false _ (c .before .before .before .before .if1 .left)) (found-none _ (sym (c .before .enum-told .given .1) ∙ c .before .before .before .alternative .ensures (c .before .before .before .before .before .before .before .before .before .before .before .before .before .args .names .now) _ (c .before .before .before .before .before .before .before .token-at .ensures))))
+
+-- src/cycle.rt:52:1
+value-same-length-3 : (t : ℕ) → value-lts.Need-same-length-3 (value-calls t) (value-at t) value.Post
+value-same-length-3 t c = search needs
+
+-- src/cycle.rt:52:1
+value-same-length-4 : (t : ℕ) → value-lts.Need-same-length-4 (value-calls t) (value-at t) value.Post
+value-same-length-4 t c = search needs
+
+-- src/cycle.rt:52:1
+value-returns-3 : (t : ℕ) → value-lts.Need-returns-3 (value-calls t) (value-at t) value.Post
+value-returns-3 t c = reads-no (value-refused (c .before .before .before .before .before .before .before .before .before .before .before .before .before .before .before .before .before .before .before .before .before .before .before .before .args .depth) (table (c .before .before .before .before .before .before .before .before .before .before .before .before .before .before .before .before .before .before .before .before .before .before .before .before .args .types .now) (c .before .before .before .before .before .before .before .before .before .before .before .before .before .before .before .before .before .before .before .before .before .before .before .before .args .names .now)) (c .before .before .before .before .before .before .before .before .before .before .before .before .before .before .before .before .before .before .before .before .before .before .before .before .args .s .now) (c .before .before .before .before .before .before .before .before .before .before .before .before .before .before .before .before .before .before .before .before .before .before .before .before .args .row) (c .before .before .before .before .before .before .before .before .before .before .before .before .before .before .before .before .before .before .before .before .before .before .before .before .args .p) (sym (c .before .before .before .before .before .before .before .before .before .before .before .before .before .before .before .before .is-unwrapped .ensures _ _ (c .before .before .before .before .before .before .before .before .before .before .before .before .before .before .before .before .before .at .ensures (c .before .before .before .before .before .before .before .before .before .before .before .before .before .before .before .before .before .before .before .before .before .before .before .before .args .names .now))) ∙ not-false _ (c .before .before .before .before .before .before .before .before .before .before .before .before .before .before .before .if1 .left)) (found-some _ (sym (c .before .before .before .before .before .before .before .before .before .before .before .before .k .given .1) ∙ c .before .before .before .before .before .before .before .before .before .before .before .before .before .before .alternative .ensures (c .before .before .before .before .before .before .before .before .before .before .before .before .before .before .before .before .before .before .before .before .before .before .before .before .args .names .now) (tokenAt (c .before .before .before .before .before .before .before .before .before .before .before .before .before .before .before .before .before .before .before .before .before .before .before .before .args .s .now) (c .before .before .before .before .before .before .before .before .before .before .before .before .before .before .before .before .before .before .before .before .before .before .before .before .args .p)) (c .before .before .before .before .before .before .before .before .before .before .before .before .before .before .before .before .before .before .token-at .ensures))) (failed (at-row (λ r u. bind (plainAt (c .before .before .before .before .before .before .before .before .before .before .before .before .before .before .before .before .before .before .before .before .before .before .before .before .args .depth) (table (c .before .before .before .before .before .before .before .before .before .before .before .before .before .before .before .before .before .before .before .before .before .before .before .before .args .types .now) (c .before .before .before .before .before .before .before .before .before .before .before .before .before .before .before .before .before .before .before .before .before .before .before .before .args .names .now)) (c .before .before .before .before .before .before .before .before .before .before .before .before .before .before .before .before .before .before .before .before .before .before .before .before .args .s .now) (tokenAt (c .before .before .before .before .before .before .before .before .before .before .before .before .before .before .before .before .before .before .before .before .before .before .before .before .args .s .now) (c .before .before .before .before .before .before .before .before .before .before .before .before .before .before .before .before .before .before .before .before .before .before .before .before .args .p)) r u) (within (table (c .before .before .before .before .before .before .before .before .before .before .before .before .before .before .before .before .before .before .before .before .before .before .before .before .args .types .now) (c .before .before .before .before .before .before .before .before .before .before .before .before .before .before .before .before .before .before .before .before .before .before .before .before .args .names .now)) r)) (c .before .before .before .before .before .before .before .before .before .before .before .before .before .before .before .before .before .before .before .before .before .before .before .before .args .p) (c .before .before .before .before .before .before .before .before .before .before .type-at .ensures (c .before .before .before .before .before .before .before .before .before .before .before .before .before .before .before .before .before .before .before .before .before .before .before .before .args .names .now)) (c .before .before .before .before .before .before .before .plain2 .ensures)) (c .before .e .given .1)))
+
+-- src/cycle.rt:52:1
+value-same-length-5 : (t : ℕ) → value-lts.Need-same-length-5 (value-calls t) (value-at t) value.Post
+value-same-length-5 t c = search needs
+
+-- src/cycle.rt:52:1
+value-same-length-6 : (t : ℕ) → value-lts.Need-same-length-6 (value-calls t) (value-at t) value.Post
+value-same-length-6 t c = search needs
+
+-- src/cycle.rt:52:1
+value-returns-4 : (t : ℕ) → value-lts.Need-returns-4 (value-calls t) (value-at t) value.Post
+value-returns-4 t c = along (value-picked (c .before .before .before .before .before .before .before .before .before .before .before .before .before .before .before .before .before .before .before .before .before .before .before .before .before .before .before .before .args .depth) (table (c .before .before .before .before .before .before .before .before .before .before .before .before .before .before .before .before .before .before .before .before .before .before .before .before .before .before .before .before .args .types .now) (c .before .before .before .before .before .before .before .before .before .before .before .before .before .before .before .before .before .before .before .before .before .before .before .before .before .before .before .before .args .names .now)) (c .before .before .before .before .before .before .before .before .before .before .before .before .before .before .before .before .before .before .before .before .before .before .before .before .before .before .before .before .args .s .now) (c .before .before .before .before .before .before .before .before .before .before .before .before .before .before .before .before .before .before .before .before .before .before .before .before .before .before .before .before .args .row) (c .before .before .before .before .before .before .before .before .before .before .before .before .before .before .before .before .before .before .before .before .before .before .before .before .before .before .before .before .args .p) (sym (c .before .before .before .before .before .before .before .before .before .before .before .before .before .before .before .before .before .before .before .before .is-unwrapped .ensures _ _ (c .before .before .before .before .before .before .before .before .before .before .before .before .before .before .before .before .before .before .before .before .before .at .ensures (c .before .before .before .before .before .before .before .before .before .before .before .before .before .before .before .before .before .before .before .before .before .before .before .before .before .before .before .before .args .names .now))) ∙ not-false _ (c .before .before .before .before .before .before .before .before .before .before .before .before .before .before .before .before .before .before .before .if1 .left)) (found-some _ (sym (c .before .before .before .before .before .before .before .before .before .before .before .before .before .before .before .before .k .given .1) ∙ c .before .before .before .before .before .before .before .before .before .before .before .before .before .before .before .before .before .before .alternative .ensures (c .before .before .before .before .before .before .before .before .before .before .before .before .before .before .before .before .before .before .before .before .before .before .before .before .before .before .before .before .args .names .now) (tokenAt (c .before .before .before .before .before .before .before .before .before .before .before .before .before .before .before .before .before .before .before .before .before .before .before .before .before .before .before .before .args .s .now) (c .before .before .before .before .before .before .before .before .before .before .before .before .before .before .before .before .before .before .before .before .before .before .before .before .before .before .before .before .args .p)) (c .before .before .before .before .before .before .before .before .before .before .before .before .before .before .before .before .before .before .before .before .before .before .token-at .ensures))) (passed (at-row (λ r u. bind (plainAt (c .before .before .before .before .before .before .before .before .before .before .before .before .before .before .before .before .before .before .before .before .before .before .before .before .before .before .before .before .args .depth) (table (c .before .before .before .before .before .before .before .before .before .before .before .before .before .before .before .before .before .before .before .before .before .before .before .before .before .before .before .before .args .types .now) (c .before .before .before .before .before .before .before .before .before .before .before .before .before .before .before .before .before .before .before .before .before .before .before .before .before .before .before .before .args .names .now)) (c .before .before .before .before .before .before .before .before .before .before .before .before .before .before .before .before .before .before .before .before .before .before .before .before .before .before .before .before .args .s .now) (tokenAt (c .before .before .before .before .before .before .before .before .before .before .before .before .before .before .before .before .before .before .before .before .before .before .before .before .before .before .before .before .args .s .now) (c .before .before .before .before .before .before .before .before .before .before .before .before .before .before .before .before .before .before .before .before .before .before .before .before .before .before .before .before .args .p)) r u) (within (table (c .before .before .before .before .before .before .before .before .before .before .before .before .before .before .before .before .before .before .before .before .before .before .before .before .before .before .before .before .args .types .now) (c .before .before .before .before .before .before .before .before .before .before .before .before .before .before .before .before .before .before .before .before .before .before .before .before .before .before .before .before .args .names .now)) r)) (c .before .before .before .before .before .before .before .before .before .before .before .before .before .before .before .before .before .before .before .before .before .before .before .before .before .before .before .before .args .p) (c .before .before .before .before .before .before .before .before .before .before .before .before .before .before .type-at .ensures (c .before .before .before .before .before .before .before .before .before .before .before .before .before .before .before .before .before .before .before .before .before .before .before .before .before .before .before .before .args .names .now)) (c .before .before .before .before .before .before .before .before .before .before .before .plain2 .ensures)) (c .before .before .before .before .before .next .given .1) .took .is)) (closed (whole-choice (passed (at-row (λ r u. bind (plainAt (c .before .before .before .before .before .before .before .before .before .before .before .before .before .before .before .before .before .before .before .before .before .before .before .before .before .before .before .before .args .depth) (table (c .before .before .before .before .before .before .before .before .before .before .before .before .before .before .before .before .before .before .before .before .before .before .before .before .before .before .before .before .args .types .now) (c .before .before .before .before .before .before .before .before .before .before .before .before .before .before .before .before .before .before .before .before .before .before .before .before .before .before .before .before .args .names .now)) (c .before .before .before .before .before .before .before .before .before .before .before .before .before .before .before .before .before .before .before .before .before .before .before .before .before .before .before .before .args .s .now) (tokenAt (c .before .before .before .before .before .before .before .before .before .before .before .before .before .before .before .before .before .before .before .before .before .before .before .before .before .before .before .before .args .s .now) (c .before .before .before .before .before .before .before .before .before .before .before .before .before .before .before .before .before .before .before .before .before .before .before .before .before .before .before .before .args .p)) r u) (within (table (c .before .before .before .before .before .before .before .before .before .before .before .before .before .before .before .before .before .before .before .before .before .before .before .before .before .before .before .before .args .types .now) (c .before .before .before .before .before .before .before .before .before .before .before .before .before .before .before .before .before .before .before .before .before .before .before .before .before .before .before .before .args .names .now)) r)) (c .before .before .before .before .before .before .before .before .before .before .before .before .before .before .before .before .before .before .before .before .before .before .before .before .before .before .before .before .args .p) (c .before .before .before .before .before .before .before .before .before .before .before .before .before .before .type-at .ensures (c .before .before .before .before .before .before .before .before .before .before .before .before .before .before .before .before .before .before .before .before .before .before .before .before .before .before .before .before .args .names .now)) (c .before .before .before .before .before .before .before .before .before .before .before .plain2 .ensures)) (c .before .before .before .before .before .next .given .1) .took) ((at-row (λ r u. bind (plainAt (c .before .before .before .before .before .before .before .before .before .before .before .before .before .before .before .before .before .before .before .before .before .before .before .before .before .before .before .before .args .depth) (table (c .before .before .before .before .before .before .before .before .before .before .before .before .before .before .before .before .before .before .before .before .before .before .before .before .before .before .before .before .args .types .now) (c .before .before .before .before .before .before .before .before .before .before .before .before .before .before .before .before .before .before .before .before .before .before .before .before .before .before .before .before .args .names .now)) (c .before .before .before .before .before .before .before .before .before .before .before .before .before .before .before .before .before .before .before .before .before .before .before .before .before .before .before .before .args .s .now) (tokenAt (c .before .before .before .before .before .before .before .before .before .before .before .before .before .before .before .before .before .before .before .before .before .before .before .before .before .before .before .before .args .s .now) (c .before .before .before .before .before .before .before .before .before .before .before .before .before .before .before .before .before .before .before .before .before .before .before .before .before .before .before .before .args .p)) r u) (within (table (c .before .before .before .before .before .before .before .before .before .before .before .before .before .before .before .before .before .before .before .before .before .before .before .before .before .before .before .before .args .types .now) (c .before .before .before .before .before .before .before .before .before .before .before .before .before .before .before .before .before .before .before .before .before .before .before .before .before .before .before .before .args .names .now)) r)) (c .before .before .before .before .before .before .before .before .before .before .before .before .before .before .before .before .before .before .before .before .before .before .before .before .before .before .before .before .args .p) (c .before .before .before .before .before .before .before .before .before .before .before .before .before .before .type-at .ensures (c .before .before .before .before .before .before .before .before .before .before .before .before .before .before .before .before .before .before .before .before .before .before .before .before .before .before .before .before .args .names .now)) (c .before .before .before .before .before .before .before .before .before .before .before .plain2 .ensures)) .stepped) (unwrapped-kind (table (c .before .before .before .before .before .before .before .before .before .before .before .before .before .before .before .before .before .before .before .before .before .before .before .before .before .before .before .before .args .types .now) (c .before .before .before .before .before .before .before .before .before .before .before .before .before .before .before .before .before .before .before .before .before .before .before .before .before .before .before .before .args .names .now)) (c .before .before .before .before .before .before .before .before .before .before .before .before .before .before .before .before .before .before .before .before .before .before .before .before .before .before .before .before .args .row) (sym (c .before .before .before .before .before .before .before .before .before .before .before .before .before .before .before .before .before .before .before .before .is-unwrapped .ensures _ _ (c .before .before .before .before .before .before .before .before .before .before .before .before .before .before .before .before .before .before .before .before .before .at .ensures (c .before .before .before .before .before .before .before .before .before .before .before .before .before .before .before .before .before .before .before .before .before .before .before .before .before .before .before .before .args .names .now))) ∙ not-false _ (c .before .before .before .before .before .before .before .before .before .before .before .before .before .before .before .before .before .before .before .if1 .left)))) (omega (arith, passed (at-row (λ r u. bind (plainAt (c .before .before .before .before .before .before .before .before .before .before .before .before .before .before .before .before .before .before .before .before .before .before .before .before .before .before .before .before .args .depth) (table (c .before .before .before .before .before .before .before .before .before .before .before .before .before .before .before .before .before .before .before .before .before .before .before .before .before .before .before .before .args .types .now) (c .before .before .before .before .before .before .before .before .before .before .before .before .before .before .before .before .before .before .before .before .before .before .before .before .before .before .before .before .args .names .now)) (c .before .before .before .before .before .before .before .before .before .before .before .before .before .before .before .before .before .before .before .before .before .before .before .before .before .before .before .before .args .s .now) (tokenAt (c .before .before .before .before .before .before .before .before .before .before .before .before .before .before .before .before .before .before .before .before .before .before .before .before .before .before .before .before .args .s .now) (c .before .before .before .before .before .before .before .before .before .before .before .before .before .before .before .before .before .before .before .before .before .before .before .before .before .before .before .before .args .p)) r u) (within (table (c .before .before .before .before .before .before .before .before .before .before .before .before .before .before .before .before .before .before .before .before .before .before .before .before .before .before .before .before .args .types .now) (c .before .before .before .before .before .before .before .before .before .before .before .before .before .before .before .before .before .before .before .before .before .before .before .before .before .before .before .before .args .names .now)) r)) (c .before .before .before .before .before .before .before .before .before .before .before .before .before .before .before .before .before .before .before .before .before .before .before .before .before .before .before .before .args .p) (c .before .before .before .before .before .before .before .before .before .before .before .before .before .before .type-at .ensures (c .before .before .before .before .before .before .before .before .before .before .before .before .before .before .before .before .before .before .before .before .before .before .before .before .before .before .before .before .args .names .now)) (c .before .before .before .before .before .before .before .before .before .before .before .plain2 .ensures)) (c .before .before .before .before .before .next .given .1) .near, passed (at-row (λ r u. bind (plainAt (c .before .before .before .before .before .before .before .before .before .before .before .before .before .before .before .before .before .before .before .before .before .before .before .before .before .before .before .before .args .depth) (table (c .before .before .before .before .before .before .before .before .before .before .before .before .before .before .before .before .before .before .before .before .before .before .before .before .before .before .before .before .args .types .now) (c .before .before .before .before .before .before .before .before .before .before .before .before .before .before .before .before .before .before .before .before .before .before .before .before .before .before .before .before .args .names .now)) (c .before .before .before .before .before .before .before .before .before .before .before .before .before .before .before .before .before .before .before .before .before .before .before .before .before .before .before .before .args .s .now) (tokenAt (c .before .before .before .before .before .before .before .before .before .before .before .before .before .before .before .before .before .before .before .before .before .before .before .before .before .before .before .before .args .s .now) (c .before .before .before .before .before .before .before .before .before .before .before .before .before .before .before .before .before .before .before .before .before .before .before .before .before .before .before .before .args .p)) r u) (within (table (c .before .before .before .before .before .before .before .before .before .before .before .before .before .before .before .before .before .before .before .before .before .before .before .before .before .before .before .before .args .types .now) (c .before .before .before .before .before .before .before .before .before .before .before .before .before .before .before .before .before .before .before .before .before .before .before .before .before .before .before .before .args .names .now)) r)) (c .before .before .before .before .before .before .before .before .before .before .before .before .before .before .before .before .before .before .before .before .before .before .before .before .before .before .before .before .args .p) (c .before .before .before .before .before .before .before .before .before .before .before .before .before .before .type-at .ensures (c .before .before .before .before .before .before .before .before .before .before .before .before .before .before .before .before .before .before .before .before .before .before .before .before .before .before .before .before .args .names .now)) (c .before .before .before .before .before .before .before .before .before .before .before .plain2 .ensures)) (c .before .before .before .before .before .next .given .1) .took .next)) (rw (passed (at-row (λ r u. bind (plainAt (c .before .before .before .before .before .before .before .before .before .before .before .before .before .before .before .before .before .before .before .before .before .before .before .before .before .before .before .before .args .depth) (table (c .before .before .before .before .before .before .before .before .before .before .before .before .before .before .before .before .before .before .before .before .before .before .before .before .before .before .before .before .args .types .now) (c .before .before .before .before .before .before .before .before .before .before .before .before .before .before .before .before .before .before .before .before .before .before .before .before .before .before .before .before .args .names .now)) (c .before .before .before .before .before .before .before .before .before .before .before .before .before .before .before .before .before .before .before .before .before .before .before .before .before .before .before .before .args .s .now) (tokenAt (c .before .before .before .before .before .before .before .before .before .before .before .before .before .before .before .before .before .before .before .before .before .before .before .before .before .before .before .before .args .s .now) (c .before .before .before .before .before .before .before .before .before .before .before .before .before .before .before .before .before .before .before .before .before .before .before .before .before .before .before .before .args .p)) r u) (within (table (c .before .before .before .before .before .before .before .before .before .before .before .before .before .before .before .before .before .before .before .before .before .before .before .before .before .before .before .before .args .types .now) (c .before .before .before .before .before .before .before .before .before .before .before .before .before .before .before .before .before .before .before .before .before .before .before .before .before .before .before .before .args .names .now)) r)) (c .before .before .before .before .before .before .before .before .before .before .before .before .before .before .before .before .before .before .before .before .before .before .before .before .before .before .before .before .args .p) (c .before .before .before .before .before .before .before .before .before .before .before .before .before .before .type-at .ensures (c .before .before .before .before .before .before .before .before .before .before .before .before .before .before .before .before .before .before .before .before .before .before .before .before .before .before .before .before .args .names .now)) (c .before .before .before .before .before .before .before .before .before .before .before .plain2 .ensures)) (c .before .before .before .before .before .next .given .1) .took .next) (c .before .before .close .ensures .0)) (c .before .before .close .ensures .1))
+
+pub +array+choice+each-member+list+object+plain+value-spec : {M : Type 1} → statement M
++array+choice+each-member+list+object+plain+value-spec =
+    close μ-array μ-choice μ-each-member μ-list μ-object μ-plain μ-value (λ t. array-lts.spec (array-calls t) (array-at t) array.Post
+    array-Inv-loop
+    array-μ-loop
+    (array-field-requires t)
+    (array-first-part-requires t)
+    (array-loop-holds t)
+    (array-element-found-requires t)
+    (array-enum-known-f t)
+    (array-add-put-row t)
+    (array-add-put-row-2 t)
+    (array-put-row-requires t)
+    (array-add-n t)
+    (array-add-k t)
+    (array-loop-less t)
+    (array-loop-again t)
+    (array-enum-known-q t)
+    (array-add-missing t)
+    (array-add-missing-2 t)
+    (array-missing-requires t)
+    (array-enum-known-e t)
+    (array-same-length t)
+    (array-same-length-2 t)
+    (array-returns t)
+    (array-enum-known-a t)
+    (array-with-requires t)
+    (array-add-n-2 t)
+    (array-add-m t)
+    (array-add-k-2 t)
+    (array-loop-less-2 t)
+    (array-loop-again-2 t)
+    (array-enum-known-q-2 t)
+    (array-type-at-requires t)
+    (array-add-value t)
+    (array-add-value-2 t)
+    (array-add-value-3 t)
+    (array-sub-value t)
+    (array-value-requires t)
+    (array-enum-known-e-2 t)
+    (array-same-length-3 t)
+    (array-same-length-4 t)
+    (array-returns-2 t)
+    (array-enum-known-end t)
+    (array-after-part-requires t)
+    (array-with-requires-2 t)
+    (array-add-n-3 t)
+    (array-add-m-2 t)
+    (array-add-k-3 t)
+    (array-loop-less-3 t)
+    (array-loop-again-3 t)
+    (array-surplus-requires t)
+    (array-enum-known-e-3 t)
+    (array-enum-known-q-3 t)
+    (array-ones-requires t)
+    (array-close-requires t)
+    (array-same-length-5 t)
+    (array-same-length-6 t)
+    (array-returns-3 t)
+    (array-same-length-7 t)
+    (array-same-length-8 t)
+    (array-returns-4 t))
+    (λ t. choice-lts.spec (choice-calls t) (choice-at t) choice.Post
+    (choice-sub-one-at t)
+    (choice-one-at-requires t)
+    (choice-enum-told t)
+    (choice-refused-requires t)
+    (choice-enum-known-q t)
+    (choice-position-requires t)
+    (choice-enum-told-2 t)
+    (choice-unknown-requires t)
+    (choice-enum-known-k t)
+    (choice-type-at-requires t)
+    (choice-value-place-requires t)
+    (choice-add-value t)
+    (choice-sub-value t)
+    (choice-value-requires t)
+    (choice-enum-known-e t)
+    (choice-enum-known-next t)
+    (choice-skip-space-requires t)
+    (choice-advance-requires t)
+    (choice-close-requires t)
+    (choice-returns t)
+    (choice-returns-2 t)
+    (choice-same-length t)
+    (choice-same-length-2 t)
+    (choice-returns-3 t)
+    (choice-same-length-3 t)
+    (choice-same-length-4 t)
+    (choice-returns-4 t))
+    (λ t. each-member-lts.spec (each-member-calls t) (each-member-at t)
+    each-member.Post
+    each-member-Inv-loop
+    each-member-μ-loop
+    (each-member-field-requires t)
+    (each-member-loop-holds t)
+    (each-member-wide-requires t)
+    (each-member-mul-wide t)
+    (each-member-array-read-wide t)
+    (each-member-wide-requires-2 t)
+    (each-member-bit-requires t)
+    (each-member-member-found-requires t)
+    (each-member-enum-told t)
+    (each-member-refused-requires t)
+    (each-member-same-length t)
+    (each-member-same-length-2 t)
+    (each-member-returns t)
+    (each-member-enum-told-2 t)
+    (each-member-add-put-row t)
+    (each-member-add-put-row-2 t)
+    (each-member-put-row-requires t)
+    (each-member-add-n t)
+    (each-member-add-k t)
+    (each-member-loop-less t)
+    (each-member-loop-again t)
+    (each-member-enum-known-q t)
+    (each-member-type-at-requires t)
+    (each-member-add-value t)
+    (each-member-add-value-2 t)
+    (each-member-add-value-3 t)
+    (each-member-sub-value t)
+    (each-member-value-requires t)
+    (each-member-enum-known-e t)
+    (each-member-same-length-3 t)
+    (each-member-same-length-4 t)
+    (each-member-returns-2 t)
+    (each-member-enum-known-a t)
+    (each-member-with-requires t)
+    (each-member-add-n-2 t)
+    (each-member-add-m t)
+    (each-member-add-k-2 t)
+    (each-member-loop-less-2 t)
+    (each-member-loop-again-2 t)
+    (each-member-ones-requires t)
+    (each-member-close-requires t)
+    (each-member-same-length-5 t)
+    (each-member-same-length-6 t)
+    (each-member-returns-3 t))
+    (λ t. list-lts.spec (list-calls t) (list-at t) list.Post
+    list-Inv-loop
+    list-μ-loop
+    (list-field-requires t)
+    (list-wide-requires t)
+    (list-first-part-requires t)
+    (list-loop-holds t)
+    (list-enum-known-next t)
+    (list-narrow-requires t)
+    (list-close-requires t)
+    (list-same-length t)
+    (list-same-length-2 t)
+    (list-returns t)
+    (list-enum-known-next-2 t)
+    (list-narrow-requires-2 t)
+    (list-close-requires-2 t)
+    (list-same-length-3 t)
+    (list-same-length-4 t)
+    (list-returns-2 t)
+    (list-add-value t)
+    (list-add-value-2 t)
+    (list-add-value-3 t)
+    (list-sub-value t)
+    (list-value-requires t)
+    (list-enum-known-e t)
+    (list-same-length-5 t)
+    (list-same-length-6 t)
+    (list-returns-3 t)
+    (list-enum-known-end t)
+    (list-after-part-requires t)
+    (list-add-count t)
+    (list-add-n t)
+    (list-add-m t)
+    (list-loop-less t)
+    (list-loop-again t))
+    (λ t. object-lts.spec (object-calls t) (object-at t) object.Post
+    (object-sub-scan t)
+    (object-scan-requires t)
+    (object-enum-known-end t)
+    (object-enum-known-end-2 t)
+    (object-each-member-requires t)
+    (object-returns t)
+    (object-same-length t)
+    (object-same-length-2 t)
+    (object-returns-2 t))
+    (λ t. plain-lts.spec (plain-calls t) (plain-at t) plain.Post
+    (plain-leaf-requires t)
+    (plain-bounded-requires t)
+    (plain-same-length t)
+    (plain-same-length-2 t)
+    (plain-returns t)
+    (plain-refused-requires t)
+    (plain-returns-2 t)
+    (plain-at-requires t)
+    (plain-list-requires t)
+    (plain-same-length-3 t)
+    (plain-same-length-4 t)
+    (plain-returns-3 t)
+    (plain-is-array-requires t)
+    (plain-array-requires t)
+    (plain-same-length-5 t)
+    (plain-same-length-6 t)
+    (plain-returns-4 t)
+    (plain-refused-requires-2 t)
+    (plain-returns-5 t)
+    (plain-choice-requires t)
+    (plain-same-length-7 t)
+    (plain-same-length-8 t)
+    (plain-returns-6 t)
+    (plain-is-array-requires-2 t)
+    (plain-object-requires t)
+    (plain-same-length-9 t)
+    (plain-same-length-10 t)
+    (plain-returns-7 t)
+    (plain-refused-requires-3 t)
+    (plain-returns-8 t))
+    λ t. value-lts.spec (value-calls t) (value-at t) value.Post
+    (value-token-at-requires t)
+    (value-at-requires t)
+    (value-is-unwrapped-requires t)
+    (value-plain-requires t)
+    (value-same-length t)
+    (value-same-length-2 t)
+    (value-returns t)
+    (value-alternative-requires t)
+    (value-enum-told t)
+    (value-unknown-requires t)
+    (value-enum-known-k t)
+    (value-type-at-requires t)
+    (value-add-plain t)
+    (value-plain-requires-2 t)
+    (value-enum-known-e t)
+    (value-enum-known-next t)
+    (value-close-requires t)
+    (value-returns-2 t)
+    (value-same-length-3 t)
+    (value-same-length-4 t)
+    (value-returns-3 t)
+    (value-same-length-5 t)
+    (value-same-length-6 t)
+    (value-returns-4 t)

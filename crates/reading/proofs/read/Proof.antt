@@ -1,0 +1,76 @@
+use mathlib.Core.Path.{_≡_, sym, _∙_}
+use Rattle.types.specs.Rows.{table}
+use Rattle.reading.proofs.ReadLaws.{bad-table, bad-text, refuses, tell}
+use borrow.Author.Needs.{needs}
+use Rattle.reading.proofs.read.Statement.{statement}
+use Rattle.reading.proofs.read.Tie as tie
+use Rattle.reading.proofs.read.Reads as reads
+use Rattle.reading.proofs.read.Lts as lts
+use Rattle.reading.proofs.typed.Reads as typed-reads
+use Rattle.text.proofs.check.Reads as check-reads
+use Rattle.types.proofs.check.Reads as check-reads′
+
+-- src/lib.rt:32:11
+check-requires : tie.Need-check-requires
+check-requires c κs = search needs
+
+-- src/lib.rt:33:25
+enum-known-e : tie.Need-enum-known-e
+enum-known-e c = search needs
+
+-- src/lib.rt:34:31
+enum-told : tie.Need-enum-told
+enum-told c = search needs
+
+-- src/lib.rt:34:31
+check-requires-2 : tie.Need-check-requires-2
+check-requires-2 c κs = search needs
+
+-- src/lib.rt:35:29
+enum-known-e-2 : tie.Need-enum-known-e-2
+enum-known-e-2 c = search needs
+
+-- src/lib.rt:36:52
+enum-told-2 : tie.Need-enum-told-2
+enum-told-2 c = search needs
+
+-- src/lib.rt:36:29
+typed-requires : tie.Need-typed-requires
+typed-requires c κs = (sym (c .before .before .before .before .before .enum-told .given .1) ∙ c .before .before .before .before .before .before .before .check .ensures, sym (c .before .before .enum-told2 .given .1) ∙ c .before .before .before .before .check2 .ensures)
+
+-- src/lib.rt:27:1
+returns : tie.Need-returns
+returns c = tell (refuses (table (c .before .before .before .before .before .before .before .before .before .args .types .now) (c .before .before .before .before .before .before .before .before .before .args .names .now)) (c .before .before .before .before .before .before .before .before .before .args .rows .now) (c .before .before .before .before .before .before .before .before .before .args .pool .now) (bad-table (table (c .before .before .before .before .before .before .before .before .before .args .types .now) (c .before .before .before .before .before .before .before .before .before .args .names .now)) (c .before .before .before .before .before .before .before .before .before .args .s .now) (sym (c .before .e .given .1) ∙ c .before .before .before .check .ensures)))
+
+-- src/lib.rt:27:1
+returns-2 : tie.Need-returns-2
+returns-2 c = tell (refuses (table (c .before .before .before .before .before .before .before .before .before .before .before .before .args .types .now) (c .before .before .before .before .before .before .before .before .before .before .before .before .args .names .now)) (c .before .before .before .before .before .before .before .before .before .before .before .before .args .rows .now) (c .before .before .before .before .before .before .before .before .before .before .before .before .args .pool .now) (bad-text (table (c .before .before .before .before .before .before .before .before .before .before .before .before .args .types .now) (c .before .before .before .before .before .before .before .before .before .before .before .before .args .names .now)) (c .before .before .before .before .before .before .before .before .before .before .before .before .args .s .now) (sym (c .before .before .before .before .enum-told .given .1) ∙ c .before .before .before .before .before .before .check .ensures) (sym (c .before .e2 .given .1) ∙ c .before .before .before .check2 .ensures)))
+
+-- src/lib.rt:27:1
+same-length : tie.Need-same-length
+same-length c = search needs
+
+-- src/lib.rt:27:1
+same-length-2 : tie.Need-same-length-2
+same-length-2 c = search needs
+
+-- src/lib.rt:27:1
+returns-3 : tie.Need-returns-3
+returns-3 c = c .before .before .before .before .typed .ensures
+
+pub read-spec : {M : Type 1} → statement M
+read-spec =
+    tie.close
+    (tie.spec
+    check-requires
+    enum-known-e
+    enum-told
+    check-requires-2
+    enum-known-e-2
+    enum-told-2
+    typed-requires
+    returns
+    returns-2
+    same-length
+    same-length-2
+    returns-3)

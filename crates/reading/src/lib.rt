@@ -1,0 +1,86 @@
+// Typed reading: a text judged, measured, and stored in the rows and the pool that are lent.
+mod close; // close.rt: a value's own row above its parts, and counts of 32 bits
+mod cycle; // cycle.rt: the readers that call one another
+mod members; // members.rt: the members of a sequence, and the one of a choice, before they are read
+
+use cycle::value;
+use jer::Judged;
+use jer::Limit;
+use jer::Reading;
+use jer::Refusal;
+use leaf::Step;
+use tokens::cursor::Class;
+use tokens::cursor::run;
+ghost use mathlib.Core.Path.{_≡_};
+ghost use lib.ListN.{length};
+ghost use Rattle.jer.specs.declared.Judged.the-variants as judged;
+ghost use Rattle.jer.specs.declared.Limit.the-variants.{LentRoom};
+ghost use Rattle.jer.specs.declared.Reading.the-variants as reading;
+ghost use Rattle.jer.specs.declared.Refusal.the-variants.{Amounts};
+ghost use Rattle.jer.specs.Calls.{tableJudged, textJudged, readText, readAnswer, rowsAfter, poolAfter};
+ghost use Rattle.types.specs.Rows.{table};
+
+// Brackets that may be open at one time.
+const DEPTH: u32 = 32;
+
+// Reads the text by the type table into the lent rows and pool; a refusal leaves both as they were.
+pub fn read(types: &[u32], names: &[u8], s: &[u8], rows: &mut [u32], pool: &mut [u8]) -> Reading
+    ensures { λ r. ⌜ r ≡ readAnswer (table (now (types .entry)) (now (names .entry))) (length (now (rows .entry))) (length (now (pool .entry))) (readText (table (now (types .entry)) (now (names .entry))) (now (s .entry))) ⌝ }
+    ensures { λ _. ⌜ now (rows .exit) ≡ rowsAfter (table (now (types .entry)) (now (names .entry))) (now (rows .entry)) (length (now (pool .entry))) (readText (table (now (types .entry)) (now (names .entry))) (now (s .entry))) ⌝ }
+    ensures { λ _. ⌜ now (pool .exit) ≡ poolAfter (table (now (types .entry)) (now (names .entry))) (length (now (rows .entry))) (now (pool .entry)) (readText (table (now (types .entry)) (now (names .entry))) (now (s .entry))) ⌝ }
+{
+    match types::check(types, names) {
+        Judged::Refused(e) => Reading::Refused(e),
+        Judged::Good => match text::check(s) {
+            Judged::Refused(e) => Reading::Refused(e),
+            Judged::Good => typed(types, names, s, rows, pool),
+        },
+    }
+}
+
+// The typed reading, run twice: it measures over no room, and stores once the room is known to be enough.
+fn typed(types: &[u32], names: &[u8], s: &[u8], rows: &mut [u32], pool: &mut [u8]) -> Reading
+    requires { ⌜ (judged.Good ≡ tableJudged (table (now types) (now names))) × (judged.Good ≡ textJudged (now s)) ⌝ }
+    ensures { λ r. ⌜ r ≡ readAnswer (table (now (types .entry)) (now (names .entry))) (length (now (rows .entry))) (length (now (pool .entry))) (readText (table (now (types .entry)) (now (names .entry))) (now (s .entry))) ⌝ }
+    ensures { λ _. ⌜ now (rows .exit) ≡ rowsAfter (table (now (types .entry)) (now (names .entry))) (now (rows .entry)) (length (now (pool .entry))) (readText (table (now (types .entry)) (now (names .entry))) (now (s .entry))) ⌝ }
+    ensures { λ _. ⌜ now (pool .exit) ≡ poolAfter (table (now (types .entry)) (now (names .entry))) (length (now (rows .entry))) (now (pool .entry)) (readText (table (now (types .entry)) (now (names .entry))) (now (s .entry))) ⌝ }
+{
+    let p = run(s, 0, Class::Space);
+    let mut no_rows = [0u32; 1];
+    let mut no_pool = [0u8; 1];
+    match value(
+        types,
+        names,
+        s,
+        &mut no_rows,
+        &mut no_pool,
+        0,
+        p,
+        0,
+        0,
+        DEPTH,
+    ) {
+        Step::Refused(e) => Reading::Refused(e),
+        Step::Read {
+            next: _,
+            rows: n,
+            pool: m,
+        } => {
+            if rows.len() < n * 4 {
+                return needed(n, m);
+            }
+            if pool.len() < m {
+                return needed(n, m);
+            }
+            value(types, names, s, rows, pool, 0, p, 0, 0, DEPTH);
+            Reading::Read { rows: n, pool: m }
+        }
+    }
+}
+
+// Refuses for want of room.
+fn needed(n: usize, m: usize) -> Reading
+    ensures { λ r. ⌜ r ≡ reading.Refused (Amounts LentRoom n m) ⌝ }
+{
+    Reading::Refused(Refusal::Amounts(Limit::LentRoom, n as u64, m as u64))
+}
