@@ -1,4 +1,4 @@
-// The program `jerread` as a function on what stands on standard input: what it prints is tested and not proved.
+// The programs `jerread` and `jerwrite` as functions on what stands on standard input: what they print is tested and not proved.
 use hexlines::Input;
 use hexlines::decode::Decoded;
 use hexlines::decode::numbers_line;
@@ -12,6 +12,7 @@ use hexlines::print_refusal;
 use hexlines::print_rows;
 use hexlines::put;
 use jer::Reading;
+use jer::Writing;
 
 // Digits in a line at the most.
 const DIGITS: u32 = 16384;
@@ -81,4 +82,47 @@ pub fn answer_read(s: &[u8]) {
         return;
     };
     print_reading(first_numbers(&types, a), first(&names, b), first(&text, c));
+}
+
+// Writes a value table, and prints its text or the refusal. 65,536 bytes of text are lent.
+fn print_writing(types: &[u32], names: &[u8], values: &[u32], pool: &[u8]) {
+    let mut text = [0u8; 65536];
+    match writing::write(types, names, values, pool, &mut text) {
+        Writing::Refused(e) => {
+            print_refusal(e);
+        }
+        Writing::Written(n) => {
+            print_octets(first(&text, n));
+        }
+    }
+}
+
+// What `jerwrite` prints.
+pub fn answer_write(s: &[u8]) {
+    let mut types = [0u32; 2048];
+    let Decoded::Count { count: a, next: p } = numbers_line(s, 0, &mut types) else {
+        print_bad_line(1);
+        return;
+    };
+    let mut names = [0u8; 8192];
+    let Decoded::Count { count: b, next: q } = octets_line(s, p, &mut names) else {
+        print_bad_line(2);
+        return;
+    };
+    let mut values = [0u32; 2048];
+    let Decoded::Count { count: c, next: u } = numbers_line(s, q, &mut values) else {
+        print_bad_line(3);
+        return;
+    };
+    let mut pool = [0u8; 8192];
+    let Decoded::Count { count: d, next: _ } = octets_line(s, u, &mut pool) else {
+        print_bad_line(4);
+        return;
+    };
+    print_writing(
+        first_numbers(&types, a),
+        first(&names, b),
+        first_numbers(&values, c),
+        first(&pool, d),
+    );
 }

@@ -1,0 +1,31 @@
+// Runs `jerwrite` on the stored inputs: a line of hexadecimal each, the whole of a standard input.
+use hexlines::Input;
+use hexlines::Line;
+use hexlines::first;
+use hexlines::octets;
+use shell::answer_write;
+
+// Answers the input in the next line.
+fn one(buf: &mut [u8], input: Input) -> Line {
+    let mut given = [0u8; 65600];
+    let line = octets(buf, input, &mut given);
+    if !line.over {
+        answer_write(first(&given, line.count));
+    }
+    line
+}
+
+// Nothing says that the input ends: the loop counts its turns down from a number that no run uses up.
+fn main() {
+    let mut buf = io::large_buffer();
+    let mut input = Input { at: 0, end: 0 };
+    let mut turns: u32 = 4294967295;
+    while 0 < turns {
+        let line = one(&mut buf, input);
+        if line.over {
+            return;
+        }
+        input = line.input;
+        turns -= 1;
+    }
+}

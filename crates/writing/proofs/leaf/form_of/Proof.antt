@@ -1,0 +1,37 @@
+use mathlib.Core.Path.{ap}
+use Rattle.types.specs.Rows.{table}
+use Rattle.types.specs.declared.row.Row.{Row}
+use Rattle.writing.proofs.LeafLaws.{form-text, form-base64, form-hex}
+use borrow.Author.Needs.{needs}
+use Rattle.writing.proofs.leaf.form_of.Statement.{statement}
+use Rattle.writing.proofs.leaf.form_of.Tie as tie
+use Rattle.writing.proofs.leaf.form_of.Reads as reads
+use Rattle.writing.proofs.leaf.form_of.Lts as lts
+use Rattle.types.proofs.row.Row.at.Reads as at-reads
+use Rattle.types.proofs.row.Row.is_base64.Reads as is-base64-reads
+
+-- src/leaf.rt:34:9
+at-requires : tie.Need-at-requires
+at-requires c κs = search needs
+
+-- src/leaf.rt:36:9
+returns : tie.Need-returns
+returns c = let a = c .before .before .before .before .args in
+    λ ns. form-text (table (a .types .now) ns) (a .r) (ap (λ (w : Row). w .kind) (c .before .before .at .ensures ns)) (c .if1 .taken)
+
+-- src/leaf.rt:38:8
+is-base64-requires : tie.Need-is-base64-requires
+is-base64-requires c κs = search needs
+
+-- src/leaf.rt:39:9
+returns-2 : tie.Need-returns-2
+returns-2 c = let a = c .before .before .before .before .before .before .args in
+    λ ns. form-base64 (table (a .types .now) ns) (a .r) (ap (λ (w : Row). w .kind) (c .before .before .before .before .at .ensures ns)) (c .before .before .if1 .left) (c .before .is-base64 .ensures _ _ (c .before .before .before .before .at .ensures ns)) (c .if2 .taken)
+
+-- src/leaf.rt:31:1
+returns-3 : tie.Need-returns-3
+returns-3 c = let a = c .before .before .before .before .before .before .args in
+    λ ns. form-hex (table (a .types .now) ns) (a .r) (ap (λ (w : Row). w .kind) (c .before .before .before .before .at .ensures ns)) (c .before .before .if1 .left) (c .before .is-base64 .ensures _ _ (c .before .before .before .before .at .ensures ns)) (c .if2 .left)
+
+pub form-of-spec : {M : Type 1} → statement M
+form-of-spec = tie.close (tie.spec at-requires returns is-base64-requires returns-2 returns-3)

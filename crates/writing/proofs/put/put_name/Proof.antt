@@ -1,0 +1,30 @@
+use Rattle.jer.specs.Write.{stringText}
+use Rattle.writing.specs.Text.{spelled, nameText}
+use Rattle.writing.proofs.PutLaws.{puts-append}
+use borrow.Author.Needs.{needs}
+use Rattle.writing.proofs.put.put_name.Statement.{statement}
+use Rattle.writing.proofs.put.put_name.Tie as tie
+use Rattle.writing.proofs.put.put_name.Reads as reads
+use Rattle.writing.proofs.put.put_name.Lts as lts
+use Rattle.writing.proofs.put.put_byte.Reads as put-byte-reads
+use Rattle.writing.proofs.put.put_string.Reads as put-string-reads
+
+-- src/put.rt:151:9
+put-string-requires : tie.Need-put-string-requires
+put-string-requires c κs = search needs
+
+-- src/put.rt:152:5
+put-byte-requires : tie.Need-put-byte-requires
+put-byte-requires c κs = search needs
+
+-- src/put.rt:148:1
+same-length : tie.Need-same-length
+same-length c = search needs
+
+-- src/put.rt:148:1
+returns : tie.Need-returns
+unfolding nameText stringText spelled
+returns c = puts-append (c .before .before .before .before .before .before .put-string .ensures) (c .before .before .put-byte .ensures)
+
+pub put-name-spec : {M : Type 1} → statement M
+put-name-spec = tie.close (tie.spec put-string-requires put-byte-requires same-length returns)

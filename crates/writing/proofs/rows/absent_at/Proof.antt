@@ -1,0 +1,56 @@
+use Rattle.types.specs.Rows.{table}
+use Rattle.writing.proofs.RowLaws.{never, absent-row, absent-none}
+use borrow.Author.Needs.{needs}
+use Rattle.writing.proofs.rows.absent_at.Statement.{statement}
+use Rattle.writing.proofs.rows.absent_at.Tie as tie
+use Rattle.writing.proofs.rows.absent_at.Reads as reads
+use Rattle.writing.proofs.rows.absent_at.Lts as lts
+use Rattle.types.proofs.row.may_miss.Reads as may-miss-reads
+use Rattle.writing.proofs.rows.ValueRow.is_absent.Reads as is-absent-reads
+use Rattle.writing.proofs.rows.row_at.Reads as row-at-reads
+
+-- src/rows.rt:57:11
+row-at-requires : tie.Need-row-at-requires
+row-at-requires c κs = search needs
+
+-- src/rows.rt:58:20
+enum-known-w : tie.Need-enum-known-w
+enum-known-w c = search needs
+
+-- src/rows.rt:58:26
+may-miss-requires : tie.Need-may-miss-requires
+may-miss-requires c κs = search needs
+
+-- src/rows.rt:58:50
+is-absent-requires : tie.Need-is-absent-requires
+is-absent-requires c κs = search needs
+
+-- src/rows.rt:59:23
+enum-told : tie.Need-enum-told
+enum-told c = search needs
+
+-- src/rows.rt:53:1
+returns : tie.Need-returns
+returns c =
+    let a = c .before .before .before .before .before .before .before .before .args in
+    let found = rw (c .before .before .before .w .given .1) at (c .before .before .before .before .before .row-at .ensures) in
+    ((λ ns. absent-row (table (a .types .now) ns) (a .r) (a .i) (found .0) (c .before .may-miss .ensures ns) (c .is-absent .ensures)), λ _. found .1)
+
+-- src/rows.rt:53:1
+returns-2 : tie.Need-returns-2
+returns-2 c =
+    let a = c .before .before .before .before .before .args in
+    let found = rw (c .enum-told .given .1) at (c .before .before .row-at .ensures) in
+    ((λ ns. absent-none (table (a .types .now) ns) (a .r) (a .i) found), never)
+
+pub absent-at-spec : {M : Type 1} → statement M
+absent-at-spec =
+    tie.close
+    (tie.spec
+    row-at-requires
+    enum-known-w
+    may-miss-requires
+    is-absent-requires
+    enum-told
+    returns
+    returns-2)

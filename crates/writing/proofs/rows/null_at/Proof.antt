@@ -1,0 +1,71 @@
+use mathlib.Core.Path.{ap}
+use Rattle.types.specs.Rows.{table}
+use Rattle.types.specs.declared.row.Row.{Row}
+use Rattle.writing.proofs.RowLaws.{null-row, null-none}
+use borrow.Author.Needs.{needs}
+use Rattle.writing.proofs.rows.null_at.Statement.{statement}
+use Rattle.writing.proofs.rows.null_at.Tie as tie
+use Rattle.writing.proofs.rows.null_at.Reads as reads
+use Rattle.writing.proofs.rows.null_at.Lts as lts
+use Rattle.types.proofs.row.Row.at.Reads as at-reads
+use Rattle.types.proofs.row.Row.is_unwrapped.Reads as is-unwrapped-reads
+use Rattle.types.proofs.row.field.Reads as field-reads
+use Rattle.types.proofs.row.type_at.Reads as type-at-reads
+use Rattle.writing.proofs.rows.row_at.Reads as row-at-reads
+
+-- src/rows.rt:67:11
+row-at-requires : tie.Need-row-at-requires
+row-at-requires c κs = search needs
+
+-- src/rows.rt:68:20
+enum-known-w : tie.Need-enum-known-w
+enum-known-w c = search needs
+
+-- src/rows.rt:69:17
+at-requires : tie.Need-at-requires
+at-requires c κs = search needs
+
+-- src/rows.rt:70:39
+type-at-requires : tie.Need-type-at-requires
+type-at-requires c κs = search needs
+
+-- src/rows.rt:70:17
+field-requires : tie.Need-field-requires
+field-requires c κs = search needs
+
+-- src/rows.rt:71:40
+is-unwrapped-requires : tie.Need-is-unwrapped-requires
+is-unwrapped-requires c κs = search needs
+
+-- src/rows.rt:73:23
+enum-told : tie.Need-enum-told
+enum-told c = search needs
+
+-- src/rows.rt:64:1
+returns : tie.Need-returns
+returns c =
+    let a = c .before .before .before .before .before .before .before .before .before .before .before .args in
+    let found = rw (c .before .before .before .before .before .before .w .given .1) at (c .before .before .before .before .before .before .before .before .row-at .ensures) in
+    let type = c .before .before .before .before .at .ensures in
+    λ ns. null-row (table (a .types .now) ns) (a .r) (found .0) (ap (λ (w : Row). w .kind) (type ns)) (c .is-unwrapped .ensures _ _ (type ns)) (c .before .before .field .ensures ns) (c .before .before .before .type-at .ensures ns)
+
+-- src/rows.rt:64:1
+returns-2 : tie.Need-returns-2
+returns-2 c =
+    let a = c .before .before .before .before .before .args in
+    let found = rw (c .enum-told .given .1) at (c .before .before .row-at .ensures) in
+    λ ns. null-none (table (a .types .now) ns) (a .r) found
+
+pub null-at-spec : {M : Type 1} → statement M
+null-at-spec =
+    tie.close
+    (tie.spec
+    row-at-requires
+    enum-known-w
+    at-requires
+    type-at-requires
+    field-requires
+    is-unwrapped-requires
+    enum-told
+    returns
+    returns-2)

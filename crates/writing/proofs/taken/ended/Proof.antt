@@ -1,0 +1,31 @@
+use Rattle.writing.proofs.TextLaws.{ended-right, ended-wrong}
+use borrow.Author.Needs.{needs}
+use Rattle.writing.proofs.taken.ended.Statement.{statement}
+use Rattle.writing.proofs.taken.ended.Tie as tie
+use Rattle.writing.proofs.taken.ended.Reads as reads
+use Rattle.writing.proofs.taken.ended.Lts as lts
+use Rattle.types.proofs.row.wide.Reads as wide-reads
+use Rattle.writing.proofs.taken.rows_between.Reads as rows-between-reads
+
+-- src/taken.rt:30:16
+wide-requires : tie.Need-wide-requires
+wide-requires c κs = search needs
+
+-- src/taken.rt:30:30
+rows-between-requires : tie.Need-rows-between-requires
+rows-between-requires c κs = search needs
+
+-- src/taken.rt:31:9
+returns : tie.Need-returns
+returns c =
+    let a = c .before .before .before .args in
+    ended-right (a .good) (c .before .before .wide .ensures .0) (c .before .rows-between .ensures) (a .q) (a .next) (a .used) (a .end) (c .if1 .taken)
+
+-- src/taken.rt:27:1
+returns-2 : tie.Need-returns-2
+returns-2 c =
+    let a = c .before .before .before .args in
+    ended-wrong (a .good) (c .before .before .wide .ensures .0) (c .before .rows-between .ensures) (a .q) (a .next) (a .used) (a .end) (c .if1 .left)
+
+pub ended-spec : {M : Type 1} → statement M
+ended-spec = tie.close (tie.spec wide-requires rows-between-requires returns returns-2)

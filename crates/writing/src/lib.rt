@@ -1,0 +1,62 @@
+// The text of a value: the value table judged and written in one walk, which is made twice, to measure and to store.
+// Contracts cite `jer`'s Judge.antt, Write.antt and Calls.antt; of the calls inside, what they store and answer (specs/Text.antt).
+mod rows; // rows.rt: the rows of the value table
+mod taken; // taken.rt: what one value answers
+mod put; // put.rt: pieces of text, from a place on
+mod leaf; // leaf.rt: a value of one row
+mod value; // value.rt: a value of any type
+
+use jer::Judged;
+use jer::Limit;
+use jer::Refusal;
+use jer::Which;
+use jer::Writing;
+use taken::Taken;
+use types::check;
+use value::judged;
+use value::value;
+ghost use mathlib.Core.Path.{_≡_};
+ghost use lib.ListN.{length};
+ghost use Rattle.jer.specs.Calls.{writeText, writeAnswer, textAfter};
+ghost use Rattle.types.specs.Rows.{table};
+ghost use Rattle.writing.specs.Text.{Wrapped, valueWritten, Answers};
+
+// House sizes of document 01: bytes of text, and brackets open at one time.
+const TEXT: usize = 65536;
+
+const BRACKETS: u32 = 32;
+
+// The one text of the value table, stored from the start of `text`. A refusal leaves it as it was.
+pub fn write(types: &[u32], names: &[u8], values: &[u32], pool: &[u8], text: &mut [u8]) -> Writing
+    ensures { λ r. ⌜ r ≡ writeAnswer (length (now (text .entry))) (writeText (table (now (types .entry)) (now (names .entry))) (now (values .entry)) (now (pool .entry))) ⌝ }
+    ensures { λ _. ⌜ now (text .exit) ≡ textAfter (now (text .entry)) (writeText (table (now (types .entry)) (now (names .entry))) (now (values .entry)) (now (pool .entry))) ⌝ }
+{
+    match check(types, names) {
+        Judged::Refused(e) => Writing::Refused(e),
+        Judged::Good => write_value(types, names, values, pool, text),
+    }
+}
+
+// With a good type table: measured, then stored.
+fn write_value(types: &[u32], names: &[u8], values: &[u32], pool: &[u8], text: &mut [u8]) -> Writing
+    requires { ⌜ Wrapped (table (now types) (now names)) ⌝ }
+    ensures { λ r. ⌜ Answers (valueWritten (table (now (types .entry)) (now (names .entry))) (now (values .entry)) (now (pool .entry))) (now (text .entry)) (now (text .exit)) r ⌝ }
+{
+    match judged(types, names, values, pool, 0, 0, 0, BRACKETS) {
+        Taken::Wrong(q) => Writing::Refused(Refusal::AtRow(Which::ValueTable, q)),
+        Taken::Took { row, used, end } => {
+            let rows = (values.len() % 4 == 0) & (values.len() / 4 == row);
+            if !(rows & (pool.len() == used)) {
+                return Writing::Refused(Refusal::AtRow(Which::ValueTable, row));
+            }
+            if TEXT < end {
+                return Writing::Refused(Refusal::Amounts(Limit::HouseSize, end as u64, 0));
+            }
+            if text.len() < end {
+                return Writing::Refused(Refusal::Amounts(Limit::LentRoom, end as u64, 0));
+            }
+            value(types, names, values, pool, text, 0, 0, 0, 0, BRACKETS);
+            Writing::Written(end)
+        }
+    }
+}
