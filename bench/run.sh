@@ -30,7 +30,7 @@ fi
 python3 bench/make.py $out/cases
 $CXX -std=c++17 -O3 -Wall -Wextra $with $LINK $sources -L "$LIB" -lcapi $libraries -o $out/bench
 
-echo "machine: $(uname -m), $(sed -n 's/^model name[^:]*: *//p' /proc/cpuinfo | sort -u)"
+echo machine: $(uname -m) $(sed -n 's/^model name[^:]*: *//p' /proc/cpuinfo | sort -u)
 echo "built by: $($CXX --version | head -n 1)"
 [ -z "$RUN" ] || echo "run through $RUN: its times say nothing of a machine, only ratios can be compared"
 $RUN $out/bench $out/cases "${1:-1}"

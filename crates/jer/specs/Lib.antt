@@ -11,6 +11,7 @@ pub mod Fits
 pub mod Write
 pub mod Cut
 pub mod Calls
+pub mod Contracts
 pub mod Samples
 pub mod Programs
 pub mod Moved

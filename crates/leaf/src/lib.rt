@@ -28,22 +28,14 @@ ghost use Rattle.leaf.specs.Step.{Stepped};
 // What reading a value answers.
 pub enum Step {
     // The place after it, and how many rows and pool bytes it has.
-    Read {
-        next: usize,
-        rows: usize,
-        pool: usize,
-    },
+    Read(usize, usize, usize),
     Refused(Refusal),
 }
 
 pub fn read(next: usize, rows: usize, pool: usize) -> Step
     ensures { λ r. ⌜ r ≡ step.Read next rows pool ⌝ }
 {
-    Step::Read {
-        next: next,
-        rows: rows,
-        pool: pool,
-    }
+    Step::Read(next, rows, pool)
 }
 
 // Refuses the text at p.

@@ -15,7 +15,7 @@ use Rattle.jer.specs.Value.{Val}
 use Rattle.jer.specs.Answer.{ok}
 use Rattle.jer.specs.Rows.{ValueRow, numbers, rowsOf, poolOf}
 use Rattle.jer.specs.Calls.{readText, over, rowNumbers, roomy, readAnswer, rowsAfter, poolAfter}
-use Rattle.promises.specs.Contracts.{ReadCall}
+use Rattle.jer.specs.Contracts.{ReadCall}
 
 pub over-taken : (xs buffer : List ℕ) (n : ℕ) → length xs ≡ n → take n (over xs buffer) ≡ xs
 unfolding over

@@ -7,7 +7,7 @@ use Rattle.jer.specs.declared.Judged.{Judged}
 use Rattle.jer.specs.declared.Reading.{Reading}
 use Rattle.jer.specs.declared.Writing.{Writing}
 use Rattle.jer.specs.Table.{Table}
-use Rattle.promises.specs.Contracts.{TableCall, TextCall, ReadCall, WriteCall}
+use Rattle.jer.specs.Contracts.{TableCall, TextCall, ReadCall, WriteCall}
 
 pub table-determined : (t : Table) (r u : Judged) → TableCall t r → TableCall t u → r ≡ u
 table-determined t r u a b = a ∙ sym b

@@ -27,7 +27,7 @@ use Rattle.jer.proofs.WeightLaws.{text-bounds}
 use Rattle.jer.proofs.JudgeSpent.{Words}
 use Rattle.jer.proofs.JudgeTable.{TableOf, judge-fits, judged-rows}
 use Rattle.jer.proofs.SpellCalls.{written-reads-text}
-use Rattle.promises.specs.Contracts.{ReadCall, WriteCall}
+use Rattle.jer.specs.Contracts.{ReadCall, WriteCall}
 use Rattle.promises.proofs.Outcomes.{Stored, stored, Written, written}
 use Rattle.jer.proofs.MeansCalls.{Means, means, means-fits, Says, says, said}
 use Rattle.promises.proofs.Buffers.{over-taken, numbers-length, stores, has-room}

@@ -23,7 +23,7 @@ use Rattle.jer.proofs.JudgeSpent.{Words}
 use Rattle.jer.proofs.JudgeTable.{judge-fits}
 use Rattle.jer.proofs.SpellCalls.{newer-reads-text}
 use Rattle.jer.proofs.OlderCalls.{Stored, stored, refused, older-stores}
-use Rattle.promises.specs.Contracts.{ReadCall, WriteCall}
+use Rattle.jer.specs.Contracts.{ReadCall, WriteCall}
 use Rattle.promises.proofs.Outcomes.{stored as was-stored, written}
 use Rattle.jer.proofs.MeansCalls.{says}
 use Rattle.promises.proofs.Buffers.{over-taken, stores}

@@ -16,7 +16,7 @@ use Rattle.jer.specs.Calls.{over, rowNumbers}
 use Rattle.jer.specs.Respelled.{Respelled}
 use Rattle.jer.specs.Skipped.{SkipAlike, SameReading}
 use Rattle.jer.proofs.AlikeCalls.{respelled-texts, only-respelled-texts, skipped-stores}
-use Rattle.promises.specs.Contracts.{ReadCall}
+use Rattle.jer.specs.Contracts.{ReadCall}
 use Rattle.promises.proofs.Outcomes.{stored}
 use Rattle.jer.proofs.MeansCalls.{means}
 use Rattle.promises.proofs.Buffers.{stores}

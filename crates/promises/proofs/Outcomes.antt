@@ -20,7 +20,7 @@ use Rattle.jer.specs.Answer.{Res, ok, no}
 use Rattle.jer.specs.Rows.{rowsOf, poolOf}
 use Rattle.jer.specs.Calls.{readText, over, rowNumbers, roomy, readAnswer, rowsAfter, poolAfter, writeText, writeAnswer, textAfter, amount}
 use Rattle.jer.proofs.MeansCalls.{never}
-use Rattle.promises.specs.Contracts.{ReadCall, WriteCall}
+use Rattle.jer.specs.Contracts.{ReadCall, WriteCall}
 
 -- ---- reading
 

@@ -25,6 +25,7 @@ use Rattle.jer.specs.Value.{Val}
 use Rattle.jer.specs.Answer.{Res, ok, no, bind, at}
 use Rattle.jer.specs.Rows.{numbers, rowsOf, poolOf}
 use Rattle.jer.specs.Calls.{tableOf, goodTable, treeOf, goodText, judgedBy, tableJudged, textJudged, readText, over, rowNumbers, roomy, readAnswer, rowsAfter, poolAfter}
+use Rattle.jer.specs.Contracts.{ReadCall}
 use Rattle.jer.proofs.Sane.{Sane}
 use Rattle.jer.proofs.ValidSane.{valid-sane}
 use Rattle.tokens.specs.Places.{isSpace, runFrom, pastSpace}
@@ -34,8 +35,8 @@ use Rattle.scan.proofs.WithinLaws.{space-within}
 use Rattle.leaf.specs.declared.Step.{Step}
 use Rattle.leaf.specs.Step.{RowsStored, PoolStored, Stepped}
 use Rattle.leaf.proofs.StoreLaws.{numbers-length}
-use Rattle.reading.specs.Cycle.{Given}
-use Rattle.reading.proofs.StoredLaws.{Took}
+use Rattle.typed.specs.Cycle.{Given}
+use Rattle.typed.proofs.StoredLaws.{Took}
 
 -- what the call does: its answer, and both buffers after it
 pub record Outcome (t : Table) (x : Res Val) (r : Reading) (rows₁ rows₀ pool₁ pool₀ : List ℕ) : Type 0 where
@@ -157,9 +158,9 @@ pub space-is : (s : List ℕ) (p : ℕ) → runFrom isSpace s p ≡ pastSpace s 
 unfolding pastSpace
 space-is s p = refl
 
-pub tell : {t : Table} {x : Res Val} {r : Reading} {rows₁ rows₀ pool₁ pool₀ : List ℕ} → Outcome t x r rows₁ rows₀ pool₁ pool₀
-    → (r ≡ readAnswer t (length rows₀) (length pool₀) x) × ((rows₁ ≡ rowsAfter t rows₀ (length pool₀) x) × (pool₁ ≡ poolAfter t (length rows₀) pool₀ x))
-tell f = (f .answer, (f .rows, f .pool))
+pub tell : {t : Table} {s : List ℕ} {r : Reading} {rows₁ rows₀ pool₁ pool₀ : List ℕ} → Outcome t (readText t s) r rows₁ rows₀ pool₁ pool₀
+    → ReadCall t s rows₀ pool₀ r rows₁ pool₁
+tell f = record { answer = f .answer; rowsLeft = f .rows; poolLeft = f .pool }
 
 -- what stands once a whole value was stored
 module _ {z : Step} {rows₁ rows₀ pool₁ pool₀ : List ℕ} {t : Table} {r : ℕ} {x : Res (Got Val)} {y a b : ℕ} (w : Took t r x y a b) (l : b < 2 ^ 32) (f : Stepped z rows₁ rows₀ pool₁ pool₀ 0 0 t r x) where

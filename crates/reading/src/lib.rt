@@ -1,9 +1,4 @@
-// Typed reading: a text judged, measured, and stored in the rows and the pool that are lent.
-mod close; // close.rt: a value's own row above its parts, and counts of 32 bits
-mod cycle; // cycle.rt: the readers that call one another
-mod members; // members.rt: the members of a sequence, and the one of a choice, before they are read
-
-use cycle::value;
+// The call that reads: a type table and a text judged, the value measured, and stored in the rows and the pool that are lent.
 use jer::Judged;
 use jer::Limit;
 use jer::Reading;
@@ -11,13 +6,13 @@ use jer::Refusal;
 use leaf::Step;
 use tokens::cursor::Class;
 use tokens::cursor::run;
+use typed::cycle::value;
 ghost use mathlib.Core.Path.{_≡_};
-ghost use lib.ListN.{length};
 ghost use Rattle.jer.specs.declared.Judged.the-variants as judged;
 ghost use Rattle.jer.specs.declared.Limit.the-variants.{LentRoom};
 ghost use Rattle.jer.specs.declared.Reading.the-variants as reading;
 ghost use Rattle.jer.specs.declared.Refusal.the-variants.{Amounts};
-ghost use Rattle.jer.specs.Calls.{tableJudged, textJudged, readText, readAnswer, rowsAfter, poolAfter};
+ghost use Rattle.jer.specs.Contracts.{TableCall, TextCall, ReadCall};
 ghost use Rattle.types.specs.Rows.{table};
 
 // Brackets that may be open at one time.
@@ -25,25 +20,21 @@ const DEPTH: u32 = 32;
 
 // Reads the text by the type table into the lent rows and pool; a refusal leaves both as they were.
 pub fn read(types: &[u32], names: &[u8], s: &[u8], rows: &mut [u32], pool: &mut [u8]) -> Reading
-    ensures { λ r. ⌜ r ≡ readAnswer (table (now (types .entry)) (now (names .entry))) (length (now (rows .entry))) (length (now (pool .entry))) (readText (table (now (types .entry)) (now (names .entry))) (now (s .entry))) ⌝ }
-    ensures { λ _. ⌜ now (rows .exit) ≡ rowsAfter (table (now (types .entry)) (now (names .entry))) (now (rows .entry)) (length (now (pool .entry))) (readText (table (now (types .entry)) (now (names .entry))) (now (s .entry))) ⌝ }
-    ensures { λ _. ⌜ now (pool .exit) ≡ poolAfter (table (now (types .entry)) (now (names .entry))) (length (now (rows .entry))) (now (pool .entry)) (readText (table (now (types .entry)) (now (names .entry))) (now (s .entry))) ⌝ }
+    ensures { λ r. ⌜ ReadCall (table (now (types .entry)) (now (names .entry))) (now (s .entry)) (now (rows .entry)) (now (pool .entry)) r (now (rows .exit)) (now (pool .exit)) ⌝ }
 {
     match types::check(types, names) {
         Judged::Refused(e) => Reading::Refused(e),
         Judged::Good => match text::check(s) {
             Judged::Refused(e) => Reading::Refused(e),
-            Judged::Good => typed(types, names, s, rows, pool),
+            Judged::Good => measured(types, names, s, rows, pool),
         },
     }
 }
 
 // The typed reading, run twice: it measures over no room, and stores once the room is known to be enough.
-fn typed(types: &[u32], names: &[u8], s: &[u8], rows: &mut [u32], pool: &mut [u8]) -> Reading
-    requires { ⌜ (judged.Good ≡ tableJudged (table (now types) (now names))) × (judged.Good ≡ textJudged (now s)) ⌝ }
-    ensures { λ r. ⌜ r ≡ readAnswer (table (now (types .entry)) (now (names .entry))) (length (now (rows .entry))) (length (now (pool .entry))) (readText (table (now (types .entry)) (now (names .entry))) (now (s .entry))) ⌝ }
-    ensures { λ _. ⌜ now (rows .exit) ≡ rowsAfter (table (now (types .entry)) (now (names .entry))) (now (rows .entry)) (length (now (pool .entry))) (readText (table (now (types .entry)) (now (names .entry))) (now (s .entry))) ⌝ }
-    ensures { λ _. ⌜ now (pool .exit) ≡ poolAfter (table (now (types .entry)) (now (names .entry))) (length (now (rows .entry))) (now (pool .entry)) (readText (table (now (types .entry)) (now (names .entry))) (now (s .entry))) ⌝ }
+fn measured(types: &[u32], names: &[u8], s: &[u8], rows: &mut [u32], pool: &mut [u8]) -> Reading
+    requires { ⌜ TableCall (table (now types) (now names)) judged.Good × TextCall (now s) judged.Good ⌝ }
+    ensures { λ r. ⌜ ReadCall (table (now (types .entry)) (now (names .entry))) (now (s .entry)) (now (rows .entry)) (now (pool .entry)) r (now (rows .exit)) (now (pool .exit)) ⌝ }
 {
     let p = run(s, 0, Class::Space);
     let mut no_rows = [0u32; 1];
@@ -61,11 +52,7 @@ fn typed(types: &[u32], names: &[u8], s: &[u8], rows: &mut [u32], pool: &mut [u8
         DEPTH,
     ) {
         Step::Refused(e) => Reading::Refused(e),
-        Step::Read {
-            next: _,
-            rows: n,
-            pool: m,
-        } => {
+        Step::Read(_, n, m) => {
             if rows.len() < n * 4 {
                 return needed(n, m);
             }

@@ -1,4 +1,5 @@
 pub mod Tables
+pub mod ClassLaws
 pub mod Alike
 pub mod Outlined
 pub mod Opened

@@ -1,9 +1,9 @@
 -- Byte classes: bytes that the grammar of JSON nowhere tells apart. A class is a character from 0 to Z.
-use Prim.Native.Nat.{ℕ}
+use Prim.Native.Nat.{ℕ, _<_}
 use Prim.Native.Char.{Char, code}
 use mathlib.Core.List.{List, [], _∷_}
-use mathlib.Core.Bool.{Bool, true, false, _&&_}
-use lib.Dec.{leb}
+use mathlib.Core.Path.{_≡_}
+use lib.ListN.{getD}
 use Rattle.json.specs.Bytes.{Row, on, pick}
 
 -- the bytes from lo to hi, and the byte b, lead to the character
@@ -36,16 +36,6 @@ unfoldable pub classOf : ℕ → ℕ
 unfolding classRows pick
 classOf b = pick b classRows (code "0")
 
--- ECMA-404 section 4: white space
-unfoldable pub isSpace : ℕ → Bool
-unfolding pick
-isSpace b = pick b (on 0x09 0x0A (λ b. true) ∷ on 0x0D 0x0D (λ b. true) ∷ on 0x20 0x20 (λ b. true) ∷ []) false
-
--- a decimal digit
-unfoldable pub isDigit : ℕ → Bool
-isDigit b = leb 0x30 b && leb b 0x39
-
--- a class from lo to hi
-unfoldable pub classIn : ℕ → ℕ → ℕ → Bool
-unfolding classOf
-classIn lo hi b = leb lo (classOf b) && leb (classOf b) hi
+-- a table with the class of each byte
+abbrev pub IsClasses : List ℕ → Type 0
+IsClasses l = (b : ℕ) → b < 256 → getD l b 0 ≡ classOf b

@@ -1,10 +1,12 @@
 -- The machine of crate json with its trees left out: a mode, whether a string is a name, and which brackets are open.
 -- `proofs/` shows that it goes on and refuses at each byte as the machine does; the code is this outline.
-use Prim.Native.Nat.{ℕ, suc, _+_, _*_, _/_, _%_, _^_}
+use Prim.Native.Nat.{ℕ, suc, _+_, _-_, _*_, _/_, _%_, _^_, _<_}
 use Prim.Native.Char.{Char, code}
+use mathlib.Core.Path.{_≡_}
 use mathlib.Core.List.{List, [], _∷_}
 use mathlib.Core.Bool.{Bool, true, false, _&&_}
 use lib.Dec.{leb, eqb}
+use lib.ListN.{getD}
 use Rattle.json.specs.Bytes.{Row, pick, In}
 use Rattle.jer.specs.declared.Cause.the-variants.{NotJson, TooDeep}
 use Rattle.jer.specs.declared.Refusal.the-variants.{AtByte}
@@ -13,7 +15,7 @@ use Rattle.jer.specs.declared.Judged.the-variants as judged
 use Rattle.text.specs.declared.outline.Outline.{Outline}
 use Rattle.text.specs.declared.outline.Turn.{Turn}
 use Rattle.text.specs.declared.outline.Turn.the-variants.{On, Bad, Deep}
-use Rattle.text.specs.Class.{to, at}
+use Rattle.text.specs.Class.{to, at, classOf}
 
 -- what a table holds for a character
 pub record Entry (A : Type 0) : Type 0 where
@@ -120,6 +122,10 @@ rowsOf m = lookup m modes []
 unfoldable pub actOf : ℕ → ℕ → ℕ
 unfolding rowsOf
 actOf m b = pick b (rowsOf m) (code "_")
+
+-- a table of it, with a row for each mode and a column for each class
+abbrev pub IsActs : List (List ℕ) → Type 0
+IsActs l = (m b : ℕ) → IsMode m → b < 256 → getD (getD l (m - 48) []) (classOf b - 48) 0 ≡ actOf m b
 
 -- ---- a step
 

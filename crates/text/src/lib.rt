@@ -3,7 +3,7 @@
 ghost use mathlib.Core.Path.{_≡_};
 ghost use Rattle.jer.specs.declared.Judged.the-variants.{Refused};
 ghost use Rattle.jer.specs.declared.Refusal.the-variants.{AtByte};
-ghost use Rattle.jer.specs.Calls.{textJudged};
+ghost use Rattle.jer.specs.Contracts.{TextCall};
 
 mod acts;
 pub mod classes;
@@ -24,15 +24,17 @@ fn refused(cause: Cause, at: usize) -> Judged
 
 // JSON, or refusal 2, 3 or 4 at its byte.
 pub fn check(s: &[u8]) -> Judged
-    ensures { λ r. ⌜ r ≡ textJudged (now (s .entry)) ⌝ }
+    ensures { λ r. ⌜ TextCall (now (s .entry)) r ⌝ }
 {
     if json::TEXT < s.len() {
         return refused(Cause::TooLong, json::TEXT);
     }
+    let classes = classes::table();
+    let acts = acts::table();
     let mut state = Outline::begin();
     let mut at: usize = 0;
     while at < s.len() {
-        match state.step(s[at]) {
+        match state.step(&classes, &acts, s[at]) {
             Turn::On(next) => {
                 state = next;
                 at += 1;
@@ -45,7 +47,7 @@ pub fn check(s: &[u8]) -> Judged
             }
         }
     }
-    if state.whole() {
+    if state.whole(&classes, &acts) {
         return Judged::Good;
     }
     refused(Cause::NotJson, at)

@@ -1,7 +1,8 @@
 // The machine of crate json with its trees left out, one byte a step.
 ghost use mathlib.Core.Path.{_≡_};
 ghost use Prim.Native.Nat.{_≤_};
-ghost use Rattle.text.specs.Outline.{goes, opens, closes, comma, quoted, does, stepOf, begin, whole, IsMode, Stays};
+ghost use Rattle.text.specs.Class.{IsClasses};
+ghost use Rattle.text.specs.Outline.{goes, opens, closes, comma, quoted, does, stepOf, begin, whole, IsMode, IsActs, Stays};
 use crate::acts::act;
 
 // Where the check of a text stands.
@@ -132,12 +133,12 @@ impl Outline {
     }
 
     // One byte on.
-    pub fn step(self, b: u8) -> Turn
-        requires { ⌜ IsMode (self .mode) ⌝ }
+    pub fn step(self, classes: &[u8; 256], acts: &[[u8; 43]; 43], b: u8) -> Turn
+        requires { ⌜ IsMode (self .mode) × IsClasses (now classes) × IsActs (now acts) ⌝ }
         ensures { λ r. ⌜ r ≡ stepOf self b ⌝ }
         ensures { λ r. ⌜ Stays r ⌝ }
     {
-        let a = act(self.mode, b);
+        let a = act(classes, acts, self.mode, b);
         if a <= b'Z' {
             return goes(a, self.name, self.brackets);
         }
@@ -145,11 +146,11 @@ impl Outline {
     }
 
     // May the text end here? It may where a blank would follow its value.
-    pub fn whole(self) -> bool
-        requires { ⌜ IsMode (self .mode) ⌝ }
+    pub fn whole(self, classes: &[u8; 256], acts: &[[u8; 43]; 43]) -> bool
+        requires { ⌜ IsMode (self .mode) × IsClasses (now classes) × IsActs (now acts) ⌝ }
         ensures { λ r. ⌜ r ≡ whole self ⌝ }
     {
-        if act(self.mode, b' ') != AFTER {
+        if act(classes, acts, self.mode, b' ') != AFTER {
             return false;
         }
         self.brackets == NONE

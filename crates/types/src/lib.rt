@@ -15,13 +15,12 @@ use jer::Which;
 use passes::Pass;
 use passes::good_sizes;
 use passes::passed;
-ghost use mathlib.Core.Path.{_≡_};
-ghost use Rattle.jer.specs.Calls.{tableJudged};
+ghost use Rattle.jer.specs.Contracts.{TableCall};
 ghost use Rattle.types.specs.Rows.{table};
 
 // Well formed, or refusal 1 with the first bad row of three passes upwards.
 pub fn check(rows: &[u32], names: &[u8]) -> Judged
-    ensures { λ j. ⌜ j ≡ tableJudged (table (now (rows .entry)) (now (names .entry))) ⌝ }
+    ensures { λ j. ⌜ TableCall (table (now (rows .entry)) (now (names .entry))) j ⌝ }
 {
     if !good_sizes(rows, names) {
         return Judged::Refused(Refusal::AtRow(Which::TypeTable, 0));

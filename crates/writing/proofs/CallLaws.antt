@@ -1,9 +1,9 @@
 -- The call from outside: document 01's order of refusals, 1, 12, 13, 14.
 use mathlib.Core.Path.{_≡_, refl, sym, ap, _∙_}
-use mathlib.Core.List.{List, [], _∷_, _++_}
+use mathlib.Core.List.{List, _++_}
 use mathlib.Core.Bool.{Bool, true, false, _&&_}
 use mathlib.Core.Option.{Option, none, some}
-use Prim.Native.Nat.{ℕ, zero, suc, _+_, _*_, _/_, _%_, _≤_, _<_}
+use Prim.Native.Nat.{ℕ, _+_, _*_, _/_, _%_, _≤_, _<_}
 use native.Mathlib.Omega.{arith}
 use lib.Dec.{eqb, leb}
 use lib.ListN.{length, drop}
@@ -21,7 +21,7 @@ use Rattle.jer.specs.Valid.{firstBad}
 use Rattle.jer.specs.Value.{Val}
 use Rattle.jer.specs.Answer.{Res, ok, no, bind}
 use Rattle.jer.specs.Rows.{ValueRow}
-use Rattle.jer.specs.Judge.{Took, took, wrong, takeValue, rowsIn, allTaken, judge}
+use Rattle.jer.specs.Judge.{took, rowsIn, allTaken, judge}
 use Rattle.jer.specs.Write.{write}
 use Rattle.jer.specs.Calls.{tableOf, goodTable, judgedBy, tableJudged, over, writeText, amount, writeAnswer, textAfter}
 use Rattle.jer.proofs.ValidSane.{valid-sane}

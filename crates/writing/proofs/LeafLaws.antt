@@ -1,6 +1,6 @@
 -- A value of one row, by its kind.
 use mathlib.Core.Path.{_≡_, refl, sym, ap, _∙_}
-use mathlib.Core.List.{List, [], _∷_}
+use mathlib.Core.List.{List}
 use mathlib.Core.Bool.{Bool, true, false, _&&_, _||_, not}
 use mathlib.Core.Option.{Option}
 use Prim.Native.Nat.{ℕ, suc, _+_, _-_, _*_, _^_, _≤_, _<_}
@@ -8,13 +8,13 @@ use native.Mathlib.Omega.{arith}
 use native.Mathlib.Numerals.{add-one}
 use lib.Dec.{eqb, ltb, leb}
 use lib.ListN.{length, take, drop}
-use borrow.Author.Tests.{eqb-true, eqb-false, eq-eqb, ne-eqb, leb-true}
+use borrow.Author.Tests.{eqb-true, eqb-false, eq-eqb, ne-eqb}
 use Rattle.json.specs.Bytes.{pick}
 use Rattle.json.specs.Utf8.{utf8}
-use Rattle.jer.specs.Table.{Table, UTF8String, kindOf, marksOf, isBase64, countOf, memberRow, nameIn, nameAt}
+use Rattle.jer.specs.Table.{Table, UTF8String, kindOf, isBase64, countOf, memberRow, nameIn, nameAt}
 use Rattle.jer.specs.Value.{Val, vBool, vInt, vEnum, vNull, vBytes}
 use Rattle.jer.specs.Rows.{ValueRow, row}
-use Rattle.jer.specs.Judge.{Took, took, wrong, Taker, rightRow, leaf, stringRow, takeRow}
+use Rattle.jer.specs.Judge.{Taker, rightRow, leaf, stringRow, takeRow}
 use Rattle.jer.specs.Write.{nullText, boolText, intText, quotes, stringText, bytesText, write}
 use Rattle.jer.specs.Calls.{amount}
 use Rattle.jer.proofs.ValidRows.{both}
@@ -24,7 +24,7 @@ use Rattle.writing.specs.declared.put.Form.{Form}
 use Rattle.writing.specs.declared.put.Form.the-variants.{Escaped, Hexadecimal, Base64}
 use Rattle.writing.specs.Text.{Puts, spelled, formOf, textOf, Writes, endedAs}
 use Rattle.writing.proofs.PutLaws.{puts-as}
-use Rattle.writing.proofs.TextLaws.{gives, gives-wrong, closed, ends, text-ended, text-wrong}
+use Rattle.writing.proofs.TextLaws.{closed, ends, text-ended}
 
 -- ---- how a string is spelled
 

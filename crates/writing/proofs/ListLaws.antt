@@ -1,14 +1,14 @@
 -- The loop over the items of a SEQUENCE OF.
 use mathlib.Core.Path.{_≡_, refl, sym, ap, _∙_}
 use mathlib.Core.List.{List, [], _∷_, _++_, append-assoc, append-nil}
-use mathlib.Core.Bool.{Bool, true, false, _&&_}
-use Prim.Native.Nat.{ℕ, zero, suc, _+_, _-_, _≤_, _<_}
+use mathlib.Core.Bool.{true, _&&_}
+use Prim.Native.Nat.{ℕ, suc, _+_, _-_, _≤_, _<_}
 use native.Mathlib.Omega.{arith}
 use native.Mathlib.Numerals.{add-one}
 use lib.Dec.{eqb}
 use lib.ListN.{length, drop, length-append}
 use Rattle.jer.specs.Table.{Table, field, elementOf}
-use Rattle.jer.specs.Value.{Val, vList, Vals, vnil, vcons}
+use Rattle.jer.specs.Value.{Val, vList, Vals, vcons}
 use Rattle.jer.specs.Rows.{ValueRow}
 use Rattle.jer.specs.Judge.{Took, took, wrong, andThen, Taker, takeItems, sized, takeList, takeValue}
 use Rattle.jer.specs.Write.{joined, brackets, write, itemTexts}

@@ -3,14 +3,14 @@ use mathlib.Core.Path.{_≡_, refl, sym, ap, _∙_}
 use mathlib.Core.List.{List, [], _∷_}
 use mathlib.Core.Bool.{Bool, true, false, _&&_, _||_, not}
 use mathlib.Core.Option.{Option, none, some}
-use Prim.Native.Nat.{ℕ, zero, suc, _+_, _-_, _/_, _%_, _^_, _≤_, _<_}
+use Prim.Native.Nat.{ℕ, zero, suc, _+_, _-_, _/_, _%_, _^_, _≤_}
 use native.Mathlib.Omega.{arith}
 use lib.Dec.{eqb, ltb, leb}
 use lib.ListN.{length, take, drop}
 use borrow.Author.Tests.{eqb-true, ltb-true, eq-eqb, ne-eqb}
 use Rattle.json.specs.Utf8.{utf8}
-use Rattle.json.proofs.SoundRows.{pick-within, _⨾_, only}
-use Rattle.jer.specs.Table.{Table, UTF8String, NULL, CHOICE, kindOf, isBase64, isArray, isUnwrapped, elementOf, countOf, typeAt, nameAt, sameBytes}
+use Rattle.json.proofs.SoundRows.{pick-within, _⨾_}
+use Rattle.jer.specs.Table.{Table, UTF8String, NULL, CHOICE, kindOf, isBase64, isArray, isUnwrapped, elementOf, countOf, typeAt, sameBytes}
 use Rattle.jer.specs.Value.{Val, vBool, vInt, vEnum, vNull, vBytes, vSeq, vList, vChoice, Vals, Parts, countPresent}
 use Rattle.jer.specs.Rows.{ValueRow}
 use Rattle.jer.specs.Judge.{Took, took, wrong, Taker, takeParts, takeItems, rightRow, leaf, stringRow, sized, inBracket, takeSequence, takeList, takeChoice, takeRow, onRow, takeUnwrapped, takeValue}

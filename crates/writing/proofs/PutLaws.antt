@@ -2,18 +2,18 @@
 use mathlib.Core.Path.{_≡_, refl, sym, ap, _∙_}
 use mathlib.Core.List.{List, [], _∷_, _++_, append-assoc, append-nil}
 use mathlib.Core.Bool.{Bool, true, false}
-use Prim.Native.Nat.{ℕ, zero, suc, _+_, _-_, _^_, _<_, _≤_}
+use Prim.Native.Nat.{ℕ, zero, suc, _+_, _-_, _<_, _≤_}
 use native.Mathlib.Omega.{arith}
 use native.Mathlib.Numerals.{add-one}
 use native.Mathlib.Nat.{add-zero, add-comm}
-use borrow.Author.Tests.{le-leb, lt-leb, leb-true, leb-false}
+use borrow.Author.Tests.{leb-true, leb-false}
 use lib.Dec.{leb}
 use lib.ListN.{length, length-append, set, getD, take}
-use lib.Seq.{sets, take-suc, take-all}
+use lib.Seq.{sets, set-out, take-suc, take-all}
 use Rattle.jer.specs.Table.{Table, memberRow, nameIn, nameAt}
 use Rattle.jer.specs.Calls.{amount}
 use Rattle.jer.specs.Write.{nullText}
-use Rattle.octets.proofs.AmountLaws.{amount-within, amount-over, amount-add, amount-most}
+use Rattle.octets.proofs.AmountLaws.{amount-within, amount-over, amount-add}
 use Rattle.tokens.proofs.SliceLaws.{sets-append}
 use Rattle.writing.specs.Text.{Puts, comma, nulls, nameText, lead}
 
@@ -111,6 +111,14 @@ fits s k f h = within (k + length s) (omega arith)
 
 pub puts-stored : {s : List ℕ} {k e : ℕ} {l m : List ℕ} → e ≡ amount (k + length s) → m ≡ sets l k s → Puts s k l m e
 puts-stored f g = record { ends = f; stands = λ _. g }
+
+sets-out : (l : List ℕ) (k : ℕ) (vs : List ℕ) → length l ≤ k → l ≡ sets l k vs
+sets-out l k [] h = refl
+sets-out l k (v ∷ vs) h = sets-out l (suc k) vs (omega arith) ∙ ap (λ (u : List ℕ). sets u (suc k) vs) (sym (set-out l k v h))
+
+-- past the room nothing is stored
+pub puts-nowhere : {s l : List ℕ} {k e : ℕ} → e ≡ amount (k + length s) → length l ≤ k → Puts s k l l e
+puts-nowhere {s} {l} {k} h m = record { ends = h; stands = λ _. sets-out l k s m }
 
 pub puts-measured : {s : List ℕ} {k e : ℕ} {l m : List ℕ} → e ≡ amount (k + length s) → 65536 < e → Puts s k l m e
 puts-measured {s} {k} f h = record { ends = f; stands = λ z. absurd (omega (arith, amount-within (k + length s) (omega arith))) }

@@ -1,5 +1,5 @@
 -- The rows that are left after a value are those from the next number on.
-use mathlib.Core.Path.{_≡_, refl, sym, ap, _∙_}
+use mathlib.Core.Path.{_≡_, refl, ap, _∙_}
 use mathlib.Core.List.{List, [], _∷_}
 use mathlib.Core.Bool.{Bool, true, false, _&&_, _||_, not}
 use mathlib.Core.Option.{Option, none, some}
@@ -13,7 +13,7 @@ use Rattle.json.proofs.SoundRows.{pick-within, _⨾_}
 use Rattle.jer.specs.Table.{Table, CHOICE, kindOf, isUnwrapped, elementOf, countOf, typeAt, mayMiss}
 use Rattle.jer.specs.Value.{Val, Vals, Parts, countPresent}
 use Rattle.jer.specs.Rows.{ValueRow}
-use Rattle.jer.specs.Judge.{Took, took, wrong, Taker, isAbsent, takeParts, takeItems, rightRow, leaf, stringRow, sized, inBracket, takeSequence, takeList, takeChoice, takeRow, onRow, takeUnwrapped, takeValue}
+use Rattle.jer.specs.Judge.{Took, wrong, Taker, isAbsent, takeParts, takeItems, rightRow, leaf, stringRow, sized, inBracket, takeSequence, takeList, takeChoice, takeRow, onRow, takeUnwrapped, takeValue}
 use Rattle.jer.proofs.JudgeTakes.{inner, take-plain, take-unwrapped}
 use Rattle.jer.proofs.JudgeSpent.{After, after-then, after-if}
 

@@ -1,13 +1,13 @@
 -- The rows of a value table, by their numbers.
-use mathlib.Core.Path.{_≡_, refl, sym, ap, _∙_}
+use mathlib.Core.Path.{_≡_, refl}
 use mathlib.Core.List.{List, [], _∷_}
 use mathlib.Core.Bool.{Bool, true, false, _&&_, _||_}
 use Prim.Native.Nat.{ℕ, zero, suc, _+_, _*_, _/_, _<_, _≤_}
 use native.Mathlib.Omega.{arith}
 use lib.Dec.{eqb}
-use lib.ListN.{length, getD, drop}
+use lib.ListN.{length, getD}
 use lib.Seq.{drop-nil}
-use Rattle.jer.specs.Table.{Table, NULL, field, kindOf, isUnwrapped, typeAt, mayMiss}
+use Rattle.jer.specs.Table.{Table, field, kindOf, isUnwrapped, typeAt, mayMiss}
 use Rattle.jer.specs.Rows.{ValueRow, row}
 use Rattle.jer.specs.Judge.{isAbsent, rowsIn}
 use Rattle.writing.specs.Rows.{rowsFrom, absentNext, nullNext}

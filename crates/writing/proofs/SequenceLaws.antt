@@ -2,16 +2,16 @@
 use mathlib.Core.Path.{_≡_, refl, sym, ap, _∙_}
 use mathlib.Core.List.{List, [], _∷_, _++_, append-assoc}
 use mathlib.Core.Bool.{Bool, true, false, _&&_}
-use Prim.Native.Nat.{ℕ, zero, suc, _+_, _-_, _≤_, _<_}
+use Prim.Native.Nat.{ℕ, suc, _+_, _-_, _≤_, _<_}
 use native.Mathlib.Omega.{arith}
 use native.Mathlib.Nat.{add-zero}
 use native.Mathlib.Numerals.{add-one}
 use lib.Dec.{eqb}
 use lib.ListN.{length, drop}
-use Rattle.jer.specs.Table.{Table, field, isArray, countOf, typeAt, mayMiss, sameBytes}
-use Rattle.jer.specs.Value.{Val, vSeq, Parts, pnil, absent, present, countPresent}
+use Rattle.jer.specs.Table.{Table, field, isArray, countOf, typeAt, sameBytes}
+use Rattle.jer.specs.Value.{Val, vSeq, Parts, absent, present, countPresent}
 use Rattle.jer.specs.Rows.{ValueRow}
-use Rattle.jer.specs.Judge.{Took, took, wrong, andThen, Taker, isAbsent, takeParts, takeSequence, takeValue}
+use Rattle.jer.specs.Judge.{Took, took, wrong, andThen, Taker, takeParts, takeSequence, takeValue}
 use Rattle.jer.specs.Write.{nullText, joined, dropNulls, write}
 use Rattle.jer.proofs.ValidRows.{both}
 use Rattle.writing.specs.Rows.{absentNext, nullNext}

@@ -1,8 +1,8 @@
 -- What a call answers and stores, against what is taken.
 use mathlib.Core.Path.{_≡_, refl, sym, ap, _∙_}
-use mathlib.Core.List.{List, [], _∷_, _++_, append-assoc, append-nil}
+use mathlib.Core.List.{List, [], _∷_, _++_, append-assoc}
 use mathlib.Core.Bool.{Bool, true, false, _&&_}
-use Prim.Native.Nat.{ℕ, zero, suc, _+_, _-_, _≤_, _<_}
+use Prim.Native.Nat.{ℕ, zero, suc, _+_}
 use native.Mathlib.Omega.{arith}
 use lib.Dec.{eqb}
 use lib.ListN.{length, drop}
@@ -10,7 +10,7 @@ use lib.Seq.{sets}
 use Rattle.jer.specs.Table.{Table}
 use Rattle.jer.specs.Value.{Val}
 use Rattle.jer.specs.Rows.{ValueRow}
-use Rattle.jer.specs.Judge.{Took, took, wrong, andThen, Taker, takeRow, onRow, takeWith, takeValue}
+use Rattle.jer.specs.Judge.{Took, took, wrong, andThen, onRow, takeWith, takeValue}
 use Rattle.jer.specs.Write.{joined, write}
 use Rattle.jer.specs.Calls.{amount}
 use Rattle.jer.proofs.JudgeSpent.{After}

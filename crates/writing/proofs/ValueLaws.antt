@@ -7,8 +7,8 @@ use Prim.Native.Nat.{ℕ, zero, suc, _+_, _-_, _≤_, _<_}
 use native.Mathlib.Omega.{arith}
 use native.Mathlib.Numerals.{add-one}
 use lib.Dec.{eqb, ltb}
-use lib.ListN.{length, drop}
-use borrow.Author.Tests.{eq-eqb, ne-eqb, eqb-true, lt-ltb, le-ltb, ltb-true}
+use lib.ListN.{drop}
+use borrow.Author.Tests.{ne-eqb, lt-ltb, le-ltb, ltb-true}
 use Rattle.json.specs.Bytes.{pick}
 use Rattle.json.proofs.SoundRows.{pick-within, _⨾_, only}
 use Rattle.jer.specs.Table.{Table, field, CHOICE, kindOf, isUnwrapped, countOf, memberRow, typeAt, nameIn, nameAt}
@@ -21,7 +21,7 @@ use Rattle.jer.proofs.JudgeTakes.{inner, take-plain, take-unwrapped}
 use Rattle.writing.specs.Text.{Puts, textOf, valueText, bracketText, Writes, Wrapped, nameText, endedAs}
 use Rattle.writing.proofs.PutLaws.{puts-append, puts-as}
 use Rattle.writing.proofs.NullLaws.{unwrapped-write}
-use Rattle.writing.proofs.TextLaws.{Value, NoValue, value-none, gives-wrong, closed, ends, text-ended, text-wrong}
+use Rattle.writing.proofs.TextLaws.{Value, NoValue, value-none, closed, ends, text-ended, text-wrong}
 
 pub kind-is : (t : Table) (r : ℕ) {x : ℕ} → x ≡ field t r 0 → x ≡ kindOf t r
 unfolding kindOf

@@ -1,5 +1,5 @@
 // The text of a value: the value table judged and written in one walk, which is made twice, to measure and to store.
-// Contracts cite `jer`'s Judge.antt, Write.antt and Calls.antt; of the calls inside, what they store and answer (specs/Text.antt).
+// The contract of `write` is `jer`'s Contracts.antt; of the calls inside, what they store and answer (specs/Text.antt).
 mod rows; // rows.rt: the rows of the value table
 mod taken; // taken.rt: what one value answers
 mod put; // put.rt: pieces of text, from a place on
@@ -15,9 +15,7 @@ use taken::Taken;
 use types::check;
 use value::judged;
 use value::value;
-ghost use mathlib.Core.Path.{_≡_};
-ghost use lib.ListN.{length};
-ghost use Rattle.jer.specs.Calls.{writeText, writeAnswer, textAfter};
+ghost use Rattle.jer.specs.Contracts.{WriteCall};
 ghost use Rattle.types.specs.Rows.{table};
 ghost use Rattle.writing.specs.Text.{Wrapped, valueWritten, Answers};
 
@@ -28,8 +26,7 @@ const BRACKETS: u32 = 32;
 
 // The one text of the value table, stored from the start of `text`. A refusal leaves it as it was.
 pub fn write(types: &[u32], names: &[u8], values: &[u32], pool: &[u8], text: &mut [u8]) -> Writing
-    ensures { λ r. ⌜ r ≡ writeAnswer (length (now (text .entry))) (writeText (table (now (types .entry)) (now (names .entry))) (now (values .entry)) (now (pool .entry))) ⌝ }
-    ensures { λ _. ⌜ now (text .exit) ≡ textAfter (now (text .entry)) (writeText (table (now (types .entry)) (now (names .entry))) (now (values .entry)) (now (pool .entry))) ⌝ }
+    ensures { λ r. ⌜ WriteCall (table (now (types .entry)) (now (names .entry))) (now (values .entry)) (now (pool .entry)) (now (text .entry)) r (now (text .exit)) ⌝ }
 {
     match check(types, names) {
         Judged::Refused(e) => Writing::Refused(e),

@@ -128,6 +128,9 @@ fn put_spelled(text: &mut [u8], k: usize, form: Form, s: &[u8]) -> usize
     ensures { λ e. ⌜ Puts (spelled form (now (s .entry))) k (now (text .entry)) (now (text .exit)) e ⌝ }
 {
     let end = add(k, spelled_len(form, s));
+    if text.len() <= k {
+        return end;
+    }
     if end <= HOUSE {
         store(text, k, form, s);
         return end;

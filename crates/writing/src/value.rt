@@ -175,35 +175,31 @@ fn sequence(
     let mut used = o;
     let mut p = put_opening(text, k, array);
     while i < count {
+        let e = type_at(types, r, i);
         if absent_at(types, values, r, i, next) {
             next += 1;
             i += 1;
+        } else if array & null_at(types, values, e, next) {
+            let t = judged(types, names, values, pool, e, next, used, depth);
+            let Taken::Took { row, used: u, .. } = t else {
+                return t;
+            };
+            next = row;
+            used = u;
+            present += 1;
+            i += 1;
         } else {
-            let e = type_at(types, r, i);
-            if array & null_at(types, values, e, next) {
-                match judged(types, names, values, pool, e, next, used, depth) {
-                    Taken::Wrong(b) => return Taken::Wrong(b),
-                    Taken::Took { row, used: u, .. } => {
-                        next = row;
-                        used = u;
-                        present += 1;
-                        i += 1;
-                    }
-                }
-            } else {
-                let s = put_lead(types, names, text, r, i, kept, p, array);
-                match value(types, names, values, pool, text, e, next, used, s, depth) {
-                    Taken::Wrong(b) => return Taken::Wrong(b),
-                    Taken::Took { row, used: u, end } => {
-                        next = row;
-                        used = u;
-                        p = end;
-                        kept = kept_after(array, i, kept);
-                        present += 1;
-                        i += 1;
-                    }
-                }
-            }
+            let s = put_lead(types, names, text, r, i, kept, p, array);
+            let t = value(types, names, values, pool, text, e, next, used, s, depth);
+            let Taken::Took { row, used: u, end } = t else {
+                return t;
+            };
+            next = row;
+            used = u;
+            p = end;
+            kept = kept_after(array, i, kept);
+            present += 1;
+            i += 1;
         }
     }
     let end = put_closing(text, p, array);

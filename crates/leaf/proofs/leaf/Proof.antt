@@ -16,7 +16,9 @@ number-requires : tie.Need-number-requires
 number-requires c κs = search needs
 
 string-requires : tie.Need-string-requires
-string-requires c κs = (c .before .before .before .before .before .before .before .before .pre .0, c .before .before .before .before .before .before .before .before .pre .1 (c .before .before .match .keys4), c .before .before .before .before .before .before .before .before .pre .2)
+string-requires c κs =
+    let entry = c .before .before .before .before .before .before .before .before in
+    (entry .pre .0, entry .pre .1 (c .before .before .match .keys4), entry .pre .2)
 
 refused-requires : tie.Need-refused-requires
 refused-requires c κs = search needs

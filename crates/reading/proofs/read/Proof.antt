@@ -6,7 +6,7 @@ use Rattle.reading.proofs.read.Statement.{statement}
 use Rattle.reading.proofs.read.Tie as tie
 use Rattle.reading.proofs.read.Reads as reads
 use Rattle.reading.proofs.read.Lts as lts
-use Rattle.reading.proofs.typed.Reads as typed-reads
+use Rattle.reading.proofs.measured.Reads as measured-reads
 use Rattle.text.proofs.check.Reads as check-reads
 use Rattle.types.proofs.check.Reads as check-reads′
 
@@ -35,16 +35,27 @@ enum-told-2 : tie.Need-enum-told-2
 enum-told-2 c = search needs
 
 -- src/lib.rt:36:29
-typed-requires : tie.Need-typed-requires
-typed-requires c κs = (sym (c .before .before .before .before .before .enum-told .given .1) ∙ c .before .before .before .before .before .before .before .check .ensures, sym (c .before .before .enum-told2 .given .1) ∙ c .before .before .before .before .check2 .ensures)
+measured-requires : tie.Need-measured-requires
+measured-requires c κs =
+    let c₅ = c .before .before .before .before .before in
+    (sym (c₅ .enum-told .given .1) ∙ c₅ .before .before .check .ensures, sym (c .before .before .enum-told2 .given .1) ∙ c .before .before .before .before .check2 .ensures)
 
 -- src/lib.rt:27:1
 returns : tie.Need-returns
-returns c = tell (refuses (table (c .before .before .before .before .before .before .before .before .before .args .types .now) (c .before .before .before .before .before .before .before .before .before .args .names .now)) (c .before .before .before .before .before .before .before .before .before .args .rows .now) (c .before .before .before .before .before .before .before .before .before .args .pool .now) (bad-table (table (c .before .before .before .before .before .before .before .before .before .args .types .now) (c .before .before .before .before .before .before .before .before .before .args .names .now)) (c .before .before .before .before .before .before .before .before .before .args .s .now) (sym (c .before .e .given .1) ∙ c .before .before .before .check .ensures)))
+returns c =
+    let c₅ = c .before .before .before .before .before in
+    let entry = c₅ .before .before .before .before in
+    let tab = table (entry .args .types .now) (entry .args .names .now) in
+    tell (refuses tab (entry .args .rows .now) (entry .args .pool .now) (bad-table tab (entry .args .s .now) (sym (c .before .e .given .1) ∙ c .before .before .before .check .ensures)))
 
 -- src/lib.rt:27:1
 returns-2 : tie.Need-returns-2
-returns-2 c = tell (refuses (table (c .before .before .before .before .before .before .before .before .before .before .before .before .args .types .now) (c .before .before .before .before .before .before .before .before .before .before .before .before .args .names .now)) (c .before .before .before .before .before .before .before .before .before .before .before .before .args .rows .now) (c .before .before .before .before .before .before .before .before .before .before .before .before .args .pool .now) (bad-text (table (c .before .before .before .before .before .before .before .before .before .before .before .before .args .types .now) (c .before .before .before .before .before .before .before .before .before .before .before .before .args .names .now)) (c .before .before .before .before .before .before .before .before .before .before .before .before .args .s .now) (sym (c .before .before .before .before .enum-told .given .1) ∙ c .before .before .before .before .before .before .check .ensures) (sym (c .before .e2 .given .1) ∙ c .before .before .before .check2 .ensures)))
+returns-2 c =
+    let c₅ = c .before .before .before .before .before in
+    let c₁₀ = c₅ .before .before .before .before .before in
+    let entry = c₁₀ .before .before in
+    let tab = table (entry .args .types .now) (entry .args .names .now) in
+    tell (refuses tab (entry .args .rows .now) (entry .args .pool .now) (bad-text tab (entry .args .s .now) (sym (c .before .before .before .before .enum-told .given .1) ∙ c₅ .before .check .ensures) (sym (c .before .e2 .given .1) ∙ c .before .before .before .check2 .ensures)))
 
 -- src/lib.rt:27:1
 same-length : tie.Need-same-length
@@ -56,7 +67,7 @@ same-length-2 c = search needs
 
 -- src/lib.rt:27:1
 returns-3 : tie.Need-returns-3
-returns-3 c = c .before .before .before .before .typed .ensures
+returns-3 c = c .before .before .before .before .measured .ensures
 
 pub read-spec : {M : Type 1} → statement M
 read-spec =
@@ -68,7 +79,7 @@ read-spec =
     check-requires-2
     enum-known-e-2
     enum-told-2
-    typed-requires
+    measured-requires
     returns
     returns-2
     same-length

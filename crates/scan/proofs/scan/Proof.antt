@@ -73,7 +73,9 @@ first-part-requires c κs = search needs
 
 loop-holds : tie.Need-loop-holds Inv-loop μ-loop
 unfolding noPlaces
-loop-holds c = loop-start _ _ _ _ 0x7D (c .before .before .before .before .before .before .args .p) (followsOf (c .first-part .result)) (c .before .before .before .before .before .before .pre .1) (c .first-part .ensures)
+loop-holds c =
+    let entry = c .before .before .before .before .before .before in
+    loop-start _ _ _ _ 0x7D (entry .args .p) (followsOf (c .first-part .result)) (entry .pre .1) (c .first-part .ensures)
 
 enum-known-next : tie.Need-enum-known-next Inv-loop μ-loop
 enum-known-next c = search needs
@@ -91,7 +93,9 @@ skip-value-requires : tie.Need-skip-value-requires Inv-loop μ-loop
 skip-value-requires c κs = search needs
 
 after-part-requires : tie.Need-after-part-requires Inv-loop μ-loop
-after-part-requires c κs = omega (arith, c .skip-value .ensures, value-within (c .before .before .before .before .before .before .before .before .before .before .before .before .args .s .now) 65538 (omega arith) (c .before .before .before .before .before .before .before .before .before .before .before .before .args .depth) (c .before .value-place .result) (omega arith))
+after-part-requires c κs =
+    let entry = c .before .before .before .before .before .before .before .before .before .before .before .before in
+    omega (arith, c .skip-value .ensures, value-within (entry .args .s .now) 65538 (omega arith) (entry .args .depth) (c .before .value-place .result) (omega arith))
 
 position-requires : tie.Need-position-requires Inv-loop μ-loop
 position-requires c κs = omega (arith, turn (c .before .before .before) .within)
@@ -103,7 +107,9 @@ stopped-requires : tie.Need-stopped-requires Inv-loop μ-loop
 stopped-requires c κs = search needs
 
 returns-2 : tie.Need-returns-2 Inv-loop μ-loop
-returns-2 c = c .stopped .ensures ∙ turn-unknown _ _ _ _ (turn (c .before .before .before .before .before .before .before .before)) (unknown (c .before .before)) (mark (c .before .before) ∙ not-true _ (c .before .if1 .taken))
+returns-2 c =
+    let fact₂ = c .before .before in
+    c .stopped .ensures ∙ turn-unknown _ _ _ _ (turn (c .before .before .before .before .before .before .before .before)) (unknown fact₂) (mark fact₂ ∙ not-true _ (c .before .if1 .taken))
 
 loop-less : tie.Need-loop-less Inv-loop μ-loop
 loop-less c = less (c .before .before .before .before)

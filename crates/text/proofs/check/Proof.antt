@@ -5,16 +5,17 @@ use mathlib.Core.Bool.{true, false}
 use borrow.Author.Needs.{needs}
 use lib.ListN.{length, drop}
 use Rattle.jer.specs.Calls.{textJudged}
-use Rattle.text.specs.Outline.{IsMode, judgedFrom, judgedEnd}
+use Rattle.text.specs.Class.{IsClasses}
+use Rattle.text.specs.Outline.{IsMode, IsActs, judgedFrom, judgedEnd}
 use Rattle.text.proofs.Texts.{too-long, started, goes-on, not-json, too-deep, ends}
 use Rattle.text.proofs.check.Statement.{statement}
 use Rattle.text.proofs.check.Tie as tie
 
 abbrev Inv-loop : tie.InvT-loop
-Inv-loop s state₀ at₀ state at = (at ≤ length s) × IsMode (state .mode) × (judgedFrom at state (drop at s) ≡ textJudged s)
+Inv-loop s classes acts state₀ at₀ state at = IsClasses classes × IsActs acts × (at ≤ length s) × IsMode (state .mode) × (judgedFrom at state (drop at s) ≡ textJudged s)
 
 abbrev μ-loop : tie.MeasureT-loop
-μ-loop s state₀ at₀ state at = length s - at
+μ-loop s classes acts state₀ at₀ state at = length s - at
 
 refused-requires : tie.Need-refused-requires Inv-loop μ-loop
 refused-requires c κs = search needs
@@ -22,11 +23,19 @@ refused-requires c κs = search needs
 returns : tie.Need-returns Inv-loop μ-loop
 returns c = c .refused .ensures ∙ too-long (c .before .before .before .args .s .now) (c .before .if1 .taken)
 
+table-requires : tie.Need-table-requires Inv-loop μ-loop
+table-requires c κs = search needs
+
+table-requires-2 : tie.Need-table-requires-2 Inv-loop μ-loop
+table-requires-2 c κs = search needs
+
 begin-requires : tie.Need-begin-requires Inv-loop μ-loop
 begin-requires c κs = search needs
 
 loop-holds : tie.Need-loop-holds Inv-loop μ-loop
-loop-holds c = started (c .before .before .before .args .s .now) (c .begin .result) (c .begin .ensures) (c .before .if1 .left)
+loop-holds c =
+    let s = started (c .before .before .before .before .before .args .s .now) (c .begin .result) (c .begin .ensures) (c .before .before .before .if1 .left) in
+    (c .before .before .table .ensures, c .before .table2 .ensures, s .0, s .1, s .2)
 
 shared-slice-read-step : tie.Need-shared-slice-read-step Inv-loop μ-loop
 shared-slice-read-step c = search needs
@@ -45,11 +54,11 @@ loop-less c = search needs
 
 loop-again : tie.Need-loop-again Inv-loop μ-loop
 loop-again c =
-    let s = c .before .before .before .before .before .before .before .before .before .before .args .s .now in
-    let l = c .before .before .before .before .before .before .loop in
+    let l = c .before .before .before .before .before .before .before .before .loop in
+    let s = c .before .before .before .before .before .before .before .before .before .before .before .before .before .before .args .s .now in
     let n = c .before .next .given in
     let w = c .before .before .before .step .ensures in
-    (search needs, rw (n .1) at (w .1), goes-on s (l .at) (l .state) (l .inv .2) (c .before .before .before .before .before .loop-test .taken) (n .0 .0) (sym (n .1) ∙ w .0))
+    (l .inv .0, l .inv .1, search needs, rw (n .1) at (w .1), goes-on s (l .at) (l .state) (l .inv .4) (c .before .before .before .before .before .before .before .loop-test .taken) (n .0 .0) (sym (n .1) ∙ w .0))
 
 enum-told : tie.Need-enum-told Inv-loop μ-loop
 enum-told c = search needs
@@ -59,8 +68,8 @@ refused-requires-2 c κs = search needs
 
 returns-2 : tie.Need-returns-2 Inv-loop μ-loop
 returns-2 c =
-    let l = c .before .before .before .before .before .before .loop in
-    c .refused2 .ensures ∙ not-json (c .before .before .before .before .before .before .before .before .before .before .args .s .now) (l .at) (l .state) (l .inv .2) (c .before .before .before .before .before .loop-test .taken) (sym (c .before .enum-told .given .1) ∙ c .before .before .before .step .ensures .0)
+    let l = c .before .before .before .before .before .before .before .before .loop in
+    c .refused2 .ensures ∙ not-json (c .before .before .before .before .before .before .before .before .before .before .before .before .before .before .args .s .now) (l .at) (l .state) (l .inv .4) (c .before .before .before .before .before .before .before .loop-test .taken) (sym (c .before .enum-told .given .1) ∙ c .before .before .before .step .ensures .0)
 
 enum-told-2 : tie.Need-enum-told-2 Inv-loop μ-loop
 enum-told-2 c = search needs
@@ -70,8 +79,8 @@ refused-requires-3 c κs = search needs
 
 returns-3 : tie.Need-returns-3 Inv-loop μ-loop
 returns-3 c =
-    let l = c .before .before .before .before .before .before .loop in
-    c .refused3 .ensures ∙ too-deep (c .before .before .before .before .before .before .before .before .before .before .args .s .now) (l .at) (l .state) (l .inv .2) (c .before .before .before .before .before .loop-test .taken) (sym (c .before .enum-told2 .given .1) ∙ c .before .before .before .step .ensures .0)
+    let l = c .before .before .before .before .before .before .before .before .loop in
+    c .refused3 .ensures ∙ too-deep (c .before .before .before .before .before .before .before .before .before .before .before .before .before .before .args .s .now) (l .at) (l .state) (l .inv .4) (c .before .before .before .before .before .before .before .loop-test .taken) (sym (c .before .enum-told2 .given .1) ∙ c .before .before .before .step .ensures .0)
 
 whole-requires : tie.Need-whole-requires Inv-loop μ-loop
 whole-requires c κs = search needs
@@ -79,8 +88,8 @@ whole-requires c κs = search needs
 returns-4 : tie.Need-returns-4 Inv-loop μ-loop
 unfolding judgedEnd
 returns-4 c =
-    let l = c .before .before .before .loop in
-    ends (c .before .before .before .before .before .before .before .args .s .now) (l .at) (l .state) (l .inv .2) (c .before .before .loop-test .left) true (sym (c .if2 .taken) ∙ c .before .whole .ensures)
+    let l = c .before .before .before .before .before .loop in
+    ends (c .before .before .before .before .before .before .before .before .before .before .before .args .s .now) (l .at) (l .state) (l .inv .4) (c .before .before .before .before .loop-test .left) true (sym (c .if2 .taken) ∙ c .before .whole .ensures)
 
 refused-requires-4 : tie.Need-refused-requires-4 Inv-loop μ-loop
 refused-requires-4 c κs = search needs
@@ -88,8 +97,8 @@ refused-requires-4 c κs = search needs
 returns-5 : tie.Need-returns-5 Inv-loop μ-loop
 unfolding judgedEnd
 returns-5 c =
-    let l = c .before .before .before .before .loop in
-    c .refused4 .ensures ∙ ends (c .before .before .before .before .before .before .before .before .args .s .now) (l .at) (l .state) (l .inv .2) (c .before .before .before .loop-test .left) false (sym (c .before .if2 .left) ∙ c .before .before .whole .ensures)
+    let l = c .before .before .before .before .before .before .loop in
+    c .refused4 .ensures ∙ ends (c .before .before .before .before .before .before .before .before .before .before .before .before .args .s .now) (l .at) (l .state) (l .inv .4) (c .before .before .before .before .before .loop-test .left) false (sym (c .before .if2 .left) ∙ c .before .before .whole .ensures)
 
 pub check-spec : {M : Type 1} → statement M
 check-spec =
@@ -99,6 +108,8 @@ check-spec =
     μ-loop
     refused-requires
     returns
+    table-requires
+    table-requires-2
     begin-requires
     loop-holds
     shared-slice-read-step

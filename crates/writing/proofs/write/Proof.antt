@@ -4,10 +4,6 @@ use Rattle.writing.proofs.CallLaws.{answers-as, refuses, table-good, ta
 use borrow.Author.Needs.{needs}
 use Rattle.writing.proofs.write.Statement.{statement}
 use Rattle.writing.proofs.write.Tie as tie
-use Rattle.writing.proofs.write.Reads as reads
-use Rattle.writing.proofs.write.Lts as lts
-use Rattle.types.proofs.check.Reads as check-reads
-use Rattle.writing.proofs.write_value.Reads as write-value-reads
 
 -- src/lib.rt:33:11
 check-requires : tie.Need-check-requires
@@ -30,7 +26,7 @@ write-value-requires c κs = let a = c .before .before .before .before .before .
 returns : tie.Need-returns
 returns c = let a = c .before .before .before .before .before .before .before .before .before .args in
     let r = refuses (a .text .now) (table-bad (table (a .types .now) (a .names .now)) (a .values .now) (a .pool .now) (sym (c .before .e .given .1) ∙ c .before .before .before .check .ensures)) in
-    (r .answer, r .text)
+    record { answer = r .answer; textLeft = r .text }
 
 -- src/lib.rt:29:1
 same-length : tie.Need-same-length
@@ -41,7 +37,7 @@ returns-2 : tie.Need-returns-2
 returns-2 c = let a = c .before .before .before .before .before .before .before .before .before .before .before .before .args in
     let g = table-good {t = table (a .types .now) (a .names .now)} {ns = a .values .now} {pool = a .pool .now} (sym (c .before .before .before .before .enum-told .given .1) ∙ c .before .before .before .before .before .before .check .ensures) in
     let r = answers-as (g .text) (c .before .before .write-value .ensures) in
-    (r .answer, r .text)
+    record { answer = r .answer; textLeft = r .text }
 
 pub write-spec : {M : Type 1} → statement M
 write-spec =

@@ -8,10 +8,6 @@ use Rattle.writing.proofs.CallLaws.{answers-as, refuses, too-long, too-
 use borrow.Author.Needs.{needs}
 use Rattle.writing.proofs.write_value.Statement.{statement}
 use Rattle.writing.proofs.write_value.Tie as tie
-use Rattle.writing.proofs.write_value.Reads as reads
-use Rattle.writing.proofs.write_value.Lts as lts
-use Rattle.writing.proofs.value.judged.Reads as judged-reads
-use Rattle.writing.proofs.value.value.Reads as value-reads
 
 -- src/lib.rt:45:11
 judged-requires : tie.Need-judged-requires

@@ -28,7 +28,9 @@ returns : tie.Need-returns
 returns c = subst (Reads asciiValue (c .before .before .before .before .args .s .now) (c .before .before .before .before .args .i)) (c .enum-told .given .1) (c .before .before .next-char .ensures)
 
 returns-2 : tie.Need-returns-2
-returns-2 c = digit-wide base64-wide (subst (Reads asciiValue (c .before .before .before .before .args .s .now) (c .before .before .before .before .args .i)) (c .enum-told2 .given .1) (c .before .before .next-char .ensures))
+returns-2 c =
+    let entry = c .before .before .before .before in
+    digit-wide base64-wide (subst (Reads asciiValue (entry .args .s .now) (entry .args .i)) (c .enum-told2 .given .1) (c .before .before .next-char .ensures))
 
 returns-3 : tie.Need-returns-3
 returns-3 c =

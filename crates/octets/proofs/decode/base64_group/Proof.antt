@@ -37,10 +37,14 @@ base64-tail-requires c κs =
     (c .before .before .before .before .before .before .before .before .before .pre, base64-below d, base64-below e)
 
 returns-2 : tie.Need-returns-2
-returns-2 c = base64-end (subst (Reads base64Value (c .before .before .before .before .args .s .now) (c .before .before .before .before .args .i)) (c .enum-told .given .1) (c .before .before .base64-digit .ensures))
+returns-2 c =
+    let entry = c .before .before .before .before in
+    base64-end (subst (Reads base64Value (entry .args .s .now) (entry .args .i)) (c .enum-told .given .1) (c .before .before .base64-digit .ensures))
 
 returns-3 : tie.Need-returns-3
-returns-3 c = base64-none (subst (Reads base64Value (c .before .before .before .before .args .s .now) (c .before .before .before .before .args .i)) (c .enum-told2 .given .1) (c .before .before .base64-digit .ensures))
+returns-3 c =
+    let entry = c .before .before .before .before in
+    base64-none (subst (Reads base64Value (entry .args .s .now) (entry .args .i)) (c .enum-told2 .given .1) (c .before .before .base64-digit .ensures))
 
 returns-4 : tie.Need-returns-4
 returns-4 c =

@@ -34,7 +34,9 @@ add-t18 : tie.Need-add-t18
 add-t18 c = search needs
 
 returns-3 : tie.Need-returns-3
-returns-3 c = tail-one (c .before .before .before .before .before .before .before .args .s .now) (c .before .before .before .before .before .before .before .args .i) (omega arith) (sym (c .before .same-as .ensures) ∙ not-false (c .before .same-as .result) (c .if2 .left))
+returns-3 c =
+    let entry = c .before .before .before .before .before .before .before in
+    tail-one (entry .args .s .now) (entry .args .i) (omega arith) (sym (c .before .same-as .ensures) ∙ not-false (c .before .same-as .result) (c .if2 .left))
 
 base64-digit-requires-2 : tie.Need-base64-digit-requires-2
 base64-digit-requires-2 c κs = search needs

@@ -43,10 +43,14 @@ add-t11 c =
     omega (arith, hex-below d, hex-below e)
 
 returns-2 : tie.Need-returns-2
-returns-2 c = hex-end (subst (Reads hexValue (c .before .before .before .before .args .s .now) (c .before .before .before .before .args .i)) (c .enum-told .given .1) (c .before .before .hex-digit .ensures))
+returns-2 c =
+    let entry = c .before .before .before .before in
+    hex-end (subst (Reads hexValue (entry .args .s .now) (entry .args .i)) (c .enum-told .given .1) (c .before .before .hex-digit .ensures))
 
 returns-3 : tie.Need-returns-3
-returns-3 c = hex-none (subst (Reads hexValue (c .before .before .before .before .args .s .now) (c .before .before .before .before .args .i)) (c .enum-told2 .given .1) (c .before .before .hex-digit .ensures))
+returns-3 c =
+    let entry = c .before .before .before .before in
+    hex-none (subst (Reads hexValue (entry .args .s .now) (entry .args .i)) (c .enum-told2 .given .1) (c .before .before .hex-digit .ensures))
 
 returns-4 : tie.Need-returns-4
 returns-4 c =

@@ -28,7 +28,9 @@ base64-digit-requires-4 : tie.Need-base64-digit-requires-4
 base64-digit-requires-4 c κs = search needs
 
 returns : tie.Need-returns
-returns c = base64-group (c .before .before .before .before .args .a) (c .before .before .before .before .args .b) (c .before .before .before .before .args .c) (c .before .before .before .base64-digit .ensures) (c .before .before .base64-digit2 .ensures) (c .before .base64-digit3 .ensures) (c .base64-digit4 .ensures)
+returns c =
+    let entry = c .before .before .before .before in
+    base64-group (entry .args .a) (entry .args .b) (entry .args .c) (c .before .before .before .base64-digit .ensures) (c .before .before .base64-digit2 .ensures) (c .before .base64-digit3 .ensures) (c .base64-digit4 .ensures)
 
 pub group-spec : {M : Type 1} → statement M
 group-spec =

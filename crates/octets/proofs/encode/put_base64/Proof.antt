@@ -58,7 +58,9 @@ loop-less : tie.Need-loop-less Inv-loop μ-loop
 loop-less c = search needs
 
 loop-again : tie.Need-loop-again Inv-loop μ-loop
-loop-again c = (base64-next (c .before .before .before .before .before .before .before .before .before .before .before .before .before .args .octets .now) (c .before .before .before .before .before .before .before .before .before .before .loop .i) (c .before .before .before .before .before .before .before .before .before .before .loop .inv .0) (c .before .before .before .before .before .before .before .before .before .loop-test .taken) (sets-as (c .before .before .before .before .before .before .before .before .before .before .loop .text) (c .before .before .before .before .before .before .before .before .before .before .before .before .before .args .k + c .before .before .before .before .before .before .before .before .before .before .loop .n) (c .before .before .before .before .before .group .ensures) (c .before .before .put-all .ensures)) (c .before .before .put-all .kept .0), omega arith)
+loop-again c =
+    let entry = c .before .before .before .before .before .before .before .before .before .before .before .before .before in
+    (base64-next (entry .args .octets .now) (c .before .before .before .before .before .before .before .before .before .before .loop .i) (c .before .before .before .before .before .before .before .before .before .before .loop .inv .0) (c .before .before .before .before .before .before .before .before .before .loop-test .taken) (sets-as (c .before .before .before .before .before .before .before .before .before .before .loop .text) (entry .args .k + c .before .before .before .before .before .before .before .before .before .before .loop .n) (c .before .before .before .before .before .group .ensures) (c .before .before .put-all .ensures)) (c .before .before .put-all .kept .0), omega arith)
 
 sub-if1 : tie.Need-sub-if1 Inv-loop μ-loop
 sub-if1 c = search needs

@@ -27,7 +27,9 @@ put-escaped-requires : tie.Need-put-escaped-requires Inv-loop μ-loop
 put-escaped-requires c κs = search needs
 
 add-n : tie.Need-add-n Inv-loop μ-loop
-add-n c = omega (arith, escapes-room (c .before .before .before .before .before .before .before .before .before .args .octets .now) (c .before .before .before .before .before .before .loop .inv) (c .before .before .before .before .before .loop-test .taken) (c .before .before .put-escaped .ensures .0), c .before .before .before .before .before .before .before .before .before .pre)
+add-n c =
+    let entry = c .before .before .before .before .before .before .before .before .before in
+    omega (arith, escapes-room (entry .args .octets .now) (c .before .before .before .before .before .before .loop .inv) (c .before .before .before .before .before .loop-test .taken) (c .before .before .put-escaped .ensures .0), entry .pre)
 
 add-i : tie.Need-add-i Inv-loop μ-loop
 add-i c = search needs

@@ -1,75 +1,20 @@
--- The table has, for each mode and class, what the class's first byte leads to; one test over all modes and bytes shows that its other bytes lead there too.
-use Prim.Native.Nat.{ℕ, _<_, _≤_, _+_, _-_}
+-- The entry for the byte's class, in tables that are lent.
+use Prim.Native.Nat.{ℕ, _<_, _≤_, _-_}
 use mathlib.Core.Path.{_≡_, _∙_, ap}
-use mathlib.Core.List.{List, [], _∷_}
-use mathlib.Core.Bool.{Bool, _&&_}
-use native.Mathlib.Nat.{zero-add}
+use mathlib.Core.List.{List, []}
 use native.Mathlib.Omega.{arith}
 use borrow.Author.Needs.{needs}
-use lib.Dec.{T, eqb, leb, eqb→eq, leb→le}
 use lib.ListN.{getD}
-use Rattle.json.specs.Bytes.{In, pick}
 use Rattle.text.specs.Class.{classOf}
-use Rattle.text.specs.Outline.{actOf}
-use Rattle.text.proofs.Tables.{both, all, below, table, table-at}
+use Rattle.text.specs.Outline.{actOf, IsMode, IsActs}
+use Rattle.text.proofs.ClassLaws.{class-range, act-range}
 use Rattle.text.proofs.acts.act.Statement.{statement}
 use Rattle.text.proofs.acts.act.Tie as tie
 
--- a class is a character from 0 to Z
-ranged : ℕ → Bool
-ranged b = leb 48 (classOf b) && leb (classOf b) 90
-
-ranged-all : T (all ranged 256)
-unfolding ranged classOf
-ranged-all = tt
-
-class-range : (b : ℕ) → b < 256 → (48 ≤ classOf b) × (classOf b ≤ 90)
-unfolding ranged
-class-range b h = let t = both (leb 48 (classOf b)) (leb (classOf b) 90) (below ranged 256 ranged-all b h) in (leb→le 48 (classOf b) (t .0), leb→le (classOf b) 90 (t .1))
-
--- the first byte of each class
-firsts : List ℕ
-firsts =
-    0x00 ∷ 0x09 ∷ 0x20 ∷ 0x22 ∷ 0x5C ∷ 0x5B ∷ 0x5D ∷ 0x7B ∷ 0x7D ∷ 0x2C ∷ 0x3A ∷ 0x2D ∷ 0x2B ∷ 0x2E ∷ 0x30 ∷ 0x31 ∷ 0x38 ∷ 0x41 ∷ 0x43 ∷ 0x44 ∷ 0x45
-    ∷ 0x61 ∷ 0x62 ∷ 0x65 ∷ 0x66 ∷ 0x6C ∷ 0x6E ∷ 0x72 ∷ 0x73 ∷ 0x74 ∷ 0x75 ∷ 0x2F ∷ 0x21
-    ∷ 0x80 ∷ 0x90 ∷ 0xA0 ∷ 0xC2 ∷ 0xE0 ∷ 0xE1 ∷ 0xED ∷ 0xF0 ∷ 0xF1 ∷ 0xF4 ∷ []
-
-entry : ℕ → ℕ → ℕ
-entry m c = actOf m (getD firsts c 0)
-
-row : ℕ → List ℕ
-row m = table (entry m) 0 43
-
-acts : List (List ℕ)
-acts = table row 48 43
-
-right : ℕ → ℕ → Bool
-right m b = eqb (entry m (classOf b - 48)) (actOf m b) && leb 48 (actOf m b)
-
-test : T (all (λ n. all (right (48 + n)) 256) 43)
-unfolding right entry firsts classOf actOf pick
-test = tt
-
-cell : (m c : ℕ) → In 48 90 m → c < 43 → getD (getD acts (m - 48) []) c 0 ≡ entry m c
-unfolding acts row
-cell m c h l =
-    let e : 48 + (m - 48) ≡ m = omega arith in
-    ap (λ (r : List ℕ). getD r c 0) (table-at row 48 43 (m - 48) [] (omega arith) ∙ ap row e) ∙ table-at (entry m) 0 43 c 0 l ∙ ap (entry m) (zero-add c)
-
-passed : (m b : ℕ) → In 48 90 m → b < 256 → (entry m (classOf b - 48) ≡ actOf m b) × (48 ≤ actOf m b)
-unfolding right
-passed m b h l =
-    let e : 48 + (m - 48) ≡ m = omega arith in
-    let t = rw e at (below (right (48 + (m - 48))) 256 (below (λ n. all (right (48 + n)) 256) 43 test (m - 48) (omega arith)) b l) in
-    let s = both (eqb (entry m (classOf b - 48)) (actOf m b)) (leb 48 (actOf m b)) t in
-    (eqb→eq (entry m (classOf b - 48)) (actOf m b) (s .0), leb→le 48 (actOf m b) (s .1))
-
--- the entry for the class k of the byte b
-found : (m b k : ℕ) → In 48 90 m → b < 256 → k ≡ classOf b → (getD (getD acts (m - 48) []) (k - 48) 0 ≡ actOf m b) × (48 ≤ getD (getD acts (m - 48) []) (k - 48) 0)
-found m b k h l e =
-    let s = passed m b h l in
-    let q : getD (getD acts (m - 48) []) (k - 48) 0 ≡ actOf m b = rw e (cell m (classOf b - 48) h (omega (arith, class-range b l)) ∙ s .0) in
-    (q, rw q (s .1))
+found : (l : List (List ℕ)) (m b k : ℕ) → IsActs l → IsMode m → b < 256 → k ≡ classOf b → (getD (getD l (m - 48) []) (k - 48) 0 ≡ actOf m b) × (48 ≤ getD (getD l (m - 48) []) (k - 48) 0)
+found l m b k t h i e =
+    let q : getD (getD l (m - 48) []) (k - 48) 0 ≡ actOf m b = rw e (t m b h i) in
+    (q, rw q (act-range m b h i))
 
 sub-row : tie.Need-sub-row
 sub-row c = search needs
@@ -77,14 +22,14 @@ sub-row c = search needs
 cast-row : tie.Need-cast-row
 cast-row c = search needs
 
-class-requires : tie.Need-class-requires
-class-requires c κs = search needs
+element-copy-out-column : tie.Need-element-copy-out-column
+element-copy-out-column c = search needs
 
 sub-column : tie.Need-sub-column
-sub-column c = omega (arith, class-range (c .before .args .b) (search needs), c .class .ensures)
+sub-column c = omega (arith, class-range (c .before .args .b) (search needs), c .before .pre .1 (c .before .args .b) (search needs))
 
 cast-column : tie.Need-cast-column
-cast-column c = search needs
+cast-column c = omega (arith, class-range (c .before .args .b) (search needs), c .before .pre .1 (c .before .args .b) (search needs))
 
 mul-result : tie.Need-mul-result
 mul-result c = search needs
@@ -93,11 +38,13 @@ index-1-result : tie.Need-index-1-result
 index-1-result c = search needs
 
 index-2-result : tie.Need-index-2-result
-index-2-result c = omega (arith, class-range (c .before .args .b) (search needs), c .class .ensures)
+index-2-result c = omega (arith, class-range (c .before .args .b) (search needs), c .before .pre .1 (c .before .args .b) (search needs))
 
 returns : tie.Need-returns
-unfolding acts row entry firsts actOf pick
-returns c = found (c .before .before .args .mode) (c .before .before .args .b) (c .before .class .result) (c .before .before .pre) (search needs) (c .before .class .ensures)
+returns c =
+    let entry = c .before .before in
+    let b = entry .args .b in
+    found (entry .args .acts .now) (entry .args .mode) b (getD (entry .args .classes .now) b 0) (entry .pre .2) (entry .pre .0) (search needs) (entry .pre .1 b (search needs))
 
 pub act-spec : {M : Type 1} → statement M
-act-spec = tie.close (tie.spec sub-row cast-row class-requires sub-column cast-column mul-result index-1-result index-2-result returns)
+act-spec = tie.close (tie.spec sub-row cast-row element-copy-out-column sub-column cast-column mul-result index-1-result index-2-result returns)

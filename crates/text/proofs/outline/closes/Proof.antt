@@ -20,7 +20,9 @@ goes-requires c κs = search needs
 
 returns-3 : tie.Need-returns-3
 unfolding closing closes
-returns-3 c = c .goes .ensures ∙ rw (ne-eqb (c .before .before .before .args .brackets) 1 (c .before .before .if1 .left), eq-eqb (c .before .before .before .args .brackets % 2) (c .before .before .before .args .kind) (c .before .if2 .left))
+returns-3 c =
+    let brackets = c .before .before .before .args .brackets in
+    c .goes .ensures ∙ rw (ne-eqb (c .before .before .before .args .brackets) 1 (c .before .before .if1 .left), eq-eqb (brackets % 2) (c .before .before .before .args .kind) (c .before .if2 .left))
 
 pub closes-spec : {M : Type 1} → statement M
 closes-spec = tie.close (tie.spec returns returns-2 goes-requires returns-3)

@@ -5,10 +5,6 @@ use Rattle.writing.proofs.LeafLaws.{form-text, form-base64, form-hex}
 use borrow.Author.Needs.{needs}
 use Rattle.writing.proofs.leaf.form_of.Statement.{statement}
 use Rattle.writing.proofs.leaf.form_of.Tie as tie
-use Rattle.writing.proofs.leaf.form_of.Reads as reads
-use Rattle.writing.proofs.leaf.form_of.Lts as lts
-use Rattle.types.proofs.row.Row.at.Reads as at-reads
-use Rattle.types.proofs.row.Row.is_base64.Reads as is-base64-reads
 
 -- src/leaf.rt:34:9
 at-requires : tie.Need-at-requires

@@ -4,17 +4,6 @@ use Rattle.writing.proofs.LeafLaws.{bool-ends, int-ends, enum-ends, nul
 use borrow.Author.Needs.{needs}
 use Rattle.writing.proofs.leaf.leaf.Statement.{statement}
 use Rattle.writing.proofs.leaf.leaf.Tie as tie
-use Rattle.writing.proofs.leaf.leaf.Reads as reads
-use Rattle.writing.proofs.leaf.leaf.Lts as lts
-use Rattle.types.proofs.row.field.Reads as field-reads
-use Rattle.types.proofs.row.member_row.Reads as member-row-reads
-use Rattle.types.proofs.row.name_in.Reads as name-in-reads
-use Rattle.writing.proofs.leaf.string.Reads as string-reads
-use Rattle.writing.proofs.put.put_bool.Reads as put-bool-reads
-use Rattle.writing.proofs.put.put_integer.Reads as put-integer-reads
-use Rattle.writing.proofs.put.put_null.Reads as put-null-reads
-use Rattle.writing.proofs.put.put_string.Reads as put-string-reads
-use Rattle.writing.proofs.taken.ended.Reads as ended-reads
 
 -- src/leaf.rt:65:17
 put-bool-requires : tie.Need-put-bool-requires

@@ -1,18 +1,8 @@
-use native.Mathlib.Omega.{arith}
 use Rattle.types.specs.Rows.{table}
 use Rattle.writing.proofs.LeafLaws.{string-ends}
 use borrow.Author.Needs.{needs}
 use Rattle.writing.proofs.leaf.string.Statement.{statement}
 use Rattle.writing.proofs.leaf.string.Tie as tie
-use Rattle.writing.proofs.leaf.string.Reads as reads
-use Rattle.writing.proofs.leaf.string.Lts as lts
-use Rattle.types.proofs.bytes.part.Reads as part-reads
-use Rattle.types.proofs.bytes.utf8.Reads as utf8-reads
-use Rattle.types.proofs.row.wide.Reads as wide-reads
-use Rattle.writing.proofs.leaf.form_of.Reads as form-of-reads
-use Rattle.writing.proofs.put.add.Reads as add-reads
-use Rattle.writing.proofs.put.put_string.Reads as put-string-reads
-use Rattle.writing.proofs.taken.ended.Reads as ended-reads
 
 -- src/leaf.rt:49:9
 wide-requires : tie.Need-wide-requires

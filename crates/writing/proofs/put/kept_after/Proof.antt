@@ -3,8 +3,6 @@ use Rattle.writing.specs.Text.{keptAfter}
 use borrow.Author.Needs.{needs}
 use Rattle.writing.proofs.put.kept_after.Statement.{statement}
 use Rattle.writing.proofs.put.kept_after.Tie as tie
-use Rattle.writing.proofs.put.kept_after.Reads as reads
-use Rattle.writing.proofs.put.kept_after.Lts as lts
 
 -- src/put.rt:110:16
 add-result : tie.Need-add-result

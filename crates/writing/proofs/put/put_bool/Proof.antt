@@ -2,9 +2,6 @@ use Rattle.jer.specs.Write.{boolText}
 use borrow.Author.Needs.{needs}
 use Rattle.writing.proofs.put.put_bool.Statement.{statement}
 use Rattle.writing.proofs.put.put_bool.Tie as tie
-use Rattle.writing.proofs.put.put_bool.Reads as reads
-use Rattle.writing.proofs.put.put_bool.Lts as lts
-use Rattle.writing.proofs.put.put_bytes.Reads as put-bytes-reads
 
 -- src/put.rt:82:35
 slice-aggregate-put-bytes : tie.Need-slice-aggregate-put-bytes

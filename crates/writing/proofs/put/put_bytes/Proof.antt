@@ -8,9 +8,6 @@ use Rattle.writing.specs.Text.{Puts}
 use borrow.Author.Needs.{needs}
 use Rattle.writing.proofs.put.put_bytes.Statement.{statement}
 use Rattle.writing.proofs.put.put_bytes.Tie as tie
-use Rattle.writing.proofs.put.put_bytes.Reads as reads
-use Rattle.writing.proofs.put.put_bytes.Lts as lts
-use Rattle.writing.proofs.put.put_byte.Reads as put-byte-reads
 
 abbrev Inv-loop : tie.InvT-loop
 Inv-loop text₀ k s p₀ j₀ text p j = (j ≤ length s) × (length text ≡ length text₀) × Puts (take j s) k text₀ text p

@@ -2,9 +2,6 @@ use Rattle.writing.specs.Text.{closing}
 use borrow.Author.Needs.{needs}
 use Rattle.writing.proofs.put.put_closing.Statement.{statement}
 use Rattle.writing.proofs.put.put_closing.Tie as tie
-use Rattle.writing.proofs.put.put_closing.Reads as reads
-use Rattle.writing.proofs.put.put_closing.Lts as lts
-use Rattle.writing.proofs.put.put_byte.Reads as put-byte-reads
 
 -- src/put.rt:100:9
 put-byte-requires : tie.Need-put-byte-requires

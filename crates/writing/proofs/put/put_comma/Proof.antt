@@ -3,9 +3,6 @@ use Rattle.writing.proofs.PutLaws.{no-comma, a-comma}
 use borrow.Author.Needs.{needs}
 use Rattle.writing.proofs.put.put_comma.Statement.{statement}
 use Rattle.writing.proofs.put.put_comma.Tie as tie
-use Rattle.writing.proofs.put.put_comma.Reads as reads
-use Rattle.writing.proofs.put.put_comma.Lts as lts
-use Rattle.writing.proofs.put.put_byte.Reads as put-byte-reads
 
 -- src/put.rt:44:9
 returns : tie.Need-returns

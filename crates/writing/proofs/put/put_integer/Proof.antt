@@ -5,11 +5,6 @@ use Rattle.writing.proofs.PutLaws.{counted, fits, puts-stored, puts-mea
 use borrow.Author.Needs.{needs}
 use Rattle.writing.proofs.put.put_integer.Statement.{statement}
 use Rattle.writing.proofs.put.put_integer.Tie as tie
-use Rattle.writing.proofs.put.put_integer.Reads as reads
-use Rattle.writing.proofs.put.put_integer.Lts as lts
-use Rattle.octets.proofs.integer.integer_len.Reads as integer-len-reads
-use Rattle.octets.proofs.integer.put_integer.Reads as put-integer-reads
-use Rattle.writing.proofs.put.add.Reads as add-reads
 
 -- src/put.rt:90:22
 integer-len-requires : tie.Need-integer-len-requires

@@ -2,13 +2,6 @@ use Rattle.writing.proofs.PutLaws.{leads-array, leads-object}
 use borrow.Author.Needs.{needs}
 use Rattle.writing.proofs.put.put_lead.Statement.{statement}
 use Rattle.writing.proofs.put.put_lead.Tie as tie
-use Rattle.writing.proofs.put.put_lead.Reads as reads
-use Rattle.writing.proofs.put.put_lead.Lts as lts
-use Rattle.types.proofs.row.member_row.Reads as member-row-reads
-use Rattle.types.proofs.row.name_in.Reads as name-in-reads
-use Rattle.writing.proofs.put.put_comma.Reads as put-comma-reads
-use Rattle.writing.proofs.put.put_name.Reads as put-name-reads
-use Rattle.writing.proofs.put.put_nulls.Reads as put-nulls-reads
 
 -- src/put.rt:85:13
 put-nulls-requires : tie.Need-put-nulls-requires

@@ -4,10 +4,6 @@ use Rattle.writing.proofs.PutLaws.{puts-append}
 use borrow.Author.Needs.{needs}
 use Rattle.writing.proofs.put.put_name.Statement.{statement}
 use Rattle.writing.proofs.put.put_name.Tie as tie
-use Rattle.writing.proofs.put.put_name.Reads as reads
-use Rattle.writing.proofs.put.put_name.Lts as lts
-use Rattle.writing.proofs.put.put_byte.Reads as put-byte-reads
-use Rattle.writing.proofs.put.put_string.Reads as put-string-reads
 
 -- src/put.rt:151:9
 put-string-requires : tie.Need-put-string-requires

@@ -2,9 +2,6 @@ use Rattle.jer.specs.Write.{nullText}
 use borrow.Author.Needs.{needs}
 use Rattle.writing.proofs.put.put_null.Statement.{statement}
 use Rattle.writing.proofs.put.put_null.Tie as tie
-use Rattle.writing.proofs.put.put_null.Reads as reads
-use Rattle.writing.proofs.put.put_null.Lts as lts
-use Rattle.writing.proofs.put.put_bytes.Reads as put-bytes-reads
 
 -- src/put.rt:56:24
 slice-aggregate-put-bytes : tie.Need-slice-aggregate-put-bytes

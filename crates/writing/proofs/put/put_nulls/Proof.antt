@@ -8,10 +8,6 @@ use Rattle.writing.specs.Text.{Puts, nulls}
 use borrow.Author.Needs.{needs}
 use Rattle.writing.proofs.put.put_nulls.Statement.{statement}
 use Rattle.writing.proofs.put.put_nulls.Tie as tie
-use Rattle.writing.proofs.put.put_nulls.Reads as reads
-use Rattle.writing.proofs.put.put_nulls.Lts as lts
-use Rattle.writing.proofs.put.put_comma.Reads as put-comma-reads
-use Rattle.writing.proofs.put.put_null.Reads as put-null-reads
 
 abbrev Inv-loop : tie.InvT-loop
 Inv-loop text₀ k n i p₀ j₀ text p j = (length text ≡ length text₀) × (n ≤ j) × (j - n ≤ i - n) × Puts (nulls n (j - n)) k text₀ text p

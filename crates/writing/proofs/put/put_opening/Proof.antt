@@ -2,9 +2,6 @@ use Rattle.writing.specs.Text.{opening}
 use borrow.Author.Needs.{needs}
 use Rattle.writing.proofs.put.put_opening.Statement.{statement}
 use Rattle.writing.proofs.put.put_opening.Tie as tie
-use Rattle.writing.proofs.put.put_opening.Reads as reads
-use Rattle.writing.proofs.put.put_opening.Lts as lts
-use Rattle.writing.proofs.put.put_byte.Reads as put-byte-reads
 
 -- src/put.rt:90:9
 put-byte-requires : tie.Need-put-byte-requires

@@ -3,10 +3,6 @@ use Rattle.writing.proofs.PutLaws.{puts-append}
 use borrow.Author.Needs.{needs}
 use Rattle.writing.proofs.put.put_string.Statement.{statement}
 use Rattle.writing.proofs.put.put_string.Tie as tie
-use Rattle.writing.proofs.put.put_string.Reads as reads
-use Rattle.writing.proofs.put.put_string.Lts as lts
-use Rattle.writing.proofs.put.put_byte.Reads as put-byte-reads
-use Rattle.writing.proofs.put.put_spelled.Reads as put-spelled-reads
 
 -- src/put.rt:142:9
 put-byte-requires : tie.Need-put-byte-requires

@@ -2,11 +2,6 @@ use Rattle.writing.specs.Text.{spelled}
 use borrow.Author.Needs.{needs}
 use Rattle.writing.proofs.put.spelled_len.Statement.{statement}
 use Rattle.writing.proofs.put.spelled_len.Tie as tie
-use Rattle.writing.proofs.put.spelled_len.Reads as reads
-use Rattle.writing.proofs.put.spelled_len.Lts as lts
-use Rattle.octets.proofs.encode.base64_len.Reads as base64-len-reads
-use Rattle.octets.proofs.encode.hex_len.Reads as hex-len-reads
-use Rattle.octets.proofs.escape.escapes_len.Reads as escapes-len-reads
 
 -- src/put.rt:110:26
 enum-told : tie.Need-enum-told

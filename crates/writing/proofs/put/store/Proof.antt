@@ -3,11 +3,6 @@ use Rattle.writing.specs.Text.{spelled}
 use borrow.Author.Needs.{needs}
 use Rattle.writing.proofs.put.store.Statement.{statement}
 use Rattle.writing.proofs.put.store.Tie as tie
-use Rattle.writing.proofs.put.store.Reads as reads
-use Rattle.writing.proofs.put.store.Lts as lts
-use Rattle.octets.proofs.encode.put_base64.Reads as put-base64-reads
-use Rattle.octets.proofs.encode.put_hex.Reads as put-hex-reads
-use Rattle.octets.proofs.escape.put_escapes.Reads as put-escapes-reads
 
 -- src/put.rt:121:46
 enum-told : tie.Need-enum-told

@@ -3,11 +3,6 @@ use Rattle.writing.proofs.RowLaws.{never, absent-row, absent-none}
 use borrow.Author.Needs.{needs}
 use Rattle.writing.proofs.rows.absent_at.Statement.{statement}
 use Rattle.writing.proofs.rows.absent_at.Tie as tie
-use Rattle.writing.proofs.rows.absent_at.Reads as reads
-use Rattle.writing.proofs.rows.absent_at.Lts as lts
-use Rattle.types.proofs.row.may_miss.Reads as may-miss-reads
-use Rattle.writing.proofs.rows.ValueRow.is_absent.Reads as is-absent-reads
-use Rattle.writing.proofs.rows.row_at.Reads as row-at-reads
 
 -- src/rows.rt:57:11
 row-at-requires : tie.Need-row-at-requires

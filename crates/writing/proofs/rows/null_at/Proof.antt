@@ -5,13 +5,6 @@ use Rattle.writing.proofs.RowLaws.{null-row, null-none}
 use borrow.Author.Needs.{needs}
 use Rattle.writing.proofs.rows.null_at.Statement.{statement}
 use Rattle.writing.proofs.rows.null_at.Tie as tie
-use Rattle.writing.proofs.rows.null_at.Reads as reads
-use Rattle.writing.proofs.rows.null_at.Lts as lts
-use Rattle.types.proofs.row.Row.at.Reads as at-reads
-use Rattle.types.proofs.row.Row.is_unwrapped.Reads as is-unwrapped-reads
-use Rattle.types.proofs.row.field.Reads as field-reads
-use Rattle.types.proofs.row.type_at.Reads as type-at-reads
-use Rattle.writing.proofs.rows.row_at.Reads as row-at-reads
 
 -- src/rows.rt:67:11
 row-at-requires : tie.Need-row-at-requires

@@ -3,8 +3,6 @@ use Rattle.writing.proofs.RowLaws.{rows-past, rows-at}
 use borrow.Author.Needs.{needs}
 use Rattle.writing.proofs.rows.row_at.Statement.{statement}
 use Rattle.writing.proofs.rows.row_at.Tie as tie
-use Rattle.writing.proofs.rows.row_at.Reads as reads
-use Rattle.writing.proofs.rows.row_at.Lts as lts
 
 -- src/rows.rt:32:9
 returns : tie.Need-returns

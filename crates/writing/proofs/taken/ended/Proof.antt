@@ -2,10 +2,6 @@ use Rattle.writing.proofs.TextLaws.{ended-right, ended-wrong}
 use borrow.Author.Needs.{needs}
 use Rattle.writing.proofs.taken.ended.Statement.{statement}
 use Rattle.writing.proofs.taken.ended.Tie as tie
-use Rattle.writing.proofs.taken.ended.Reads as reads
-use Rattle.writing.proofs.taken.ended.Lts as lts
-use Rattle.types.proofs.row.wide.Reads as wide-reads
-use Rattle.writing.proofs.taken.rows_between.Reads as rows-between-reads
 
 -- src/taken.rt:30:16
 wide-requires : tie.Need-wide-requires

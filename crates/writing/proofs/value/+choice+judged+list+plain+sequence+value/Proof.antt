@@ -123,86 +123,86 @@ abbrev plain-calls : ℕ → plain-lts.Claims
 plain-calls t = (row-at-reads.Asked, row-at-reads.Learnt, field-reads.Asked, field-reads.Learnt, leaf-reads.Asked, leaf-reads.Learnt, sequence-below t, sequence.Post, list-below t, list.Post, choice-below t, choice.Post)
 
 abbrev sequence-calls : ℕ → sequence-lts.Claims
-sequence-calls t = (at-reads.Asked, at-reads.Learnt, is-array-reads.Asked, is-array-reads.Learnt, field-reads.Asked, field-reads.Learnt, put-opening-reads.Asked, put-opening-reads.Learnt, absent-at-reads.Asked, absent-at-reads.Learnt, type-at-reads.Asked, type-at-reads.Learnt, null-at-reads.Asked, null-at-reads.Learnt, judged-below t, judged.Post, put-lead-reads.Asked, put-lead-reads.Learnt, value-below t, value.Post, kept-after-reads.Asked, kept-after-reads.Learnt, put-closing-reads.Asked, put-closing-reads.Learnt, ended-reads.Asked, ended-reads.Learnt)
+sequence-calls t = (at-reads.Asked, at-reads.Learnt, is-array-reads.Asked, is-array-reads.Learnt, field-reads.Asked, field-reads.Learnt, put-opening-reads.Asked, put-opening-reads.Learnt, type-at-reads.Asked, type-at-reads.Learnt, absent-at-reads.Asked, absent-at-reads.Learnt, null-at-reads.Asked, null-at-reads.Learnt, judged-below t, judged.Post, put-lead-reads.Asked, put-lead-reads.Learnt, value-below t, value.Post, kept-after-reads.Asked, kept-after-reads.Learnt, put-closing-reads.Asked, put-closing-reads.Learnt, ended-reads.Asked, ended-reads.Learnt)
 
 abbrev value-calls : ℕ → value-lts.Claims
 value-calls t = (at-reads.Asked, at-reads.Learnt, is-unwrapped-reads.Asked, is-unwrapped-reads.Learnt, plain-below t, plain.Post, row-at-reads.Asked, row-at-reads.Learnt, field-reads.Asked, field-reads.Learnt, type-at-reads.Asked, type-at-reads.Learnt, ended-reads.Asked, ended-reads.Learnt)
 
--- src/value.rt:248:9
+-- src/value.rt:244:9
 choice-put-byte-requires : (t : ℕ) → choice-lts.Need-put-byte-requires (choice-calls t) (choice-at t) choice.Post
 choice-put-byte-requires t c κs = search needs
 
--- src/value.rt:249:57
+-- src/value.rt:245:57
 choice-member-row-requires : (t : ℕ) → choice-lts.Need-member-row-requires (choice-calls t) (choice-at t) choice.Post
 choice-member-row-requires t c κs = search needs
 
--- src/value.rt:249:35
+-- src/value.rt:245:35
 choice-name-in-requires : (t : ℕ) → choice-lts.Need-name-in-requires (choice-calls t) (choice-at t) choice.Post
 choice-name-in-requires t c κs = search needs
 
--- src/value.rt:249:9
+-- src/value.rt:245:9
 choice-put-name-requires : (t : ℕ) → choice-lts.Need-put-name-requires (choice-calls t) (choice-at t) choice.Post
 choice-put-name-requires t c κs = search needs
 
--- src/value.rt:250:9
+-- src/value.rt:246:9
 choice-type-at-requires : (t : ℕ) → choice-lts.Need-type-at-requires (choice-calls t) (choice-at t) choice.Post
 choice-type-at-requires t c κs = search needs
 
--- src/value.rt:251:54
+-- src/value.rt:247:54
 choice-add-value : (t : ℕ) → choice-lts.Need-add-value (choice-calls t) (choice-at t) choice.Post
 choice-add-value t c = search needs
 
--- src/value.rt:251:11
+-- src/value.rt:247:11
 choice-value-requires : (t : ℕ) → choice-lts.Need-value-requires (choice-calls t) (choice-at t) choice.Post
 choice-value-requires t c κs = search needs
 
--- src/value.rt:252:22
+-- src/value.rt:248:22
 choice-enum-known-b : (t : ℕ) → choice-lts.Need-enum-known-b (choice-calls t) (choice-at t) choice.Post
 choice-enum-known-b t c = search needs
 
--- src/value.rt:253:23
+-- src/value.rt:249:23
 choice-enum-known-row : (t : ℕ) → choice-lts.Need-enum-known-row (choice-calls t) (choice-at t) choice.Post
 choice-enum-known-row t c = search needs
 
--- src/value.rt:254:17
+-- src/value.rt:250:17
 choice-put-byte-requires-2 : (t : ℕ) → choice-lts.Need-put-byte-requires-2 (choice-calls t) (choice-at t) choice.Post
 choice-put-byte-requires-2 t c κs = search needs
 
--- src/value.rt:255:13
+-- src/value.rt:251:13
 choice-ended-requires : (t : ℕ) → choice-lts.Need-ended-requires (choice-calls t) (choice-at t) choice.Post
 choice-ended-requires t c κs = search needs
 
--- src/value.rt:232:1
+-- src/value.rt:228:1
 choice-same-length : (t : ℕ) → choice-lts.Need-same-length (choice-calls t) (choice-at t) choice.Post
 choice-same-length t c = search needs
 
--- src/value.rt:232:1
+-- src/value.rt:228:1
 choice-returns : (t : ℕ) → choice-lts.Need-returns (choice-calls t) (choice-at t) choice.Post
 choice-returns t c = let a = c .before .before .before .before .before .before .before .before .before .before .before .before .before .before .before .before .before .before .before .before .before .before .before .args in
     let rows = rowsIn (a .values .now) in
     gives-wrong (choice-wrong _ _ _ rows _ (a .q) _ (valueRow (a .w)) (value-wrong rows (c .before .before .before .before .before .before .before .type-at .ensures (a .names .now)) (a .q + 1) (c .before .before .before .before .before .value .ensures) (c .before .b .given .1)))
 
--- src/value.rt:232:1
+-- src/value.rt:228:1
 choice-same-length-2 : (t : ℕ) → choice-lts.Need-same-length-2 (choice-calls t) (choice-at t) choice.Post
 choice-same-length-2 t c = omega (arith, c .before .before .before .put-byte2 .kept .0, c .before .before .before .before .before .before .before .before .before .before .value .kept .1 .1 .1 .1 .0, c .before .before .before .before .before .before .before .before .before .before .before .before .before .before .before .put-name .kept .0, c .before .before .before .before .before .before .before .before .before .before .before .before .before .before .before .before .before .before .before .before .before .put-byte .kept .0)
 
--- src/value.rt:232:1
+-- src/value.rt:228:1
 choice-returns-2 : (t : ℕ) → choice-lts.Need-returns-2 (choice-calls t) (choice-at t) choice.Post
 choice-returns-2 t c = let a = c .before .before .before .before .before .before .before .before .before .before .before .before .before .before .before .before .before .before .before .before .before .before .before .before .before .before .before .before .args in
     let rows = rowsIn (a .values .now) in
     let v = value-got rows (c .before .before .before .before .before .before .before .before .before .before .before .before .type-at .ensures (a .names .now)) (a .q + 1) (c .before .before .before .before .before .before .before .before .before .before .value .ensures) (c .before .before .before .before .before .before .row .given .1) in
     writes-is (c .ended .ensures) (choice-ends _ _ _ rows _ (a .q) _ (valueRow (a .w)) (c .before .before .before .before .before .before .before .before .before .before .before .before .before .before .before .before .before .before .before .before .before .before .before .before .before .before .before .before .pre .1 .2) (c .before .before .before .before .before .before .before .before .before .before .before .before .before .before .before .before .before .before .before .before .before .put-byte .ensures) (c .before .before .before .before .before .before .before .before .before .before .before .before .before .before .before .before .before .member-row .ensures (a .names .now)) (c .before .before .before .before .before .before .before .before .before .before .before .before .before .before .before .before .name-in .ensures) (c .before .before .before .before .before .before .before .before .before .before .before .before .before .before .before .put-name .ensures) v (c .before .before .before .put-byte2 .ensures))
 
--- src/value.rt:228:39
+-- src/value.rt:224:39
 judged-slice-aggregate-value : (t : ℕ) → judged-lts.Need-slice-aggregate-value (judged-calls t) (judged-at t) judged.Post
 judged-slice-aggregate-value t c = search needs
 
--- src/value.rt:228:5
+-- src/value.rt:224:5
 judged-value-requires :
     (t : ℕ) → judged-lts.Need-value-requires (judged-calls t) (judged-at t) judged.Post
 judged-value-requires t c κs = (omega arith, c .before .before .before .before .before .pre .1)
 
--- src/value.rt:214:1
+-- src/value.rt:210:1
 judged-returns :
     (t : ℕ) → judged-lts.Need-returns (judged-calls t) (judged-at t) judged.Post
 judged-returns t c = writes-none (c .before .value .ensures)
@@ -488,15 +488,19 @@ sequence-loop-holds t c = let a = c .before .before .before .before .before .bef
     let t = table (a .types .now) (a .names .now) in
     (count-is t (a .r) (c .before .before .before .before .field .ensures (a .names .now)), omega arith, refl, members-start (sym (c .before .before .before .before .before .is-array .ensures t (a .r) (c .before .before .before .before .before .before .at .ensures (a .names .now)))) (omega arith))
 
--- src/value.rt:178:12
+-- src/value.rt:178:13
+sequence-type-at-requires : (t : ℕ) → sequence-lts.Need-type-at-requires (sequence-calls t) (sequence-at t) sequence.Post sequence-Inv-loop sequence-μ-loop
+sequence-type-at-requires t c κs = search needs
+
+-- src/value.rt:179:12
 sequence-absent-at-requires : (t : ℕ) → sequence-lts.Need-absent-at-requires (sequence-calls t) (sequence-at t) sequence.Post sequence-Inv-loop sequence-μ-loop
 sequence-absent-at-requires t c κs = search needs
 
--- src/value.rt:179:13
+-- src/value.rt:180:13
 sequence-add-next-2 : (t : ℕ) → sequence-lts.Need-add-next-2 (sequence-calls t) (sequence-at t) sequence.Post sequence-Inv-loop sequence-μ-loop
 sequence-add-next-2 t c = omega (arith, c .before .absent-at .ensures .1 (c .if1 .taken))
 
--- src/value.rt:180:13
+-- src/value.rt:181:13
 sequence-add-i : (t : ℕ) → sequence-lts.Need-add-i (sequence-calls t) (sequence-at t) sequence.Post sequence-Inv-loop sequence-μ-loop
 sequence-add-i t c = search needs
 
@@ -506,50 +510,46 @@ sequence-loop-less t c = search needs
 
 -- src/value.rt:177:5
 sequence-loop-again : (t : ℕ) → sequence-lts.Need-loop-again (sequence-calls t) (sequence-at t) sequence.Post sequence-Inv-loop sequence-μ-loop
-sequence-loop-again t c = let a = c .before .before .before .before .before .before .before .before .before .before .before .before .before .before .before .before .args in
-    let inv = c .before .before .before .loop .inv in
+sequence-loop-again t c = let a = c .before .before .before .before .before .before .before .before .before .before .before .before .before .before .before .before .before .args in
+    let inv = c .before .before .before .before .loop .inv in
     let rows = rowsIn (a .values .now) in
-    let inside = rw (inv .0) at (c .before .before .loop-test .taken) in
+    let inside = rw (inv .0) at (c .before .before .before .loop-test .taken) in
     (inv .0, inv .1, inv .2, members-absent (inv .3) inside (sym (c .before .absent-at .ensures .0 (a .names .now)) ∙ c .if1 .taken))
 
--- src/value.rt:182:17
-sequence-type-at-requires : (t : ℕ) → sequence-lts.Need-type-at-requires (sequence-calls t) (sequence-at t) sequence.Post sequence-Inv-loop sequence-μ-loop
-sequence-type-at-requires t c κs = search needs
-
--- src/value.rt:183:24
+-- src/value.rt:182:27
 sequence-null-at-requires : (t : ℕ) → sequence-lts.Need-null-at-requires (sequence-calls t) (sequence-at t) sequence.Post sequence-Inv-loop sequence-μ-loop
 sequence-null-at-requires t c κs = search needs
 
--- src/value.rt:184:23
+-- src/value.rt:183:17
 sequence-judged-requires : (t : ℕ) → sequence-lts.Need-judged-requires (sequence-calls t) (sequence-at t) sequence.Post sequence-Inv-loop sequence-μ-loop
 sequence-judged-requires t c κs = (omega (arith, c .before .before .before .before .before .before .before .before .before .before .before .before .before .before .before .before .before .before .before .pre .0), c .before .before .before .before .before .before .before .before .before .before .before .before .before .before .before .before .before .before .before .pre .1 .0)
 
--- src/value.rt:185:34
-sequence-enum-known-b : (t : ℕ) → sequence-lts.Need-enum-known-b (sequence-calls t) (sequence-at t) sequence.Post sequence-Inv-loop sequence-μ-loop
-sequence-enum-known-b t c = search needs
+-- src/value.rt:184:31
+sequence-enum-known-t : (t : ℕ) → sequence-lts.Need-enum-known-t (sequence-calls t) (sequence-at t) sequence.Post sequence-Inv-loop sequence-μ-loop
+sequence-enum-known-t t c = search needs
 
--- src/value.rt:185:40
+-- src/value.rt:185:17
+sequence-enum-told : (t : ℕ) → sequence-lts.Need-enum-told (sequence-calls t) (sequence-at t) sequence.Post sequence-Inv-loop sequence-μ-loop
+sequence-enum-told t c = search needs
+
+-- src/value.rt:185:17
 sequence-same-length : (t : ℕ) → sequence-lts.Need-same-length (sequence-calls t) (sequence-at t) sequence.Post sequence-Inv-loop sequence-μ-loop
 sequence-same-length t c = search needs
 
--- src/value.rt:185:40
+-- src/value.rt:185:17
 sequence-returns : (t : ℕ) → sequence-lts.Need-returns (sequence-calls t) (sequence-at t) sequence.Post sequence-Inv-loop sequence-μ-loop
-sequence-returns t c = let a = c .before .before .before .before .before .before .before .before .before .before .before .before .before .before .before .before .before .before .before .before .before .before .before .args in
-    let inv = c .before .before .before .before .before .before .before .before .before .before .loop .inv in
+sequence-returns t c = let a = c .before .before .before .before .before .before .before .before .before .before .before .before .before .before .before .before .before .before .before .before .before .before .args in
+    let inv = c .before .before .before .before .before .before .before .before .before .loop .inv in
     let rows = rowsIn (a .values .now) in
-    let inside = rw (inv .0) at (c .before .before .before .before .before .before .before .before .before .loop-test .taken) in
-    let absent = sym (c .before .before .before .before .before .before .before .before .absent-at .ensures .0 (a .names .now)) ∙ c .before .before .before .before .before .before .before .if1 .left in
-    gives-wrong (members-wrong (inv .3) inside absent (value-wrong rows (c .before .before .before .before .before .before .type-at .ensures (a .names .now)) (c .before .before .before .before .before .before .before .before .before .before .loop .next) (c .before .before .before .judged .ensures) (c .before .b .given .1)))
+    let inside = rw (inv .0) at (c .before .before .before .before .before .before .before .before .loop-test .taken) in
+    let absent = sym (c .before .before .before .before .before .before .absent-at .ensures .0 (a .names .now)) ∙ c .before .before .before .before .before .if1 .left in
+    writes-is (c .enum-told .given .1) (gives-wrong (members-wrong (inv .3) inside absent (value-wrong rows (c .before .before .before .before .before .before .before .type-at .ensures (a .names .now)) (c .before .before .before .before .before .before .before .before .before .loop .next) (c .before .before .judged .ensures) (c .enum-told .given .1))))
 
--- src/value.rt:186:35
-sequence-enum-known-row : (t : ℕ) → sequence-lts.Need-enum-known-row (sequence-calls t) (sequence-at t) sequence.Post sequence-Inv-loop sequence-μ-loop
-sequence-enum-known-row t c = search needs
-
--- src/value.rt:189:25
+-- src/value.rt:189:13
 sequence-add-present : (t : ℕ) → sequence-lts.Need-add-present (sequence-calls t) (sequence-at t) sequence.Post sequence-Inv-loop sequence-μ-loop
 sequence-add-present t c = search needs
 
--- src/value.rt:190:25
+-- src/value.rt:190:13
 sequence-add-i-2 : (t : ℕ) → sequence-lts.Need-add-i-2 (sequence-calls t) (sequence-at t) sequence.Post sequence-Inv-loop sequence-μ-loop
 sequence-add-i-2 t c = search needs
 
@@ -563,49 +563,49 @@ sequence-loop-again-2 t c = let a = c .before .before .before .before .before .b
     let inv = c .before .before .before .before .before .before .before .before .before .before .loop .inv in
     let rows = rowsIn (a .values .now) in
     let inside = rw (inv .0) at (c .before .before .before .before .before .before .before .before .before .loop-test .taken) in
-    let absent = sym (c .before .before .before .before .before .before .before .before .absent-at .ensures .0 (a .names .now)) ∙ c .before .before .before .before .before .before .before .if1 .left in
-    let null = null-is (table (a .types .now) (a .names .now)) (drop (c .before .before .before .before .before .before .before .before .before .before .loop .next) rows) (c .before .before .before .before .before .before .before .before .before .before .before .before .before .before .before .before .is-array .result) (c .before .before .before .before .before .before .type-at .ensures (a .names .now)) (c .before .before .before .before .before .null-at .ensures (a .names .now)) (c .before .before .before .before .if2 .taken) in
-    let v = value-got rows (c .before .before .before .before .before .before .type-at .ensures (a .names .now)) (c .before .before .before .before .before .before .before .before .before .before .loop .next) (c .before .before .before .judged .ensures) (c .before .row .given .1) in
+    let absent = sym (c .before .before .before .before .before .before .before .absent-at .ensures .0 (a .names .now)) ∙ c .before .before .before .before .before .before .if1 .left in
+    let null = null-is (table (a .types .now) (a .names .now)) (drop (c .before .before .before .before .before .before .before .before .before .before .loop .next) rows) (c .before .before .before .before .before .before .before .before .before .before .before .before .before .before .before .before .is-array .result) (c .before .before .before .before .before .before .before .before .type-at .ensures (a .names .now)) (c .before .before .before .before .before .null-at .ensures (a .names .now)) (c .before .before .before .before .if2 .taken) in
+    let v = value-got rows (c .before .before .before .before .before .before .before .before .type-at .ensures (a .names .now)) (c .before .before .before .before .before .before .before .before .before .before .loop .next) (c .before .before .before .judged .ensures) (c .before .t .given .1) in
     (inv .0, inv .1, inv .2, members-null (inv .3) inside absent (c .before .before .before .before .before .before .before .before .before .before .before .before .before .before .before .before .before .before .before .before .before .before .before .pre .1 .0) v null)
 
--- src/value.rt:194:21
+-- src/value.rt:192:17
 sequence-put-lead-requires : (t : ℕ) → sequence-lts.Need-put-lead-requires (sequence-calls t) (sequence-at t) sequence.Post sequence-Inv-loop sequence-μ-loop
 sequence-put-lead-requires t c κs = search needs
 
--- src/value.rt:195:23
+-- src/value.rt:193:17
 sequence-value-requires : (t : ℕ) → sequence-lts.Need-value-requires (sequence-calls t) (sequence-at t) sequence.Post sequence-Inv-loop sequence-μ-loop
 sequence-value-requires t c κs = (omega (arith, c .before .before .before .before .before .before .before .before .before .before .before .before .before .before .before .before .before .before .before .before .before .before .before .before .pre .0), c .before .before .before .before .before .before .before .before .before .before .before .before .before .before .before .before .before .before .before .before .before .before .before .before .pre .1 .0)
 
--- src/value.rt:196:34
-sequence-enum-known-b-2 : (t : ℕ) → sequence-lts.Need-enum-known-b-2 (sequence-calls t) (sequence-at t) sequence.Post sequence-Inv-loop sequence-μ-loop
-sequence-enum-known-b-2 t c = search needs
+-- src/value.rt:194:31
+sequence-enum-known-t-2 : (t : ℕ) → sequence-lts.Need-enum-known-t-2 (sequence-calls t) (sequence-at t) sequence.Post sequence-Inv-loop sequence-μ-loop
+sequence-enum-known-t-2 t c = search needs
 
--- src/value.rt:196:40
+-- src/value.rt:195:17
+sequence-enum-told-2 : (t : ℕ) → sequence-lts.Need-enum-told-2 (sequence-calls t) (sequence-at t) sequence.Post sequence-Inv-loop sequence-μ-loop
+sequence-enum-told-2 t c = search needs
+
+-- src/value.rt:195:17
 sequence-same-length-2 : (t : ℕ) → sequence-lts.Need-same-length-2 (sequence-calls t) (sequence-at t) sequence.Post sequence-Inv-loop sequence-μ-loop
 sequence-same-length-2 t c = search needs
 
--- src/value.rt:196:40
+-- src/value.rt:195:17
 sequence-returns-2 : (t : ℕ) → sequence-lts.Need-returns-2 (sequence-calls t) (sequence-at t) sequence.Post sequence-Inv-loop sequence-μ-loop
-sequence-returns-2 t c = let a = c .before .before .before .before .before .before .before .before .before .before .before .before .before .before .before .before .before .before .before .before .before .before .before .before .before .before .before .before .before .before .args in
-    let inv = c .before .before .before .before .before .before .before .before .before .before .before .before .before .before .before .before .before .loop .inv in
+sequence-returns-2 t c = let a = c .before .before .before .before .before .before .before .before .before .before .before .before .before .before .before .before .before .before .before .before .before .before .before .before .before .before .before .before .before .args in
+    let inv = c .before .before .before .before .before .before .before .before .before .before .before .before .before .before .before .before .loop .inv in
     let rows = rowsIn (a .values .now) in
-    let inside = rw (inv .0) at (c .before .before .before .before .before .before .before .before .before .before .before .before .before .before .before .before .loop-test .taken) in
-    let absent = sym (c .before .before .before .before .before .before .before .before .before .before .before .before .before .before .before .absent-at .ensures .0 (a .names .now)) ∙ c .before .before .before .before .before .before .before .before .before .before .before .before .before .before .if1 .left in
-    gives-wrong (members-wrong (inv .3) inside absent (value-wrong rows (c .before .before .before .before .before .before .before .before .before .before .before .before .before .type-at .ensures (a .names .now)) (c .before .before .before .before .before .before .before .before .before .before .before .before .before .before .before .before .before .loop .next) (c .before .before .before .before .before .value .ensures) (c .before .b2 .given .1)))
+    let inside = rw (inv .0) at (c .before .before .before .before .before .before .before .before .before .before .before .before .before .before .before .loop-test .taken) in
+    let absent = sym (c .before .before .before .before .before .before .before .before .before .before .before .before .before .absent-at .ensures .0 (a .names .now)) ∙ c .before .before .before .before .before .before .before .before .before .before .before .before .if1 .left in
+    writes-is (c .enum-told2 .given .1) (gives-wrong (members-wrong (inv .3) inside absent (value-wrong rows (c .before .before .before .before .before .before .before .before .before .before .before .before .before .before .type-at .ensures (a .names .now)) (c .before .before .before .before .before .before .before .before .before .before .before .before .before .before .before .before .loop .next) (c .before .before .before .before .value .ensures) (c .enum-told2 .given .1))))
 
--- src/value.rt:197:35
-sequence-enum-known-row-2 : (t : ℕ) → sequence-lts.Need-enum-known-row-2 (sequence-calls t) (sequence-at t) sequence.Post sequence-Inv-loop sequence-μ-loop
-sequence-enum-known-row-2 t c = search needs
-
--- src/value.rt:201:25
+-- src/value.rt:200:13
 sequence-kept-after-requires : (t : ℕ) → sequence-lts.Need-kept-after-requires (sequence-calls t) (sequence-at t) sequence.Post sequence-Inv-loop sequence-μ-loop
 sequence-kept-after-requires t c κs = omega (arith, c .before .before .before .before .before .before .before .before .before .before .before .before .before .before .before .before .loop-test .taken, c .before .before .before .before .before .before .before .before .before .before .before .before .before .before .before .before .before .loop .inv .1, c .before .before .before .before .before .before .before .before .before .before .before .before .before .before .before .before .before .loop .inv .3 .few)
 
--- src/value.rt:202:25
+-- src/value.rt:201:13
 sequence-add-present-2 : (t : ℕ) → sequence-lts.Need-add-present-2 (sequence-calls t) (sequence-at t) sequence.Post sequence-Inv-loop sequence-μ-loop
 sequence-add-present-2 t c = omega (arith, c .before .before .before .before .before .before .before .before .before .before .before .before .before .before .before .before .before .loop-test .taken, c .before .before .before .before .before .before .before .before .before .before .before .before .before .before .before .before .before .before .loop .inv .1, c .before .before .before .before .before .before .before .before .before .before .before .before .before .before .before .before .before .before .loop .inv .3 .some)
 
--- src/value.rt:203:25
+-- src/value.rt:202:13
 sequence-add-i-3 : (t : ℕ) → sequence-lts.Need-add-i-3 (sequence-calls t) (sequence-at t) sequence.Post sequence-Inv-loop sequence-μ-loop
 sequence-add-i-3 t c = omega (arith, c .before .before .before .before .before .before .before .before .before .before .before .before .before .before .before .before .before .loop-test .taken, c .before .before .before .before .before .before .before .before .before .before .before .before .before .before .before .before .before .before .loop .inv .1)
 
@@ -619,16 +619,16 @@ sequence-loop-again-3 t c = let a = c .before .before .before .before .before .b
     let inv = c .before .before .before .before .before .before .before .before .before .before .before .before .before .before .before .before .before .before .loop .inv in
     let rows = rowsIn (a .values .now) in
     let inside = rw (inv .0) at (c .before .before .before .before .before .before .before .before .before .before .before .before .before .before .before .before .before .loop-test .taken) in
-    let absent = sym (c .before .before .before .before .before .before .before .before .before .before .before .before .before .before .before .before .absent-at .ensures .0 (a .names .now)) ∙ c .before .before .before .before .before .before .before .before .before .before .before .before .before .before .before .if1 .left in
-    let null = null-is (table (a .types .now) (a .names .now)) (drop (c .before .before .before .before .before .before .before .before .before .before .before .before .before .before .before .before .before .before .loop .next) rows) (c .before .before .before .before .before .before .before .before .before .before .before .before .before .before .before .before .before .before .before .before .before .before .before .before .is-array .result) (c .before .before .before .before .before .before .before .before .before .before .before .before .before .before .type-at .ensures (a .names .now)) (c .before .before .before .before .before .before .before .before .before .before .before .before .before .null-at .ensures (a .names .now)) (c .before .before .before .before .before .before .before .before .before .before .before .before .if2 .left) in
-    let v = value-got rows (c .before .before .before .before .before .before .before .before .before .before .before .before .before .before .type-at .ensures (a .names .now)) (c .before .before .before .before .before .before .before .before .before .before .before .before .before .before .before .before .before .before .loop .next) (c .before .before .before .before .before .before .value .ensures) (c .before .before .row2 .given .1) in
+    let absent = sym (c .before .before .before .before .before .before .before .before .before .before .before .before .before .before .before .absent-at .ensures .0 (a .names .now)) ∙ c .before .before .before .before .before .before .before .before .before .before .before .before .before .before .if1 .left in
+    let null = null-is (table (a .types .now) (a .names .now)) (drop (c .before .before .before .before .before .before .before .before .before .before .before .before .before .before .before .before .before .before .loop .next) rows) (c .before .before .before .before .before .before .before .before .before .before .before .before .before .before .before .before .before .before .before .before .before .before .before .before .is-array .result) (c .before .before .before .before .before .before .before .before .before .before .before .before .before .before .before .before .type-at .ensures (a .names .now)) (c .before .before .before .before .before .before .before .before .before .before .before .before .before .null-at .ensures (a .names .now)) (c .before .before .before .before .before .before .before .before .before .before .before .before .if2 .left) in
+    let v = value-got rows (c .before .before .before .before .before .before .before .before .before .before .before .before .before .before .before .before .type-at .ensures (a .names .now)) (c .before .before .before .before .before .before .before .before .before .before .before .before .before .before .before .before .before .before .loop .next) (c .before .before .before .before .before .before .value .ensures) (c .before .before .t2 .given .1) in
     (inv .0, inv .1, c .before .before .before .before .before .before .value .kept .1 .1 .1 .1 .0 ∙ c .before .before .before .before .before .before .before .before .before .before .put-lead .kept .1 .1 .0 ∙ inv .2, rw (c .kept-after .ensures) (members-part (inv .3) inside absent (c .before .before .before .before .before .before .before .before .before .before .before .before .before .before .before .before .before .before .before .before .before .before .before .before .before .before .before .before .before .before .before .pre .1 .0) v null (c .before .before .before .before .before .before .before .before .before .before .put-lead .ensures)))
 
--- src/value.rt:209:9
+-- src/value.rt:205:9
 sequence-put-closing-requires : (t : ℕ) → sequence-lts.Need-put-closing-requires (sequence-calls t) (sequence-at t) sequence.Post sequence-Inv-loop sequence-μ-loop
 sequence-put-closing-requires t c κs = search needs
 
--- src/value.rt:210:5
+-- src/value.rt:206:5
 sequence-ended-requires : (t : ℕ) → sequence-lts.Need-ended-requires (sequence-calls t) (sequence-at t) sequence.Post sequence-Inv-loop sequence-μ-loop
 sequence-ended-requires t c κs = search needs
 
@@ -839,28 +839,28 @@ pub +choice+judged+list+plain+sequence+value-spec : {M : Type 1} → statement M
     (sequence-add-next t)
     (sequence-put-opening-requires t)
     (sequence-loop-holds t)
+    (sequence-type-at-requires t)
     (sequence-absent-at-requires t)
     (sequence-add-next-2 t)
     (sequence-add-i t)
     (sequence-loop-less t)
     (sequence-loop-again t)
-    (sequence-type-at-requires t)
     (sequence-null-at-requires t)
     (sequence-judged-requires t)
-    (sequence-enum-known-b t)
+    (sequence-enum-known-t t)
+    (sequence-enum-told t)
     (sequence-same-length t)
     (sequence-returns t)
-    (sequence-enum-known-row t)
     (sequence-add-present t)
     (sequence-add-i-2 t)
     (sequence-loop-less-2 t)
     (sequence-loop-again-2 t)
     (sequence-put-lead-requires t)
     (sequence-value-requires t)
-    (sequence-enum-known-b-2 t)
+    (sequence-enum-known-t-2 t)
+    (sequence-enum-told-2 t)
     (sequence-same-length-2 t)
     (sequence-returns-2 t)
-    (sequence-enum-known-row-2 t)
     (sequence-kept-after-requires t)
     (sequence-add-present-2 t)
     (sequence-add-i-3 t)

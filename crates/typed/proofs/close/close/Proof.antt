@@ -1,0 +1,48 @@
+use mathlib.Core.Path.{_≡_, ap, _∙_}
+use mathlib.Core.List.{[], _∷_}
+use Prim.Native.Nat.{ℕ, _*_}
+use lib.Seq.{sets}
+use borrow.Author.Needs.{needs}
+use Rattle.typed.proofs.close.close.Statement.{statement}
+use Rattle.typed.proofs.close.close.Tie as tie
+use Rattle.typed.proofs.close.close.Reads as reads
+use Rattle.typed.proofs.close.close.Lts as lts
+use Rattle.leaf.proofs.store.narrow.Reads as narrow-reads
+use Rattle.leaf.proofs.store.put_row.Reads as put-row-reads
+use Rattle.typed.proofs.close.bounded.Reads as bounded-reads
+
+add-narrow : tie.Need-add-narrow
+add-narrow c = search needs
+
+narrow-requires : tie.Need-narrow-requires
+narrow-requires c κs = search needs
+
+put-row-requires : tie.Need-put-row-requires
+put-row-requires c κs = search needs
+
+add-t12 : tie.Need-add-t12
+add-t12 c = search needs
+
+bounded-requires : tie.Need-bounded-requires
+bounded-requires c κs = search needs
+
+same-length : tie.Need-same-length
+same-length c = search needs
+
+returns : tie.Need-returns
+returns c =
+    let c₅ = c .before .before .before .before .before in
+    let entry = c₅ .before .before in
+    (c .bounded .ensures, λ l. c .before .before .before .put-row .ensures ∙ ap (λ (x : ℕ). sets (entry .args .rows .now) (entry .args .i * 4) (entry .args .kind ∷ entry .args .a ∷ 0 ∷ x ∷ [])) (c .before .before .before .before .narrow .ensures l))
+
+pub close-spec : {M : Type 1} → statement M
+close-spec =
+    tie.close
+    (tie.spec
+    add-narrow
+    narrow-requires
+    put-row-requires
+    add-t12
+    bounded-requires
+    same-length
+    returns)

@@ -1,0 +1,32 @@
+use mathlib.Core.Path.{_≡_, refl, sym, ap, _∙_}
+use borrow.Author.Needs.{needs}
+use Rattle.typed.specs.Cycle.{stops, closes}
+use Rattle.typed.specs.Members.{surplusOf}
+use Rattle.typed.proofs.close.close_array.Statement.{statement}
+use Rattle.typed.proofs.close.close_array.Tie as tie
+
+surplus-requires : tie.Need-surplus-requires
+surplus-requires c κs = search needs
+
+enum-known-e : tie.Need-enum-known-e
+enum-known-e c = search needs
+
+enum-known-q : tie.Need-enum-known-q
+enum-known-q c = search needs
+
+close-requires : tie.Need-close-requires
+close-requires c κs = search needs
+
+returns : tie.Need-returns
+returns c = λ ns. stops (sym (ap surplusOf (c .before .e .given .1)) ∙ c .before .before .before .surplus .ensures ns) refl
+
+same-length : tie.Need-same-length
+same-length c = search needs
+
+returns-2 : tie.Need-returns-2
+returns-2 c =
+    let c₅ = c .before .before .before .before .before in
+    λ ns. closes (sym (ap surplusOf (c₅ .q .given .1)) ∙ c₅ .before .before .surplus .ensures ns) (c .before .before .close .ensures .0) (c .before .before .close .ensures .1)
+
+pub close-array-spec : {M : Type 1} → statement M
+close-array-spec = tie.close (tie.spec surplus-requires enum-known-e enum-known-q close-requires returns same-length returns-2)

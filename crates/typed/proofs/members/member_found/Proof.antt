@@ -1,0 +1,56 @@
+use Rattle.typed.proofs.FoundLaws.{member-absent, member-missing, member-null, member-there}
+use Rattle.types.specs.Rows.{table}
+use borrow.Author.Tests.{not-true, not-false}
+use borrow.Author.Needs.{needs}
+use Rattle.typed.proofs.members.member_found.Statement.{statement}
+use Rattle.typed.proofs.members.member_found.Tie as tie
+use Rattle.typed.proofs.members.member_found.Reads as reads
+use Rattle.typed.proofs.members.member_found.Lts as lts
+use Rattle.typed.proofs.members.null_absent.Reads as null-absent-reads
+use Rattle.scan.proofs.parts.null_at.Reads as null-at-reads
+use Rattle.types.proofs.row.may_miss.Reads as may-miss-reads
+
+may-miss-requires : tie.Need-may-miss-requires
+may-miss-requires c κs = search needs
+
+returns : tie.Need-returns
+returns c =
+    let c₅ = c .before .before .before .before .before in
+    let entry = c₅ in
+    λ ns. member-absent (table (entry .args .types .now) ns) (entry .args .s .now) (entry .args .row) (entry .args .k) (entry .args .q) (not-true _ (c .before .before .if1 .taken)) (c .before .may-miss .ensures ns) (c .if2 .taken)
+
+returns-2 : tie.Need-returns-2
+returns-2 c =
+    let c₅ = c .before .before .before .before .before in
+    let entry = c₅ in
+    λ ns. member-missing (table (entry .args .types .now) ns) (entry .args .s .now) (entry .args .row) (entry .args .k) (entry .args .q) (not-true _ (c .before .before .if1 .taken)) (c .before .may-miss .ensures ns) (c .if2 .left)
+
+null-at-requires : tie.Need-null-at-requires
+null-at-requires c κs = search needs
+
+null-absent-requires : tie.Need-null-absent-requires
+null-absent-requires c κs = search needs
+
+returns-3 : tie.Need-returns-3
+returns-3 c =
+    let c₅ = c .before .before .before .before .before in
+    let entry = c₅ .before in
+    λ ns. member-null (table (entry .args .types .now) ns) (entry .args .s .now) (entry .args .row) (entry .args .k) (entry .args .q) (not-false _ (c .before .before .before .if1 .left)) (c .before .before .null-at .ensures) (c .before .null-absent .ensures ns) (c .if3 .taken)
+
+returns-4 : tie.Need-returns-4
+returns-4 c =
+    let c₅ = c .before .before .before .before .before in
+    let entry = c₅ .before in
+    λ ns. member-there (table (entry .args .types .now) ns) (entry .args .s .now) (entry .args .row) (entry .args .k) (entry .args .q) (not-false _ (c .before .before .before .if1 .left)) (c .before .before .null-at .ensures) (c .before .null-absent .ensures ns) (c .if3 .left)
+
+pub member-found-spec : {M : Type 1} → statement M
+member-found-spec =
+    tie.close
+    (tie.spec
+    may-miss-requires
+    returns
+    returns-2
+    null-at-requires
+    null-absent-requires
+    returns-3
+    returns-4)

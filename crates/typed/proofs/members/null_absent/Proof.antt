@@ -1,0 +1,31 @@
+use Rattle.jer.specs.Read.{nullAbsent}
+use borrow.Author.Needs.{needs}
+use Rattle.typed.proofs.members.null_absent.Statement.{statement}
+use Rattle.typed.proofs.members.null_absent.Tie as tie
+use Rattle.typed.proofs.members.null_absent.Reads as reads
+use Rattle.typed.proofs.members.null_absent.Lts as lts
+use Rattle.types.proofs.row.Row.optional.Reads as optional-reads
+use Rattle.types.proofs.row.member_at.Reads as member-at-reads
+use Rattle.types.proofs.row.type_at.Reads as type-at-reads
+use Rattle.types.proofs.token.null_taken.Reads as null-taken-reads
+
+member-at-requires : tie.Need-member-at-requires
+member-at-requires c κs = search needs
+
+optional-requires : tie.Need-optional-requires
+optional-requires c κs = search needs
+
+type-at-requires : tie.Need-type-at-requires
+type-at-requires c κs = search needs
+
+null-taken-requires : tie.Need-null-taken-requires
+null-taken-requires c κs = search needs
+
+returns : tie.Need-returns
+unfolding nullAbsent
+returns c = λ ns. rw (c .before .before .optional .ensures _ _ _ (c .before .before .before .member-at .ensures ns), c .null-taken .ensures ns, c .before .type-at .ensures ns)
+
+pub null-absent-spec : {M : Type 1} → statement M
+null-absent-spec =
+    tie.close
+    (tie.spec member-at-requires optional-requires type-at-requires null-taken-requires returns)

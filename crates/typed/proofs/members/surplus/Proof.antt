@@ -1,0 +1,58 @@
+use Rattle.typed.proofs.FoundLaws.{surplus-none, surplus-past, surplus-stops}
+use Rattle.scan.specs.Enums.{followsOf}
+use Rattle.types.specs.Rows.{table}
+use mathlib.Core.Path.{sym, ap, _∙_}
+use borrow.Author.Needs.{needs}
+use Rattle.typed.proofs.members.surplus.Statement.{statement}
+use Rattle.typed.proofs.members.surplus.Tie as tie
+use Rattle.typed.proofs.members.surplus.Reads as reads
+use Rattle.typed.proofs.members.surplus.Lts as lts
+use Rattle.tokens.proofs.skip.skip_bracket.Reads as skip-bracket-reads
+use Rattle.types.proofs.row.Row.at.Reads as at-reads
+use Rattle.types.proofs.row.Row.extensible.Reads as extensible-reads
+
+enum-known-next : tie.Need-enum-known-next
+enum-known-next c = search needs
+
+enum-known-next-2 : tie.Need-enum-known-next-2
+enum-known-next-2 c = search needs
+
+at-requires : tie.Need-at-requires
+at-requires c κs = search needs
+
+extensible-requires : tie.Need-extensible-requires
+extensible-requires c κs = search needs
+
+skip-bracket-requires : tie.Need-skip-bracket-requires
+skip-bracket-requires c κs = search needs
+
+returns : tie.Need-returns
+returns c =
+    let c₅ = c .before .before .before .before .before in
+    let entry = c₅ .before .before .before .before in
+    λ ns. surplus-past (entry .args .depth) (table (entry .args .types .now) ns) (entry .args .s .now) (entry .args .row) (ap followsOf (c₅ .next2 .given .1)) (sym (c .before .before .extensible .ensures _ _ (c .before .before .before .at .ensures ns)) ∙ c .before .if1 .taken) (entry .pre .1) (c .skip-bracket .ensures)
+
+returns-2 : tie.Need-returns-2
+returns-2 c =
+    let c₅ = c .before .before .before .before .before in
+    let entry = c₅ in
+    λ ns. surplus-none (entry .args .depth) (table (entry .args .types .now) ns) (entry .args .s .now) (entry .args .row) (ap followsOf (c .before .next .given .1))
+
+returns-3 : tie.Need-returns-3
+returns-3 c =
+    let c₅ = c .before .before .before .before .before in
+    let entry = c₅ .before .before .before in
+    λ ns. surplus-stops (entry .args .depth) (table (entry .args .types .now) ns) (entry .args .s .now) (entry .args .row) (ap followsOf (c .before .before .before .before .next2 .given .1)) (sym (c .before .extensible .ensures _ _ (c .before .before .at .ensures ns)) ∙ c .if1 .left)
+
+pub surplus-spec : {M : Type 1} → statement M
+surplus-spec =
+    tie.close
+    (tie.spec
+    enum-known-next
+    enum-known-next-2
+    at-requires
+    extensible-requires
+    skip-bracket-requires
+    returns
+    returns-2
+    returns-3)

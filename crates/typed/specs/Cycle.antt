@@ -1,0 +1,57 @@
+-- What each reader of the cycle is given, and what it does; how a value is closed above its parts.
+use Prim.Native.Nat.{ℕ, zero, suc, _+_, _-_, _*_, _^_, _≤_, _<_}
+use mathlib.Core.Path.{_≡_}
+use mathlib.Core.Bool.{true, false, _&&_}
+use mathlib.Core.List.{List, [], _∷_}
+use lib.Dec.{ltb}
+use lib.ListN.{length}
+use lib.Seq.{sets}
+use Rattle.jer.specs.declared.Limit.the-variants.{LentRoom}
+use Rattle.jer.specs.declared.Refusal.{Refusal}
+use Rattle.jer.specs.declared.Refusal.the-variants.{Amounts}
+use Rattle.jer.specs.Table.{Table, isType, Token, SEQUENCE}
+use Rattle.jer.specs.Value.{Val, Parts, pnil}
+use Rattle.jer.specs.Answer.{Res, ok, no}
+use Rattle.jer.proofs.Sane.{Sane}
+use Rattle.places.specs.ByPlaces.{Got, got, Reader, shallowAt, bracketAt, readAt}
+use Rattle.leaf.specs.declared.Step.{Step}
+use Rattle.leaf.specs.declared.Step.the-variants.{Read, Refused}
+use Rattle.leaf.specs.Step.{Stepped}
+
+-- a good table, a type's row, a text and a place within the sizes; and room to count: each bracket adds less than 2^49 rows and bytes
+pub record Given (t : Table) (s : List ℕ) (row p i o depth : ℕ) : Type 0 where
+  pub sane : Sane t
+  pub typed : isType t row ≡ true
+  pub short : length s ≤ 65536
+  pub place : p ≤ 4294967295
+  pub rowRoom : i + depth * 562949953421312 ≤ 72057594037927936
+  pub byteRoom : o + depth * 562949953421312 ≤ 72057594037927936
+
+-- a value at p ends here, or one place further for each bracket that the text leaves open
+abbrev pub limit : ℕ → ℕ
+limit p = p + (65539 - p)
+
+-- an answer whose numbers are small
+abbrev pub Small : ℕ → Step → Type 0
+Small b (Read q n m) = (q ≤ b) × (n < 2 ^ 32) × (m < 2 ^ 32)
+Small b (Refused e) = Unit {0}
+
+-- what a reader of the cycle does: it reads x, and its answer is small
+pub record Reads (z : Step) (rows₁ rows₀ pool₁ pool₀ : List ℕ) (i o b : ℕ) (t : Table) (r : ℕ) (x : Res (Got Val)) : Type 0 where
+  pub stepped : Stepped z rows₁ rows₀ pool₁ pool₀ i o t r x
+  pub small : Small b z
+
+-- the value of a token, whose type is not UNWRAPPED, in which so many brackets may be open
+unfoldable pub plainAt : ℕ → Table → List ℕ → Token → Reader
+plainAt zero t s k r p = shallowAt t s k r p
+plainAt (suc d) t s k r p = bracketAt (λ q u. readAt d t s q u) d t s k r p
+
+-- `within` of `ByPlaces.antt`, of an answer
+unfoldable pub bounded : Step → Step
+bounded (Read q n m) = elim (ltb n (2 ^ 32) && ltb m (2 ^ 32)) [ true ↦ Read q n m | false ↦ Refused (Amounts LentRoom (2 ^ 32) (2 ^ 32)) ]
+bounded (Refused e) = Refused e
+
+-- what closing an array after its last member does, by what is surplus: it is refused, or the array's own row is stored above n rows
+pub data ArrayEnd (z : Step) (rows₁ rows₀ : List ℕ) (i a n m : ℕ) (x : Res (Got Parts)) : Type 0 where
+  stops : {e : Refusal} → no e ≡ x → z ≡ Refused e → ArrayEnd z rows₁ rows₀ i a n m x
+  closes : {q : ℕ} → ok (got pnil q) ≡ x → z ≡ bounded (Read q (n + 1) m) → (n + 1 < 2 ^ 32 → rows₁ ≡ sets rows₀ (i * 4) (SEQUENCE ∷ a ∷ 0 ∷ (n + 1) ∷ [])) → ArrayEnd z rows₁ rows₀ i a n m x
