@@ -3,7 +3,6 @@ use tokens::cursor::Cursor;
 use tokens::strings::same;
 use tokens::strings::string_end;
 use types::row::field;
-use types::row::member_row;
 use types::row::wide;
 use types::token::Found;
 ghost use mathlib.Core.Path.{_≡_};
@@ -31,10 +30,11 @@ pub fn position(types: &[u32], names: &[u8], s: &[u8], row: usize, q: usize) -> 
     requires { ⌜ (length (now s) ≤ 65536) × (q ≤ 65536) ⌝ }
     ensures { λ r. ⌜ r ≡ foundOf (position (table (now (types .entry)) (now (names .entry))) row (denoted (now (s .entry)) (q + 1))) ⌝ }
 {
+    let first = wide(field(types, row, 2));
     let count = field(types, row, 3);
     let mut i: u32 = 0;
     while i < count {
-        let m = member_row(types, row, i);
+        let m = first + wide(i);
         let start = wide(field(types, m, 3));
         let len = wide(field(types, m, 4));
         if same(s, q + 1, names, start, len) {

@@ -2,7 +2,7 @@
 use mathlib.Core.Path.{_≡_, refl, sym, ap, _∙_}
 use mathlib.Core.List.{List, [], _∷_, _++_}
 use mathlib.Core.Bool.{Bool, true, false}
-use Prim.Native.Nat.{ℕ, suc, _+_, _-_, _<_, _≤_}
+use Prim.Native.Nat.{ℕ, zero, suc, _+_, _-_, _<_, _≤_}
 use native.Mathlib.Nat.{add-zero, add-suc}
 use native.Mathlib.Numerals.{add-one}
 use native.Mathlib.Omega.{arith}
@@ -81,6 +81,12 @@ module _ (l : List ℕ) (k b : ℕ) (ys : List ℕ) where
   pub same-differ : k < length l → (getD l k 0 ≡ b → ⊥) → false ≡ sameBytes (drop k l) (b ∷ ys)
   unfolding sameBytes
   same-differ h e = rw (drop-cons l k 0 h, ne-eqb (getD l k 0) b e, sameBytes)
+
+  -- a part of l whose first byte is another one
+  pub same-first : (n : ℕ) → k < length l → (getD l k 0 ≡ b → ⊥) → sameBytes (take n (drop k l)) (b ∷ ys) ≡ false
+  unfolding sameBytes
+  same-first zero h e = refl
+  same-first (suc n) h e = rw (drop-cons l k 0 h, ne-eqb (getD l k 0) b e, sameBytes)
 
 -- bytes that begin with x
 same-cut : (x l ys : List ℕ) → begins x l ≡ true → (sameBytes l (x ++ ys) ≡ sameBytes (drop (length x) l) ys) × (length x ≤ length l)

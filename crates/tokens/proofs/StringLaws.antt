@@ -19,7 +19,7 @@ use Rattle.tokens.specs.Places.{byteAt}
 use Rattle.tokens.specs.Strings.{digitAt, unitAt, letterOf, isHigh, Piece, close, bare, escaped, unitPiece, escapeAt, pieceAt, denotedIn, denoted, closeIn, stringEnd, begins}
 use Rattle.tokens.specs.Enums.{Encodes}
 use Rattle.tokens.proofs.PlaceLaws.{byte-inside, byte-past, inside}
-use Rattle.tokens.proofs.SliceLaws.{same-end, same-short, same-more, same-differ, same-begins, same-room, same-other, sets-append}
+use Rattle.tokens.proofs.SliceLaws.{same-end, same-short, same-more, same-differ, same-first, same-begins, same-room, same-other, sets-append}
 
 -- ---- rows of a table
 
@@ -285,6 +285,11 @@ module _ (s : List ℕ) (p : ℕ) where
       go : (n : ℕ) → length s ≡ n → (p < length s) × (p < q) → denotedIn n s p ≡ encode x ++ denotedIn n s q
       go zero h l = absurd (omega arith)
       go (suc n) h l = rw (← e, denotedIn) (ap (λ (l : List ℕ). encode x ++ l) (denoted-more s n q (omega arith)))
+
+-- a string whose first byte stands for itself, against bytes that begin with another one
+pub denoted-other : (s : List ℕ) (p : ℕ) (names : List ℕ) (from : ℕ) {b : ℕ} → bare b ≡ pieceAt s p → from < length names → (getD names from 0 ≡ b → ⊥)
+    → (n : ℕ) → sameBytes (take n (drop from names)) (denoted s p) ≡ false
+denoted-other s p names from {b} e h d n = rw (denoted-bare s p b e) (same-first names from b (denoted s (p + 1)) n h d)
 
 -- ---- the end of a string
 

@@ -1,12 +1,13 @@
 // Strings, from the place after the opening quotation mark: the characters that they denote, compared, counted and copied.
 ghost use mathlib.Core.Path.{_≡_};
-ghost use Prim.Native.Nat.{_≤_, _<_};
+ghost use mathlib.Core.Bool.{true, false};
+ghost use Prim.Native.Nat.{ℕ, _≤_, _<_};
 ghost use lib.ListN.{length, take, drop};
 ghost use lib.Seq.{sets};
 ghost use Rattle.json.specs.Utf8.{encode};
 ghost use Rattle.json.specs.Grammar.{paired};
 ghost use Rattle.jer.specs.Table.{sameBytes};
-ghost use Rattle.tokens.specs.Strings.{digitAt, unitAt, letterOf, escapeAt, pieceAt, denoted, stringEnd};
+ghost use Rattle.tokens.specs.Strings.{digitAt, unitAt, letterOf, escaped, escapeAt, pieceAt, denoted, stringEnd};
 ghost use Rattle.tokens.specs.Enums.{pieceOf, Coded, Encodes};
 use crate::cursor::byte_at;
 use crate::slices::part;
@@ -93,24 +94,42 @@ fn pair(high: u32, low: u32) -> u32
     }
 }
 
+// An escaped character, and the place after it.
+pub struct Unescaped {
+    pub code: u32,
+    pub next: usize,
+}
+
 // What a backslash before p makes.
-fn escape(s: &[u8], p: usize) -> Piece
+fn escape(s: &[u8], p: usize) -> Unescaped
     requires { ⌜ p ≤ 65536 ⌝ }
-    ensures { λ r. ⌜ pieceOf r ≡ escapeAt (now (s .entry)) p ⌝ }
-    ensures { λ r. ⌜ Coded r ⌝ }
+    ensures { λ r. ⌜ escaped (r .code) (r .next) ≡ escapeAt (now (s .entry)) p ⌝ }
+    ensures { λ r. ⌜ r .code < 2097152 ⌝ }
 {
     let b = byte_at(s, p);
     if b != 0x75 {
-        return Piece::Escaped(letter(b), p + 1);
+        return Unescaped {
+            code: letter(b),
+            next: p + 1,
+        };
     }
     let x = unit(s, p + 1);
     if x < 0xD800 {
-        return Piece::Escaped(x, p + 5);
+        return Unescaped {
+            code: x,
+            next: p + 5,
+        };
     }
     if 0xDBFF < x {
-        return Piece::Escaped(x, p + 5);
+        return Unescaped {
+            code: x,
+            next: p + 5,
+        };
     }
-    Piece::Escaped(pair(x, unit(s, p + 7)), p + 11)
+    Unescaped {
+        code: pair(x, unit(s, p + 7)),
+        next: p + 11,
+    }
 }
 
 // The piece at p.
@@ -127,7 +146,8 @@ pub fn piece_at(s: &[u8], p: usize) -> Piece
         return Piece::Close;
     }
     if b == 0x5C {
-        return escape(s, p + 1);
+        let e = escape(s, p + 1);
+        return Piece::Escaped(e.code, e.next);
     }
     Piece::Bare(b)
 }
@@ -176,33 +196,53 @@ pub fn same_as(s: &[u8], p: usize, name: &[u8]) -> bool
 {
     let mut i = p;
     let mut k = 0;
-    loop {
-        match piece_at(s, i) {
-            Piece::Close => {
-                return k == name.len();
+    while i < s.len() {
+        let b = s[i];
+        if b == 0x22 {
+            return k == name.len();
+        }
+        if b == 0x5C {
+            let e = escape(s, i + 1);
+            let u = encoded(e.code);
+            let bytes = u.bytes;
+            let len = u.len;
+            if !starts(name, k, &bytes[..len]) {
+                return false;
             }
-            Piece::Bare(b) => {
-                if name.len() <= k {
-                    return false;
-                }
-                if name[k] != b {
-                    return false;
-                }
-                k += 1;
-                i += 1;
+            k += len;
+            i = e.next;
+        } else {
+            if name.len() <= k {
+                return false;
             }
-            Piece::Escaped(x, q) => {
-                let e = encoded(x);
-                let bytes = e.bytes;
-                let len = e.len;
-                if !starts(name, k, &bytes[..len]) {
-                    return false;
-                }
-                k += len;
-                i = q;
+            if name[k] != b {
+                return false;
             }
+            k += 1;
+            i += 1;
         }
     }
+    k == name.len()
+}
+
+// Whether the string's first byte stands for itself and is another one than that of the names at `from`.
+fn first_differs(s: &[u8], p: usize, names: &[u8], from: usize) -> bool
+    ensures { λ r. ⌜ (r ≡ true → (n : ℕ) → sameBytes (take n (drop from (now (names .entry)))) (denoted (now (s .entry)) p) ≡ false) ⌝ }
+{
+    if s.len() <= p {
+        return false;
+    }
+    if names.len() <= from {
+        return false;
+    }
+    let b = s[p];
+    if b == 0x22 {
+        return false;
+    }
+    if b == 0x5C {
+        return false;
+    }
+    names[from] != b
 }
 
 // Whether the string at p denotes the name that stands in `names` at `from`, len bytes long.
@@ -210,6 +250,9 @@ pub fn same(s: &[u8], p: usize, names: &[u8], from: usize, len: usize) -> bool
     requires { ⌜ length (now s) ≤ 65536 ⌝ }
     ensures { λ r. ⌜ r ≡ sameBytes (take len (drop from (now (names .entry)))) (denoted (now (s .entry)) p) ⌝ }
 {
+    if first_differs(s, p, names, from) {
+        return false;
+    }
     let name = part(names, from, len);
     same_as(s, p, name)
 }
@@ -221,22 +264,22 @@ pub fn count(s: &[u8], p: usize) -> usize
 {
     let mut i = p;
     let mut n = 0;
-    loop {
-        match piece_at(s, i) {
-            Piece::Close => {
-                return n;
-            }
-            Piece::Bare(_) => {
-                n += 1;
-                i += 1;
-            }
-            Piece::Escaped(x, q) => {
-                let e = encoded(x);
-                n += e.len;
-                i = q;
-            }
+    while i < s.len() {
+        let b = s[i];
+        if b == 0x22 {
+            return n;
+        }
+        if b == 0x5C {
+            let e = escape(s, i + 1);
+            let u = encoded(e.code);
+            n += u.len;
+            i = e.next;
+        } else {
+            n += 1;
+            i += 1;
         }
     }
+    n
 }
 
 // Stores the bytes that the string at p denotes, from j on, as far as there is room. Returns how many they are.
@@ -247,24 +290,24 @@ pub fn copy(s: &[u8], p: usize, pool: &mut [u8], j: usize) -> usize
 {
     let mut i = p;
     let mut n = 0;
-    loop {
-        match piece_at(s, i) {
-            Piece::Close => {
-                return n;
-            }
-            Piece::Bare(b) => {
-                put(pool, j + n, b);
-                n += 1;
-                i += 1;
-            }
-            Piece::Escaped(x, q) => {
-                let e = encoded(x);
-                let bytes = e.bytes;
-                let len = e.len;
-                put_all(pool, j + n, &bytes[..len]);
-                n += len;
-                i = q;
-            }
+    while i < s.len() {
+        let b = s[i];
+        if b == 0x22 {
+            return n;
+        }
+        if b == 0x5C {
+            let e = escape(s, i + 1);
+            let u = encoded(e.code);
+            let bytes = u.bytes;
+            let len = u.len;
+            put_all(pool, j + n, &bytes[..len]);
+            n += len;
+            i = e.next;
+        } else {
+            put(pool, j + n, b);
+            n += 1;
+            i += 1;
         }
     }
+    n
 }

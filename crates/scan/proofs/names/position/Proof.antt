@@ -6,6 +6,7 @@ use native.Mathlib.Omega.{arith}
 use Rattle.jer.specs.Table.{firstWhere, position}
 use Rattle.tokens.specs.Strings.{denoted}
 use Rattle.types.specs.Rows.{table, foundOf}
+use Rattle.types.proofs.RowLaws.{member-row}
 use Rattle.types.proofs.LoopLaws.{first-next, first-found, first-ends}
 use Rattle.scan.proofs.NameLaws.{named, named-is, position-starts}
 use borrow.Author.Needs.{needs}
@@ -17,37 +18,48 @@ abbrev test : List ℕ → List ℕ → List ℕ → ℕ → ℕ → ℕ → Boo
 test types names s row q = named (table types names) row (denoted s (q + 1))
 
 abbrev Inv-loop : tie.InvT-loop
-Inv-loop types names s row q count i₀ i = firstWhere (test types names s row q) i (count - i) ≡ position (table types names) row (denoted s (q + 1))
+Inv-loop types names s row q first count i₀ i = firstWhere (test types names s row q) i (count - i) ≡ position (table types names) row (denoted s (q + 1))
 
 abbrev μ-loop : tie.MeasureT-loop
-μ-loop types names s row q count i₀ i = count - i
+μ-loop types names s row q first count i₀ i = count - i
 
-compared : (c : tie.After-same Inv-loop μ-loop) → let a = c .before .before .before .before .before .before .before .before .before .before .before .before .args in c .same .result ≡ test (a .types .now) (a .names .now) (a .s .now) (a .row) (a .q) (c .before .before .before .before .before .before .before .loop .i)
+compared : (c : tie.After-same Inv-loop μ-loop) → let a = c .before .before .before .before .before .before .before .before .before .before .before .before .before .before .args in c .same .result ≡ test (a .types .now) (a .names .now) (a .s .now) (a .row) (a .q) (c .before .before .before .before .before .before .before .loop .i)
 compared c =
-    let a = c .before .before .before .before .before .before .before .before .before .before .before .before .args in
+    let a = c .before .before .before .before .before .before .before .before .before .before .before .before .before .before .args in
     let ns = a .names .now in
-    named-is (a .types .now) ns (a .row) (c .before .before .before .before .before .before .before .loop .i) (denoted (a .s .now) (a .q + 1)) (c .before .before .before .before .before .member-row .ensures ns) (c .before .before .before .before .field2 .ensures ns) (c .before .before .before .wide .ensures .0) (c .before .before .field3 .ensures ns) (c .before .wide2 .ensures .0) (c .same .ensures)
+    let i = c .before .before .before .before .before .before .before .loop .i in
+    let m = member-row (a .types .now) ns (a .row) i (c .before .before .before .before .before .before .before .before .before .before .field .ensures ns) (c .before .before .before .before .before .before .before .before .before .wide .ensures .0) (c .before .before .before .before .before .wide2 .ensures .0) in
+    named-is (a .types .now) ns (a .row) i (denoted (a .s .now) (a .q + 1)) m (c .before .before .before .before .field3 .ensures ns) (c .before .before .before .wide3 .ensures .0) (c .before .before .field4 .ensures ns) (c .before .wide4 .ensures .0) (c .same .ensures)
 
 field-requires : tie.Need-field-requires Inv-loop μ-loop
 field-requires c κs = search needs
 
-loop-holds : tie.Need-loop-holds Inv-loop μ-loop
-loop-holds c = let a = c .before .before .before .before .args in position-starts (table (a .types .now) (a .names .now)) (a .row) (denoted (a .s .now) (a .q + 1)) (c .field .ensures (a .names .now))
-
-member-row-requires : tie.Need-member-row-requires Inv-loop μ-loop
-member-row-requires c κs = search needs
+wide-requires : tie.Need-wide-requires Inv-loop μ-loop
+wide-requires c κs = search needs
 
 field-requires-2 : tie.Need-field-requires-2 Inv-loop μ-loop
 field-requires-2 c κs = search needs
 
-wide-requires : tie.Need-wide-requires Inv-loop μ-loop
-wide-requires c κs = search needs
+loop-holds : tie.Need-loop-holds Inv-loop μ-loop
+loop-holds c = let a = c .before .before .before .before .before .before .args in position-starts (table (a .types .now) (a .names .now)) (a .row) (denoted (a .s .now) (a .q + 1)) (c .field2 .ensures (a .names .now))
+
+wide-requires-2 : tie.Need-wide-requires-2 Inv-loop μ-loop
+wide-requires-2 c κs = search needs
+
+add-m : tie.Need-add-m Inv-loop μ-loop
+add-m c = search needs
 
 field-requires-3 : tie.Need-field-requires-3 Inv-loop μ-loop
 field-requires-3 c κs = search needs
 
-wide-requires-2 : tie.Need-wide-requires-2 Inv-loop μ-loop
-wide-requires-2 c κs = search needs
+wide-requires-3 : tie.Need-wide-requires-3 Inv-loop μ-loop
+wide-requires-3 c κs = search needs
+
+field-requires-4 : tie.Need-field-requires-4 Inv-loop μ-loop
+field-requires-4 c κs = search needs
+
+wide-requires-4 : tie.Need-wide-requires-4 Inv-loop μ-loop
+wide-requires-4 c κs = search needs
 
 add-same : tie.Need-add-same Inv-loop μ-loop
 add-same c = search needs
@@ -58,8 +70,9 @@ same-requires c κs = search needs
 returns : tie.Need-returns Inv-loop μ-loop
 unfolding foundOf
 returns c =
-    let a = c .before .before .before .before .before .before .before .before .before .before .before .before .before .args in
-    ap foundOf (first-found (test (a .types .now) (a .names .now) (a .s .now) (a .row) (a .q)) (c .before .before .before .before .before .before .before .before .loop .i) (c .before .before .before .before .before .before .before .before .before .field .result) (c .before .before .before .before .before .before .before .loop-test .taken) (compared (c .before)) (c .if1 .taken) (c .before .before .before .before .before .before .before .before .loop .inv))
+    let a = c .before .before .before .before .before .before .before .before .before .before .before .before .before .before .before .args in
+    let l = c .before .before .before .before .before .before .before .before .loop in
+    ap foundOf (first-found (test (a .types .now) (a .names .now) (a .s .now) (a .row) (a .q)) (l .i) (c .before .before .before .before .before .before .before .before .before .field2 .result) (c .before .before .before .before .before .before .before .loop-test .taken) (compared (c .before)) (c .if1 .taken) (l .inv))
 
 add-i : tie.Need-add-i Inv-loop μ-loop
 add-i c = search needs
@@ -69,14 +82,16 @@ loop-less c = omega arith
 
 loop-again : tie.Need-loop-again Inv-loop μ-loop
 loop-again c =
-    let a = c .before .before .before .before .before .before .before .before .before .before .before .before .before .args in
-    first-next (test (a .types .now) (a .names .now) (a .s .now) (a .row) (a .q)) (c .before .before .before .before .before .before .before .before .loop .i) (c .before .before .before .before .before .before .before .before .before .field .result) (c .before .before .before .before .before .before .before .loop-test .taken) (compared (c .before)) (c .if1 .left) (c .before .before .before .before .before .before .before .before .loop .inv)
+    let a = c .before .before .before .before .before .before .before .before .before .before .before .before .before .before .before .args in
+    let l = c .before .before .before .before .before .before .before .before .loop in
+    first-next (test (a .types .now) (a .names .now) (a .s .now) (a .row) (a .q)) (l .i) (c .before .before .before .before .before .before .before .before .before .field2 .result) (c .before .before .before .before .before .before .before .loop-test .taken) (compared (c .before)) (c .if1 .left) (l .inv)
 
 returns-2 : tie.Need-returns-2 Inv-loop μ-loop
 unfolding foundOf
 returns-2 c =
-    let a = c .before .before .before .before .before .before .args in
-    ap foundOf (first-ends (test (a .types .now) (a .names .now) (a .s .now) (a .row) (a .q)) (c .before .loop .i) (c .before .before .field .result) (c .loop-test .left) (c .before .loop .inv))
+    let a = c .before .before .before .before .before .before .before .before .args in
+    let l = c .before .loop in
+    ap foundOf (first-ends (test (a .types .now) (a .names .now) (a .s .now) (a .row) (a .q)) (l .i) (c .before .before .field2 .result) (c .loop-test .left) (l .inv))
 
 pub position-spec : {M : Type 1} → statement M
 position-spec =
@@ -85,12 +100,15 @@ position-spec =
     Inv-loop
     μ-loop
     field-requires
-    loop-holds
-    member-row-requires
-    field-requires-2
     wide-requires
-    field-requires-3
+    field-requires-2
+    loop-holds
     wide-requires-2
+    add-m
+    field-requires-3
+    wide-requires-3
+    field-requires-4
+    wide-requires-4
     add-same
     same-requires
     returns

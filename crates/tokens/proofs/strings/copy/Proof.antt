@@ -1,10 +1,9 @@
 use borrow.Author.Needs.{needs}
 use Prim.Native.Nat.{_-_}
-use mathlib.Core.Path.{sym, ap, subst, _∙_}
+use mathlib.Core.Path.{sym, _∙_}
 use native.Mathlib.Omega.{arith}
 use lib.ListN.{length}
-use Rattle.tokens.specs.Enums.{pieceOf, Coded}
-use Rattle.tokens.proofs.StringLaws.{bare-inside, escaped-inside, encodes-length, counting-close, Copying, copying-start, copying-close, copying-bare, copying-escaped}
+use Rattle.tokens.proofs.StringLaws.{piece-past, piece-quote, piece-escape, piece-bare, escaped-inside, encodes-length, counting-close, Copying, copying-start, copying-close, copying-bare, copying-escaped}
 use Rattle.tokens.proofs.strings.copy.Statement.{statement}
 use Rattle.tokens.proofs.strings.copy.Tie as tie
 
@@ -15,119 +14,88 @@ abbrev μ-loop : tie.MeasureT-loop
 μ-loop s p pool₀ j i₀ n₀ pool i n = length s - i
 
 loop-holds : tie.Need-loop-holds Inv-loop μ-loop
-loop-holds c = copying-start (c .before .before .args .s .now) (c .before .before .args .p) (c .before .before .args .pool .now) (c .before .before .args .j)
+loop-holds c =
+    let a = c .before .before .args in
+    copying-start (a .s .now) (a .p) (a .pool .now) (a .j)
 
-piece-at-requires : tie.Need-piece-at-requires Inv-loop μ-loop
-piece-at-requires c κs = search needs
-
-enum-told : tie.Need-enum-told Inv-loop μ-loop
-enum-told c = search needs
+shared-slice-read-b : tie.Need-shared-slice-read-b Inv-loop μ-loop
+shared-slice-read-b c = search needs
 
 same-length : tie.Need-same-length Inv-loop μ-loop
-same-length c =
-    let inv = c .before .before .before .loop .inv in
-    inv .kept
+same-length c = c .before .before .before .loop .inv .kept
 
 returns : tie.Need-returns Inv-loop μ-loop
 returns c =
-    let inv = c .before .before .before .loop .inv in
-    let r = c .before .before .piece-at .ensures in
-    let close = sym (ap pieceOf (c .enum-told .given .1)) ∙ r .0 in
-    (counting-close (inv .counting) close, copying-close inv close)
+    let l = c .before .before .before .loop in
+    let here = piece-quote (c .before .before .before .before .before .before .args .s .now) (l .i) (c .before .before .loop-test .taken) (c .if1 .taken) in
+    (counting-close (l .inv .counting) here, copying-close (l .inv) here)
 
-enum-known-b : tie.Need-enum-known-b Inv-loop μ-loop
-enum-known-b c = search needs
+add-escape : tie.Need-add-escape Inv-loop μ-loop
+add-escape c = search needs
+
+escape-requires : tie.Need-escape-requires Inv-loop μ-loop
+escape-requires c κs = search needs
+
+encoded-requires : tie.Need-encoded-requires Inv-loop μ-loop
+encoded-requires c κs = c .escape .ensures .1
+
+add-put-all : tie.Need-add-put-all Inv-loop μ-loop
+add-put-all c = omega (arith, c .before .before .before .before .before .before .before .before .loop .inv .counting)
+
+array-share-prefix-bytes : tie.Need-array-share-prefix-bytes Inv-loop μ-loop
+array-share-prefix-bytes c = c .before .before .encoded .ensures .room
+
+slice-aggregate-put-all : tie.Need-slice-aggregate-put-all Inv-loop μ-loop
+slice-aggregate-put-all c = sym (encodes-length (c .before .before .before .encoded .ensures))
+
+put-all-requires : tie.Need-put-all-requires Inv-loop μ-loop
+put-all-requires c κs =
+    let f = c .before .before .before .encoded .ensures in
+    omega (arith, encodes-length f, f .few, c .before .before .before .before .before .before .before .before .before .loop .inv .counting, c .before .before .before .before .before .before .before .before .before .before .before .before .pre)
+
+add-n : tie.Need-add-n Inv-loop μ-loop
+add-n c = omega (arith, c .before .before .before .before .before .before .encoded .ensures .few, c .before .before .before .before .before .before .before .before .before .before .before .before .loop .inv .counting, c .before .before .before .before .before .before .before .before .before .before .before .before .before .before .before .pre)
+
+loop-less : tie.Need-loop-less Inv-loop μ-loop
+loop-less c =
+    let here = c .before .before .before .before .before .before .before .escape .ensures .0 ∙ piece-escape (c .before .before .before .before .before .before .before .before .before .before .before .before .before .before .before .args .s .now) (c .before .before .before .before .before .before .before .before .before .before .before .before .loop .i) (c .before .before .before .before .before .before .before .before .before .before .before .loop-test .taken) (c .before .before .before .before .before .before .before .before .if2 .taken) in
+    omega (arith, escaped-inside _ _ here)
+
+loop-again : tie.Need-loop-again Inv-loop μ-loop
+loop-again c =
+    let l = c .before .before .before .before .before .before .before .before .before .before .before .before .loop in
+    let here = c .before .before .before .before .before .before .before .escape .ensures .0 ∙ piece-escape (c .before .before .before .before .before .before .before .before .before .before .before .before .before .before .before .args .s .now) (l .i) (c .before .before .before .before .before .before .before .before .before .before .before .loop-test .taken) (c .before .before .before .before .before .before .before .before .if2 .taken) in
+    copying-escaped (l .inv) here (c .before .before .before .before .before .before .encoded .ensures) (c .before .before .put-all .ensures) (c .before .before .put-all .kept .0)
 
 add-put : tie.Need-add-put Inv-loop μ-loop
-add-put c =
-    let inv = c .before .before .before .before .before .loop .inv in
-    let r = c .before .before .before .before .piece-at .ensures in
-    let bare = sym (ap pieceOf (c .before .before .b .given .1)) ∙ r .0 in
-    omega (arith, bare-inside _ _ bare, inv .counting)
+add-put c = omega (arith, c .before .before .before .before .before .loop .inv .counting)
 
 put-requires : tie.Need-put-requires Inv-loop μ-loop
 put-requires c κs = search needs
 
-add-n : tie.Need-add-n Inv-loop μ-loop
-add-n c =
-    let inv = c .before .before .before .before .before .before .before .before .loop .inv in
-    let r = c .before .before .before .before .before .before .before .piece-at .ensures in
-    let bare = sym (ap pieceOf (c .before .before .before .before .before .b .given .1)) ∙ r .0 in
-    omega (arith, bare-inside _ _ bare, inv .counting, c .before .before .before .before .before .before .before .before .before .before .before .pre)
+add-n-2 : tie.Need-add-n-2 Inv-loop μ-loop
+add-n-2 c = omega (arith, c .before .before .before .before .before .before .before .before .loop .inv .counting, c .before .before .before .before .before .before .before .before .before .before .before .pre)
 
 add-i : tie.Need-add-i Inv-loop μ-loop
-add-i c =
-    let r = c .before .before .before .before .before .before .before .piece-at .ensures in
-    let bare = sym (ap pieceOf (c .before .before .before .before .before .b .given .1)) ∙ r .0 in
-    omega (arith, bare-inside _ _ bare, c .before .before .before .before .before .before .before .before .before .before .before .pre)
-
-loop-less : tie.Need-loop-less Inv-loop μ-loop
-loop-less c =
-    let r = c .before .before .before .before .before .before .before .piece-at .ensures in
-    let bare = sym (ap pieceOf (c .before .before .before .before .before .b .given .1)) ∙ r .0 in
-    omega (arith, bare-inside _ _ bare)
-
-loop-again : tie.Need-loop-again Inv-loop μ-loop
-loop-again c =
-    let inv = c .before .before .before .before .before .before .before .before .loop .inv in
-    let r = c .before .before .before .before .before .before .before .piece-at .ensures in
-    let bare = sym (ap pieceOf (c .before .before .before .before .before .b .given .1)) ∙ r .0 in
-    copying-bare inv bare (c .before .before .put .ensures) (c .before .before .put .kept .0)
-
-enum-known-x : tie.Need-enum-known-x Inv-loop μ-loop
-enum-known-x c = search needs
-
-encoded-requires : tie.Need-encoded-requires Inv-loop μ-loop
-encoded-requires c κs =
-    let r = c .before .before .before .piece-at .ensures in
-    subst Coded (c .before .x .given .1) (r .1)
-
-add-put-all : tie.Need-add-put-all Inv-loop μ-loop
-add-put-all c =
-    let inv = c .before .before .before .before .before .before .before .loop .inv in
-    let r = c .before .before .before .before .before .before .piece-at .ensures in
-    let escaped = sym (ap pieceOf (c .before .before .before .before .x .given .1)) ∙ r .0 in
-    omega (arith, escaped-inside _ _ escaped, inv .counting)
-
-array-share-prefix-bytes : tie.Need-array-share-prefix-bytes Inv-loop μ-loop
-array-share-prefix-bytes c =
-    let f = c .before .before .encoded .ensures in
-    f .room
-
-slice-aggregate-put-all : tie.Need-slice-aggregate-put-all Inv-loop μ-loop
-slice-aggregate-put-all c =
-    let f = c .before .before .before .encoded .ensures in
-    sym (encodes-length f)
-
-put-all-requires : tie.Need-put-all-requires Inv-loop μ-loop
-put-all-requires c κs =
-    let inv = c .before .before .before .before .before .before .before .before .loop .inv in
-    let r = c .before .before .before .before .before .before .before .piece-at .ensures in
-    let escaped = sym (ap pieceOf (c .before .before .before .before .before .x .given .1)) ∙ r .0 in
-    let f = c .before .before .before .encoded .ensures in
-    omega (arith, escaped-inside _ _ escaped, encodes-length f, f .few, inv .counting, c .before .before .before .before .before .before .before .before .before .before .before .pre)
-
-add-n-2 : tie.Need-add-n-2 Inv-loop μ-loop
-add-n-2 c =
-    let inv = c .before .before .before .before .before .before .before .before .before .before .before .loop .inv in
-    let r = c .before .before .before .before .before .before .before .before .before .before .piece-at .ensures in
-    let escaped = sym (ap pieceOf (c .before .before .before .before .before .before .before .before .x .given .1)) ∙ r .0 in
-    let f = c .before .before .before .before .before .before .encoded .ensures in
-    omega (arith, escaped-inside _ _ escaped, f .few, inv .counting, c .before .before .before .before .before .before .before .before .before .before .before .before .before .before .pre)
+add-i c = omega arith
 
 loop-less-2 : tie.Need-loop-less-2 Inv-loop μ-loop
-loop-less-2 c =
-    let r = c .before .before .before .before .before .before .before .before .before .before .piece-at .ensures in
-    let escaped = sym (ap pieceOf (c .before .before .before .before .before .before .before .before .x .given .1)) ∙ r .0 in
-    omega (arith, escaped-inside _ _ escaped)
+loop-less-2 c = omega arith
 
 loop-again-2 : tie.Need-loop-again-2 Inv-loop μ-loop
 loop-again-2 c =
-    let inv = c .before .before .before .before .before .before .before .before .before .before .before .loop .inv in
-    let r = c .before .before .before .before .before .before .before .before .before .before .piece-at .ensures in
-    let escaped = sym (ap pieceOf (c .before .before .before .before .before .before .before .before .x .given .1)) ∙ r .0 in
-    let f = c .before .before .before .before .before .before .encoded .ensures in
-    copying-escaped inv escaped f (c .before .before .put-all .ensures) (c .before .before .put-all .kept .0)
+    let l = c .before .before .before .before .before .before .before .before .loop in
+    let here = piece-bare (c .before .before .before .before .before .before .before .before .before .before .before .args .s .now) (l .i) (c .before .before .before .before .before .before .before .loop-test .taken) (c .before .before .before .before .before .before .shared-slice-known2 .given (l .i) .fits) (c .before .before .before .before .before .if1 .left) (c .before .before .before .before .if2 .left) in
+    copying-bare (l .inv) here (c .before .before .put .ensures) (c .before .before .put .kept .0)
+
+same-length-2 : tie.Need-same-length-2 Inv-loop μ-loop
+same-length-2 c = c .before .loop .inv .kept
+
+returns-2 : tie.Need-returns-2 Inv-loop μ-loop
+returns-2 c =
+    let l = c .before .loop in
+    let here = piece-past (c .before .before .before .before .args .s .now) (l .i) (c .loop-test .left) in
+    (counting-close (l .inv .counting) here, copying-close (l .inv) here)
 
 pub copy-spec : {M : Type 1} → statement M
 copy-spec =
@@ -136,23 +104,24 @@ copy-spec =
     Inv-loop
     μ-loop
     loop-holds
-    piece-at-requires
-    enum-told
+    shared-slice-read-b
     same-length
     returns
-    enum-known-b
-    add-put
-    put-requires
-    add-n
-    add-i
-    loop-less
-    loop-again
-    enum-known-x
+    add-escape
+    escape-requires
     encoded-requires
     add-put-all
     array-share-prefix-bytes
     slice-aggregate-put-all
     put-all-requires
+    add-n
+    loop-less
+    loop-again
+    add-put
+    put-requires
     add-n-2
+    add-i
     loop-less-2
-    loop-again-2)
+    loop-again-2
+    same-length-2
+    returns-2)

@@ -1,10 +1,9 @@
 use borrow.Author.Needs.{needs}
 use Prim.Native.Nat.{_-_}
-use mathlib.Core.Path.{sym, ap, subst, _∙_}
+use mathlib.Core.Path.{_∙_}
 use native.Mathlib.Omega.{arith}
 use lib.ListN.{length}
-use Rattle.tokens.specs.Enums.{pieceOf, Coded}
-use Rattle.tokens.proofs.StringLaws.{bare-inside, escaped-inside, Counting, counting-close, counting-bare, counting-escaped}
+use Rattle.tokens.proofs.StringLaws.{piece-past, piece-quote, piece-escape, piece-bare, escaped-inside, Counting, counting-close, counting-bare, counting-escaped}
 use Rattle.tokens.proofs.strings.count.Statement.{statement}
 use Rattle.tokens.proofs.strings.count.Tie as tie
 
@@ -17,73 +16,55 @@ abbrev μ-loop : tie.MeasureT-loop
 loop-holds : tie.Need-loop-holds Inv-loop μ-loop
 loop-holds c = record { counted = omega arith; few = omega arith }
 
-piece-at-requires : tie.Need-piece-at-requires Inv-loop μ-loop
-piece-at-requires c κs = search needs
-
-enum-told : tie.Need-enum-told Inv-loop μ-loop
-enum-told c = search needs
+shared-slice-read-b : tie.Need-shared-slice-read-b Inv-loop μ-loop
+shared-slice-read-b c = search needs
 
 returns : tie.Need-returns Inv-loop μ-loop
 returns c =
-    let inv = c .before .before .before .loop .inv in
-    let r = c .before .before .piece-at .ensures in
-    let close = sym (ap pieceOf (c .enum-told .given .1)) ∙ r .0 in
-    counting-close inv close
+    let l = c .before .before .before .loop in
+    counting-close (l .inv) (piece-quote (c .before .before .before .before .before .args .s .now) (l .i) (c .before .before .loop-test .taken) (c .if1 .taken))
 
-enum-told-2 : tie.Need-enum-told-2 Inv-loop μ-loop
-enum-told-2 c = search needs
+add-escape : tie.Need-add-escape Inv-loop μ-loop
+add-escape c = search needs
+
+escape-requires : tie.Need-escape-requires Inv-loop μ-loop
+escape-requires c κs = search needs
+
+encoded-requires : tie.Need-encoded-requires Inv-loop μ-loop
+encoded-requires c κs = c .escape .ensures .1
 
 add-n : tie.Need-add-n Inv-loop μ-loop
-add-n c =
-    let r = c .before .before .piece-at .ensures in
-    let bare = sym (ap pieceOf (c .enum-told2 .given .1)) ∙ r .0 in
-    omega (arith, bare-inside _ _ bare)
-
-add-i : tie.Need-add-i Inv-loop μ-loop
-add-i c =
-    let r = c .before .before .piece-at .ensures in
-    let bare = sym (ap pieceOf (c .enum-told2 .given .1)) ∙ r .0 in
-    omega (arith, bare-inside _ _ bare)
+add-n c = omega (arith, c .before .encoded .ensures .few)
 
 loop-less : tie.Need-loop-less Inv-loop μ-loop
 loop-less c =
-    let r = c .before .before .piece-at .ensures in
-    let bare = sym (ap pieceOf (c .enum-told2 .given .1)) ∙ r .0 in
-    omega (arith, bare-inside _ _ bare)
+    let here = c .before .before .escape .ensures .0 ∙ piece-escape (c .before .before .before .before .before .before .before .before .before .args .s .now) (c .before .before .before .before .before .before .before .loop .i) (c .before .before .before .before .before .before .loop-test .taken) (c .before .before .before .if2 .taken) in
+    omega (arith, escaped-inside _ _ here)
 
 loop-again : tie.Need-loop-again Inv-loop μ-loop
 loop-again c =
-    let inv = c .before .before .before .loop .inv in
-    let r = c .before .before .piece-at .ensures in
-    let bare = sym (ap pieceOf (c .enum-told2 .given .1)) ∙ r .0 in
-    counting-bare inv bare
-
-enum-known-x : tie.Need-enum-known-x Inv-loop μ-loop
-enum-known-x c = search needs
-
-encoded-requires : tie.Need-encoded-requires Inv-loop μ-loop
-encoded-requires c κs =
-    let r = c .before .before .before .piece-at .ensures in
-    subst Coded (c .before .x .given .1) (r .1)
+    let l = c .before .before .before .before .before .before .before .loop in
+    let here = c .before .before .escape .ensures .0 ∙ piece-escape (c .before .before .before .before .before .before .before .before .before .args .s .now) (l .i) (c .before .before .before .before .before .before .loop-test .taken) (c .before .before .before .if2 .taken) in
+    counting-escaped (l .inv) here (c .before .encoded .ensures)
 
 add-n-2 : tie.Need-add-n-2 Inv-loop μ-loop
-add-n-2 c =
-    let r = c .before .before .before .before .before .piece-at .ensures in
-    let escaped = sym (ap pieceOf (c .before .before .before .x .given .1)) ∙ r .0 in
-    omega (arith, escaped-inside _ _ escaped, c .before .encoded .ensures .few)
+add-n-2 c = omega arith
+
+add-i : tie.Need-add-i Inv-loop μ-loop
+add-i c = omega arith
 
 loop-less-2 : tie.Need-loop-less-2 Inv-loop μ-loop
-loop-less-2 c =
-    let r = c .before .before .before .before .before .piece-at .ensures in
-    let escaped = sym (ap pieceOf (c .before .before .before .x .given .1)) ∙ r .0 in
-    omega (arith, escaped-inside _ _ escaped)
+loop-less-2 c = omega arith
 
 loop-again-2 : tie.Need-loop-again-2 Inv-loop μ-loop
 loop-again-2 c =
-    let inv = c .before .before .before .before .before .before .loop .inv in
-    let r = c .before .before .before .before .before .piece-at .ensures in
-    let escaped = sym (ap pieceOf (c .before .before .before .x .given .1)) ∙ r .0 in
-    counting-escaped inv escaped (c .before .encoded .ensures)
+    let l = c .before .before .before .before .loop in
+    counting-bare (l .inv) (piece-bare (c .before .before .before .before .before .before .args .s .now) (l .i) (c .before .before .before .loop-test .taken) (c .before .before .shared-slice-known2 .given (l .i) .fits) (c .before .if1 .left) (c .if2 .left))
+
+returns-2 : tie.Need-returns-2 Inv-loop μ-loop
+returns-2 c =
+    let l = c .before .loop in
+    counting-close (l .inv) (piece-past (c .before .before .before .args .s .now) (l .i) (c .loop-test .left))
 
 pub count-spec : {M : Type 1} → statement M
 count-spec =
@@ -92,16 +73,16 @@ count-spec =
     Inv-loop
     μ-loop
     loop-holds
-    piece-at-requires
-    enum-told
+    shared-slice-read-b
     returns
-    enum-told-2
+    add-escape
+    escape-requires
+    encoded-requires
     add-n
-    add-i
     loop-less
     loop-again
-    enum-known-x
-    encoded-requires
     add-n-2
+    add-i
     loop-less-2
-    loop-again-2)
+    loop-again-2
+    returns-2)
