@@ -22,7 +22,7 @@ static const char *const sentences[] = {
     [11] = "At {place} stands a word or a choice of a newer version than ours. Please tell us your version.",
     [12] = "The value that we wanted to write breaks a rule at row {1}; this is ours to mend.",
     [13] = "The text that we wanted to write would have {1} bytes, and at most 65,536 are sent.",
-    [14] = "The room that we lent is too small; needed are {1} rows and {2} pool bytes, or {1} bytes of text.",
+    [14] = "The room that we lent is too small. A read needs {1} rows and {2} pool bytes, a write {1} bytes of text.",
     [15] = "Line {1} of the program's input is missing, too long or not hexadecimal.",
 };
 

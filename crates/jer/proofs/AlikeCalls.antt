@@ -5,17 +5,14 @@ use mathlib.Core.Path.{_≡_, refl, sym, _∙_}
 use mathlib.Core.List.{List}
 use mathlib.Core.Option.{none}
 use lib.ListN.{length}
-use borrow.Author.Tests.{le-leb}
 use Rattle.json.specs.Tree.{Json}
 use Rattle.json.specs.Grammar.{Text}
-use Rattle.json.specs.Machine.{parse}
-use Rattle.json.proofs.Takes.{takes-text}
 use Rattle.jer.specs.Table.{Table}
 use Rattle.jer.specs.Valid.{firstBad}
 use Rattle.jer.specs.Value.{Val}
-use Rattle.jer.specs.Answer.{Res, ok, bind}
+use Rattle.jer.specs.Answer.{Res, ok}
 use Rattle.jer.specs.Read.{read}
-use Rattle.jer.specs.Calls.{tableOf, goodTable, treeOf, goodText, readText, readAnswer, rowsAfter, poolAfter}
+use Rattle.jer.specs.Calls.{readText, readAnswer, rowsAfter, poolAfter}
 use Rattle.jer.specs.Skipped.{SameAnswer, sameValue, sameNumber, SameCall, sameReading, sameRefusal, SkipAlike}
 use Rattle.jer.specs.Respelled.{Respelled}
 use Rattle.jer.proofs.ValidSane.{valid-sane}

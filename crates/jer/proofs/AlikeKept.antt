@@ -8,8 +8,7 @@ use native.Mathlib.Omega.{arith}
 use lib.Dec.{eqb}
 use borrow.Author.Tests.{eqb-true}
 use Rattle.json.specs.Tree.{jnull}
-use Rattle.json.proofs.SoundRows.{pick-within, only, _⨾_}
-use Rattle.jer.specs.Table.{Table, NULL, kindOf, formMark, extensible, isUnwrapped, countOf, typeAt, mayMiss, tNull, tArray, tObject, tokenPick, tokenOf, alternative, openUnwrapped}
+use Rattle.jer.specs.Table.{Table, NULL, kindOf, extensible, isUnwrapped, countOf, typeAt, mayMiss, tNull, alternative, openUnwrapped}
 use Rattle.jer.specs.Value.{Val, vNull, vChoice, vcons, Parts, absent, present}
 use Rattle.jer.specs.Answer.{Res, ok, bind}
 use Rattle.jer.specs.Read.{Element, withAbsent, withPresent, nullValue, missingElement, readElement, surplus, readElements, readItems, null?, read}

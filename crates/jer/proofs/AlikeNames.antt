@@ -13,7 +13,7 @@ use Rattle.jer.specs.Read.{Entry, lookup, namesGood, nullAbsent, readMem
 use Rattle.jer.specs.Skipped.{sameValue}
 use Rattle.jer.specs.Respelled.{held, NamesTaken, noName, known, unknown}
 use Rattle.jer.proofs.OlderObject.{own-name}
-use Rattle.jer.proofs.ValidLaws.{sameBytes-eq, sameBytes-refl, position-none}
+use Rattle.jer.proofs.ValidLaws.{sameBytes-eq, sameBytes-refl}
 use Rattle.jer.proofs.WeightGot.{nothing}
 use Rattle.jer.proofs.AlikeSame.{same-cause}
 use Rattle.jer.proofs.AlikeKept.{Keeps, keeps-same, keeps-map, keeps-test, keeps-absent, keeps-present}

@@ -15,7 +15,7 @@ use Rattle.json.proofs.Sound.{text-taken}
 use Rattle.jer.specs.Table.{Table}
 use Rattle.jer.specs.Valid.{firstBad}
 use Rattle.jer.specs.Value.{Val}
-use Rattle.jer.specs.Answer.{Res, ok, no, bind}
+use Rattle.jer.specs.Answer.{ok, bind}
 use Rattle.jer.specs.Read.{read}
 use Rattle.jer.specs.Judge.{judge}
 use Rattle.jer.specs.Write.{write}

@@ -7,7 +7,7 @@ use Rattle.jer.specs.declared.Cause.the-variants.{Unknown}
 use Rattle.jer.specs.declared.Refusal.{Refusal}
 use Rattle.jer.specs.Table.{Table, typeAt}
 use Rattle.jer.specs.Value.{Val, Parts, pnil, absent, present}
-use Rattle.jer.specs.Answer.{Res, ok, no, bind, at, valuesOf, numberOf}
+use Rattle.jer.specs.Answer.{Res, ok, no, bind, at, numberOf}
 use Rattle.jer.specs.Read.{Meaning, Element, Entry, withAbsent, withPresent}
 use Rattle.jer.specs.Cut.{cut, lacks, cutParts, lacksParts}
 use Rattle.jer.proofs.WeightGot.{got, steps}

@@ -1,10 +1,9 @@
 -- What a good type table gives to whoever follows its pointers: the facts that reading, writing and cutting rest on.
 use Prim.Native.Nat.{ℕ, _≤_, _<_}
 use mathlib.Core.Path.{_≡_}
-use mathlib.Core.Bool.{Bool, true, false}
-use lib.ListN.{length}
+use mathlib.Core.Bool.{true, false}
 use Rattle.json.specs.Utf8.{utf8}
-use Rattle.jer.specs.Table.{Table, ENUMERATED, SEQUENCE, SEQUENCE-OF, CHOICE, kindOf, isType, extensible, isArray, isUnwrapped, elementOf, countOf, rootOf, optional, typeAt, nameAt, mayMiss, sameBytes, sameToken, tokenOf, nullTaken}
+use Rattle.jer.specs.Table.{Table, SEQUENCE-OF, CHOICE, kindOf, isType, extensible, isArray, isUnwrapped, elementOf, countOf, rootOf, optional, typeAt, nameAt, mayMiss, sameBytes, sameToken, tokenOf, nullTaken}
 
 pub record Sane (t : Table) : Type 0 where
   pub whole : isType t 0 ≡ true

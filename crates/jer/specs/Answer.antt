@@ -1,7 +1,5 @@
 -- Results, refusals, and document 01's number and values for each refusal.
 use Prim.Native.Nat.{ℕ}
-use mathlib.Core.List.{List}
-use mathlib.Core.Option.{Option, none, some}
 use Rattle.jer.specs.declared.Cause.{Cause}
 use Rattle.jer.specs.declared.Cause.the-variants.{TooLong, NotJson, TooDeep, OtherKind, BadNumber, BadString, UnknownName, RepeatedName, Missing, Surplus, NotOne, Unknown}
 use Rattle.jer.specs.declared.Which.{Which}

@@ -1,6 +1,6 @@
 -- The calls from outside: the answer and what each buffer holds afterwards, in document 01's order of refusals.
-use Prim.Native.Nat.{ℕ, zero, suc, _*_, _-_, _^_}
-use mathlib.Core.List.{List, [], _∷_, _++_}
+use Prim.Native.Nat.{ℕ, _-_, _^_}
+use mathlib.Core.List.{List, _++_}
 use mathlib.Core.Bool.{Bool, true, false, _&&_}
 use mathlib.Core.Option.{Option, none, some}
 use lib.Dec.{leb}

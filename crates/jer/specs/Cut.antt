@@ -1,7 +1,6 @@
 -- Newer and older tables, and cutting a value down to the older one.
 use Prim.Native.Nat.{ℕ, zero, suc, _≤_, _<_}
 use mathlib.Core.Path.{_≡_}
-use mathlib.Core.List.{List}
 use mathlib.Core.Bool.{Bool, true, false, _||_, not}
 use lib.Dec.{ltb}
 use Rattle.jer.specs.Table.{Table, SEQUENCE-OF, kindOf, marksOf, extensible, elementOf, countOf, rootOf, optional, typeAt, nameAt}

@@ -2,13 +2,13 @@
 -- 01, Refusal numbers: "For 12, rows are taken in order; a wrong size or number present is bad at its own row once the parts are right.
 -- A row short of the table's end, or pool bytes left over, count as the row after the last; rows left over, a broken one too, as the
 -- first of them."
-use Prim.Native.Nat.{ℕ, zero, suc, _+_, _-_, _*_, _%_, _^_}
+use Prim.Native.Nat.{ℕ, zero, suc, _+_, _-_, _*_, _^_}
 use mathlib.Core.List.{List, [], _∷_}
 use mathlib.Core.Bool.{Bool, true, false, _&&_, _||_, not}
 use mathlib.Core.Option.{Option, none, some}
 use lib.Dec.{eqb, ltb, leb}
 use lib.ListN.{length, take, drop}
-use Rattle.json.specs.Bytes.{Row, on, pick}
+use Rattle.json.specs.Bytes.{on, pick}
 use Rattle.json.specs.Utf8.{utf8}
 use Rattle.jer.specs.declared.Refusal.the-variants.{AtRow}
 use Rattle.jer.specs.declared.Which.the-variants.{ValueTable}

@@ -1,10 +1,10 @@
 -- Octets as hexadecimal and as Base64.
-use Prim.Native.Nat.{ℕ, zero, suc, _+_, _-_, _*_, _/_, _%_}
+use Prim.Native.Nat.{ℕ, zero, _+_, _-_, _*_, _/_, _%_}
 use mathlib.Core.List.{List, [], _∷_}
-use mathlib.Core.Bool.{Bool, true, false, _&&_}
+use mathlib.Core.Bool.{Bool, true, false}
 use mathlib.Core.Option.{Option, none, some}
 use lib.Dec.{eqb, ltb}
-use Rattle.json.specs.Bytes.{Row, on, pick}
+use Rattle.json.specs.Bytes.{on, pick}
 
 unfoldable pub also : {A B : Type 0} → Option A → (A → Option B) → Option B
 also none f = none

@@ -1,9 +1,9 @@
 -- The programs `jerread` and `jerwrite`: what they print for what stands on standard input.
 -- 01: "The program `jerread` takes three lines of hexadecimal, either letter case, on standard input: type table (eight digits a number),
 -- names, text; each line at most 16,384 digits."
-use Prim.Native.Nat.{ℕ, zero, suc, _+_, _*_, _/_, _%_, _^_}
+use Prim.Native.Nat.{ℕ, suc, _+_, _*_, _/_, _%_, _^_}
 use mathlib.Core.List.{List, [], _∷_, _++_}
-use mathlib.Core.Bool.{Bool, true, false, _&&_}
+use mathlib.Core.Bool.{true, false}
 use mathlib.Core.Option.{Option, none, some}
 use lib.Dec.{eqb, leb}
 use lib.ListN.{length}

@@ -1,16 +1,16 @@
 -- Typed reading: what a JSON tree means at a type row, a value or a refusal.
 -- 01, Type table: "Types may be recursive." The recursion is on the tree: a member is handed on as its meaning, a function of the type row.
-use Prim.Native.Nat.{ℕ, zero, suc, _+_, _*_, _-_, _^_}
+use Prim.Native.Nat.{ℕ, zero, suc, _-_, _^_}
 use mathlib.Core.List.{List, [], _∷_}
-use mathlib.Core.Bool.{Bool, true, false, _&&_, _||_, not}
+use mathlib.Core.Bool.{Bool, true, false, _&&_, not}
 use mathlib.Core.Option.{Option, none, some}
 use lib.Dec.{eqb, ltb, leb}
-use Rattle.json.specs.Bytes.{Row, on, pick}
+use Rattle.json.specs.Bytes.{on, pick}
 use Rattle.json.specs.Tree.{Json, jnull, jbool, jint, jreal, jstr, jarr, jobj, Items, inil, icons, Members, mnil, mcons, placeOf}
 use Rattle.jer.specs.declared.Cause.the-variants.{OtherKind, BadNumber, BadString, UnknownName, RepeatedName, Missing, Surplus, NotOne, Unknown}
 use Rattle.jer.specs.Table.{Table, BOOLEAN, INTEGER, ENUMERATED, NULL, OCTET-STRING, UTF8String, SEQUENCE, SEQUENCE-OF, CHOICE, kindOf, extensible, isBase64, isArray, isUnwrapped, elementOf, countOf, optional, typeAt, nameAt, mayMiss, sameBytes, position, Token, tNull, tBoolean, tNumber, tString, tArray, tObject, alternative, isSome, openUnwrapped, nullTaken}
 use Rattle.jer.specs.Value.{Val, vBool, vInt, vEnum, vNull, vBytes, vSeq, vList, vChoice, Vals, vnil, vcons, Parts, pnil, absent, present}
-use Rattle.jer.specs.Answer.{Res, ok, no, bind, at}
+use Rattle.jer.specs.Answer.{Res, ok, bind, at}
 use Rattle.jer.specs.Octets.{unhex, unbase64}
 
 -- the meaning of a tree: at each type row a result

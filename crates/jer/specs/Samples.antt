@@ -1,10 +1,9 @@
 -- 01, "Sample texts on both sides": one table of cases under one theorem.
-use Prim.Native.Nat.{ℕ, zero, suc, _+_, _*_}
+use Prim.Native.Nat.{ℕ, zero, suc}
 use Prim.Native.Char.{code}
 use Prim.Native.String.{String}
 use mathlib.Core.Path.{_≡_, refl}
-use mathlib.Core.List.{List, [], _∷_, _++_, map}
-use mathlib.Core.Bool.{Bool, true, false}
+use mathlib.Core.List.{List, [], _∷_, map}
 use Rattle.json.specs.Bytes.{pick}
 use Rattle.json.specs.Tree.{placeOf, isnoc, msnoc}
 use Rattle.json.specs.Utf8.{encode, wideRows, dueNext, dueStep, dueEnd, utf8From, utf8}

@@ -3,9 +3,9 @@ use Prim.Native.Nat.{ℕ, zero, suc, _+_, _*_, _/_, _%_}
 use mathlib.Core.List.{List, [], _∷_}
 use mathlib.Core.Bool.{Bool, true, false, _&&_, _||_, not}
 use mathlib.Core.Option.{Option, none, some}
-use lib.Dec.{eqb, ltb, leb}
+use lib.Dec.{eqb, leb}
 use lib.ListN.{length, getD, take, drop}
-use Rattle.json.specs.Bytes.{Row, on, pick}
+use Rattle.json.specs.Bytes.{on, pick}
 
 -- 01, Type table: "Rows of eight 32-bit numbers, fields 0 to 7." The rows are one list of numbers; the names are bytes beside it.
 pub record Table : Type 0 where

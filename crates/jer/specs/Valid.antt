@@ -2,14 +2,14 @@
 -- 01, Refusal numbers: "For 1, rows are checked upwards three times: each by itself (row 0 is a type); by the kinds of the rows
 -- it points to; each type by its other rules."
 use Prim.Native.Nat.{ℕ, zero, suc, _+_, _*_, _%_}
-use mathlib.Core.List.{List, [], _∷_}
+use mathlib.Core.List.{[], _∷_}
 use mathlib.Core.Bool.{Bool, true, false, _&&_, _||_, not}
 use mathlib.Core.Option.{Option, none, some}
 use lib.Dec.{eqb, ltb, leb}
 use lib.ListN.{length}
-use Rattle.json.specs.Bytes.{Row, on, pick}
+use Rattle.json.specs.Bytes.{on, pick}
 use Rattle.json.specs.Utf8.{utf8}
-use Rattle.jer.specs.Table.{Table, rowCount, field, BOOLEAN, INTEGER, ENUMERATED, NULL, OCTET-STRING, UTF8String, SEQUENCE, SEQUENCE-OF, CHOICE, MEMBER, kindOf, isType, marksOf, extensible, isArray, isUnwrapped, firstOf, elementOf, countOf, rootOf, memberRow, optional, typeAt, nameIn, nameAt, mayMiss, firstWhere, sameBytes, sameToken, tokenOf, isSome, nullTaken}
+use Rattle.jer.specs.Table.{Table, rowCount, field, BOOLEAN, INTEGER, ENUMERATED, NULL, OCTET-STRING, UTF8String, SEQUENCE, SEQUENCE-OF, CHOICE, MEMBER, kindOf, isType, marksOf, extensible, isArray, isUnwrapped, firstOf, elementOf, countOf, rootOf, memberRow, optional, typeAt, nameIn, nameAt, mayMiss, firstWhere, sameBytes, sameToken, tokenOf, nullTaken}
 
 -- does every one of n numbers from i on pass the test?
 unfoldable pub every : (ℕ → Bool) → ℕ → ℕ → Bool

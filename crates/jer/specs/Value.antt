@@ -1,5 +1,5 @@
 -- Values. Two texts say the same if and only if their values are equal; rows and texts are functions of the value and its type.
-use Prim.Native.Nat.{ℕ, suc, _+_}
+use Prim.Native.Nat.{ℕ, suc}
 use mathlib.Core.List.{List}
 use mathlib.Core.Bool.{Bool}
 

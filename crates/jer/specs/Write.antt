@@ -4,7 +4,7 @@ use Prim.Native.Nat.{ℕ, zero, suc, _+_, _-_, _/_, _%_, _^_}
 use mathlib.Core.List.{List, [], _∷_, _++_}
 use mathlib.Core.Bool.{Bool, true, false}
 use lib.Dec.{ltb}
-use Rattle.json.specs.Bytes.{Row, on, pick}
+use Rattle.json.specs.Bytes.{on, pick}
 use Rattle.jer.specs.Table.{Table, UTF8String, kindOf, isBase64, isArray, isUnwrapped, elementOf, typeAt, nameAt, sameBytes}
 use Rattle.jer.specs.Value.{Val, vBool, vInt, vEnum, vNull, vBytes, vSeq, vList, vChoice, Vals, vnil, vcons, Parts, pnil, absent, present}
 use Rattle.jer.specs.Octets.{hexDigit, hex, base64}

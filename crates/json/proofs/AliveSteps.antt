@@ -1,5 +1,5 @@
 -- `Ok` holds of every state that the machine comes to: each step keeps it.
-use Prim.Native.Nat.{ℕ, zero, suc, pred, _≤_}
+use Prim.Native.Nat.{ℕ, zero, suc, _≤_}
 use mathlib.Core.Path.{_≡_, refl}
 use mathlib.Core.List.{List, [], _∷_}
 use mathlib.Core.Bool.{Bool, true, false}
@@ -10,7 +10,7 @@ use borrow.Author.Tests.{eqb-false}
 use Rattle.json.specs.Bytes.{Row, on, pick}
 use Rattle.json.specs.Tree.{Json, inil}
 use Rattle.json.specs.Utf8.{wideRows}
-use Rattle.json.specs.Machine.{Mid, mText, mWide, mSlash, mUnit, mUnitD, mHex, mHigh, mPair, mPairU, mPairD, mPairDigit, mLow, Act, still, close, never, wideNext, hexRows, hexNext, highNext, lowNext, charStep, Num, numStep, numTree, Frame, inArr, inObj, Stack, base, _▹_, room, Role, asName, asValue, State, sVal, sElem, sAfter, sName0, sName, sColon, sStr, sNum, sLit, Step, go, bad, notJson, spaces, opened, starts, after, closed, strStep, numEnd, numGo, litNext, step}
+use Rattle.json.specs.Machine.{Mid, mText, mWide, mSlash, mUnit, mUnitD, mHex, mHigh, mPair, mPairU, mPairD, mPairDigit, mLow, Act, still, close, never, wideNext, hexRows, hexNext, highNext, lowNext, charStep, Num, numStep, numTree, inArr, inObj, Stack, base, _▹_, room, Role, asName, asValue, State, sVal, sElem, sAfter, sName0, sName, sColon, sStr, sNum, sLit, Step, go, bad, notJson, spaces, opened, starts, after, closed, strStep, numEnd, numGo, litNext, step}
 use Rattle.json.proofs.Feed.{room-frame}
 use Rattle.json.proofs.SoundRows.{pick-first, _⨾_}
 use Rattle.json.proofs.Alive.{OkMid, Held, HeldAs, Ok}

@@ -1,7 +1,7 @@
 -- Tests on one byte, written as tables of ranges.
 use Prim.Native.Nat.{ℕ, suc, _≤_}
 use mathlib.Core.List.{List, [], _∷_}
-use mathlib.Core.Bool.{Bool, true, false, _&&_}
+use mathlib.Core.Bool.{true, false, _&&_}
 use lib.Dec.{leb}
 
 -- from lo to hi

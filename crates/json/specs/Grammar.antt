@@ -1,6 +1,6 @@
 -- The grammar of JSON (ECMA-404), with the tree and the places that a text has.
 -- Each relation ends in the bytes that it speaks of; an equation `bs ≡ ..` says how they are put together.
-use Prim.Native.Nat.{ℕ, zero, suc, _+_, _-_, _*_, _≤_, _<_}
+use Prim.Native.Nat.{ℕ, suc, _+_, _-_, _*_, _≤_, _<_}
 use mathlib.Core.Path.{_≡_}
 use mathlib.Core.List.{List, [], _∷_, _++_}
 use mathlib.Core.Bool.{Bool, true, false}

@@ -2,11 +2,11 @@
 -- `proofs/` shows that it takes the texts of the grammar and no others, and that its places are document 01's.
 use Prim.Native.Nat.{ℕ, zero, suc, pred, _+_, _-_, _*_}
 use mathlib.Core.List.{List, [], _∷_, _++_}
-use mathlib.Core.Bool.{Bool, true, false, _&&_, _||_}
+use mathlib.Core.Bool.{Bool, true, false}
 use mathlib.Core.Option.{Option, none, some}
-use lib.Dec.{leb, eqb}
+use lib.Dec.{eqb}
 use Rattle.json.specs.Bytes.{Row, on, pick}
-use Rattle.json.specs.Tree.{Json, jnull, jbool, jint, jreal, jstr, jarr, jobj, Items, inil, icons, Members, mnil, mcons, isnoc, msnoc}
+use Rattle.json.specs.Tree.{Json, jnull, jbool, jint, jreal, jstr, jarr, jobj, Items, inil, Members, mnil, isnoc, msnoc}
 use Rattle.json.specs.Utf8.{encode, wideRows}
 use Rattle.json.specs.Grammar.{paired}
 

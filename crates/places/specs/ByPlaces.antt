@@ -1,13 +1,13 @@
 -- Typed reading by places of the text, in the shape of the code: open recursion, one knot on the brackets that may be open.
 -- `proofs/` shows that on a JSON text it is the meaning of the text's tree (`read` of crate jer); public contracts cite that meaning alone.
-use Prim.Native.Nat.{ℕ, zero, suc, _+_, _*_, _/_, _%_, _^_}
+use Prim.Native.Nat.{ℕ, zero, suc, _+_, _/_, _%_, _^_}
 use mathlib.Core.List.{List, [], _∷_}
-use mathlib.Core.Bool.{Bool, true, false, _&&_, _||_, not}
+use mathlib.Core.Bool.{Bool, true, false, _&&_, not}
 use mathlib.Core.Option.{Option, none, some}
 use lib.Bits.{bitOr}
-use lib.Dec.{eqb, ltb, leb}
+use lib.Dec.{eqb, ltb}
 use lib.ListN.{length, getD, set, replicate}
-use Rattle.json.specs.Bytes.{Row, on, pick}
+use Rattle.json.specs.Bytes.{on, pick}
 use Rattle.jer.specs.declared.Cause.the-variants.{TooDeep, OtherKind, BadNumber, UnknownName, RepeatedName, Missing, Surplus, NotOne, Unknown}
 use Rattle.jer.specs.declared.Limit.the-variants.{LentRoom}
 use Rattle.jer.specs.declared.Refusal.{Refusal}

@@ -1,15 +1,11 @@
 -- Demand 2: what is written is read back as the same table; what was read is written, and never longer; reading needs bounded room.
-use Prim.Native.Nat.{ℕ, suc, _+_, _*_, _≤_}
-use mathlib.Core.Path.{_≡_, refl, sym, ap, _∙_}
-use mathlib.Core.List.{List, [], _∷_}
-use mathlib.Core.Bool.{true}
+use Prim.Native.Nat.{ℕ, _*_, _≤_}
+use mathlib.Core.Path.{_≡_, sym, ap, _∙_}
+use mathlib.Core.List.{List}
 use mathlib.Core.Option.{none}
 use native.Mathlib.Omega.{arith}
 use lib.ListN.{length, take}
 use borrow.Author.Tests.{le-leb}
-use Rattle.jer.specs.declared.Refusal.{Refusal}
-use Rattle.jer.specs.declared.Refusal.the-variants.{Amounts}
-use Rattle.jer.specs.declared.Limit.the-variants.{LentRoom}
 use Rattle.jer.specs.declared.Reading.{Reading}
 use Rattle.jer.specs.declared.Reading.the-variants as reading
 use Rattle.jer.specs.declared.Writing.{Writing}
@@ -18,18 +14,18 @@ use Rattle.jer.specs.Table.{Table}
 use Rattle.jer.specs.Valid.{firstBad}
 use Rattle.jer.specs.Value.{Val}
 use Rattle.jer.specs.Answer.{ok}
-use Rattle.jer.specs.Rows.{numbers, rowsOf, poolOf}
+use Rattle.jer.specs.Rows.{rowsOf, poolOf}
 use Rattle.jer.specs.Fits.{Octets, Fits}
 use Rattle.jer.specs.Write.{write}
 use Rattle.jer.specs.Calls.{over, rowNumbers, readText, writeText, writeAnswer, textAfter}
 use Rattle.jer.proofs.ValidSane.{valid-sane}
 use Rattle.jer.proofs.WeightLaws.{text-bounds}
 use Rattle.jer.proofs.JudgeSpent.{Words}
-use Rattle.jer.proofs.JudgeTable.{TableOf, judge-fits, judged-rows}
+use Rattle.jer.proofs.JudgeTable.{judge-fits, judged-rows}
 use Rattle.jer.proofs.SpellCalls.{written-reads-text}
 use Rattle.jer.specs.Contracts.{ReadCall, WriteCall}
-use Rattle.promises.proofs.Outcomes.{Stored, stored, Written, written}
-use Rattle.jer.proofs.MeansCalls.{Means, means, means-fits, Says, says, said}
+use Rattle.promises.proofs.Outcomes.{stored, written}
+use Rattle.jer.proofs.MeansCalls.{means, means-fits, says, said}
 use Rattle.promises.proofs.Buffers.{over-taken, numbers-length, stores, has-room}
 
 -- a text with room for it, within the house size, is written

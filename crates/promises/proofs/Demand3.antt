@@ -1,6 +1,6 @@
 -- Demand 3: two good tables, the newer made from the older by additions.
-use Prim.Native.Nat.{ℕ, _≤_}
-use mathlib.Core.Path.{_≡_, refl, sym, ap, _∙_}
+use Prim.Native.Nat.{ℕ}
+use mathlib.Core.Path.{_≡_, sym, ap, _∙_}
 use mathlib.Core.List.{List}
 use mathlib.Core.Bool.{Bool, true, false}
 use mathlib.Core.Option.{none}
@@ -13,7 +13,7 @@ use Rattle.jer.specs.declared.Writing.the-variants as writing
 use Rattle.jer.specs.Table.{Table}
 use Rattle.jer.specs.Valid.{firstBad}
 use Rattle.jer.specs.Value.{Val}
-use Rattle.jer.specs.Answer.{ok, numberOf}
+use Rattle.jer.specs.Answer.{numberOf}
 use Rattle.jer.specs.Rows.{rowsOf, poolOf}
 use Rattle.jer.specs.Fits.{Octets}
 use Rattle.jer.specs.Write.{write}

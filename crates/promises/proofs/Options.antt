@@ -1,6 +1,6 @@
 -- Demand 2, the sender's options; and skipped values: of two calls with the same room.
 use Prim.Native.Nat.{ℕ, _≤_}
-use mathlib.Core.Path.{_≡_, refl, sym, ap, _∙_}
+use mathlib.Core.Path.{_≡_, sym, ap, _∙_}
 use mathlib.Core.List.{List}
 use mathlib.Core.Option.{none}
 use lib.ListN.{length}
@@ -10,12 +10,10 @@ use Rattle.jer.specs.declared.Reading.{Reading}
 use Rattle.jer.specs.declared.Reading.the-variants as reading
 use Rattle.jer.specs.Table.{Table}
 use Rattle.jer.specs.Valid.{firstBad}
-use Rattle.jer.specs.Value.{Val}
-use Rattle.jer.specs.Rows.{rowsOf, poolOf}
-use Rattle.jer.specs.Calls.{over, rowNumbers}
+use Rattle.jer.specs.Rows.{poolOf}
 use Rattle.jer.specs.Respelled.{Respelled}
 use Rattle.jer.specs.Skipped.{SkipAlike, SameReading}
-use Rattle.jer.proofs.AlikeCalls.{respelled-texts, only-respelled-texts, skipped-stores}
+use Rattle.jer.proofs.AlikeCalls.{respelled-texts, skipped-stores}
 use Rattle.jer.specs.Contracts.{ReadCall}
 use Rattle.promises.proofs.Outcomes.{stored}
 use Rattle.jer.proofs.MeansCalls.{means}

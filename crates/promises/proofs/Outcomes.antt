@@ -1,24 +1,19 @@
 -- What an answer tells: of a reading that stored, its value; of a writing that wrote, its text; of a refusal, that nothing was touched.
-use Prim.Native.Nat.{ℕ, suc, _+_, _*_, _≤_, _<_}
-use mathlib.Core.Path.{_≡_, refl, sym, ap, _∙_}
-use mathlib.Core.List.{List, [], _∷_, _++_}
-use mathlib.Core.Bool.{Bool, true, false, _&&_}
-use native.Mathlib.Omega.{arith}
+use Prim.Native.Nat.{ℕ, _≤_}
+use mathlib.Core.Path.{_≡_, refl}
+use mathlib.Core.List.{List}
+use mathlib.Core.Bool.{Bool, true, false}
 use lib.Dec.{leb}
 use lib.ListN.{length}
 use borrow.Author.Tests.{leb-true}
 use Rattle.jer.specs.declared.Refusal.{Refusal}
-use Rattle.jer.specs.declared.Refusal.the-variants.{Amounts}
-use Rattle.jer.specs.declared.Limit.the-variants.{HouseSize, LentRoom}
-use Rattle.jer.specs.declared.Reading.{Reading}
 use Rattle.jer.specs.declared.Reading.the-variants as reading
-use Rattle.jer.specs.declared.Writing.{Writing}
 use Rattle.jer.specs.declared.Writing.the-variants as writing
 use Rattle.jer.specs.Table.{Table}
 use Rattle.jer.specs.Value.{Val}
 use Rattle.jer.specs.Answer.{Res, ok, no}
 use Rattle.jer.specs.Rows.{rowsOf, poolOf}
-use Rattle.jer.specs.Calls.{readText, over, rowNumbers, roomy, readAnswer, rowsAfter, poolAfter, writeText, writeAnswer, textAfter, amount}
+use Rattle.jer.specs.Calls.{readText, over, rowNumbers, roomy, readAnswer, rowsAfter, poolAfter, writeText, writeAnswer, textAfter}
 use Rattle.jer.proofs.MeansCalls.{never}
 use Rattle.jer.specs.Contracts.{ReadCall, WriteCall}
 

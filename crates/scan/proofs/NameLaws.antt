@@ -1,5 +1,5 @@
 -- The name of a member: its value's place, and its position in the type. Assumes nothing.
-use mathlib.Core.Path.{_≡_, refl, _∙_}
+use mathlib.Core.Path.{_≡_, refl, ap, _∙_}
 use mathlib.Core.List.{List}
 use mathlib.Core.Bool.{Bool}
 use mathlib.Core.Option.{Option, none, some}
@@ -9,6 +9,7 @@ use lib.ListN.{length, take, drop}
 use Rattle.jer.specs.Table.{Table, field, countOf, memberRow, nameIn, nameAt, sameBytes, firstWhere, position}
 use Rattle.types.specs.declared.token.Found.the-variants.{At, Nothing}
 use Rattle.types.specs.Rows.{table, foundOf}
+use Rattle.types.proofs.RowLaws.{name-in}
 use Rattle.tokens.specs.Places.{pastSpace}
 use Rattle.tokens.specs.Strings.{stringEnd}
 use Rattle.tokens.proofs.StringLaws.{end-ahead}
@@ -35,14 +36,18 @@ place-within s q m l h = space-within s (m + 1) (pastSpace s (stringEnd s (q + 1
 
 -- ---- the position
 
+-- the name in the row m, compared by its part of the names
+pub in-row : (rows names : List ℕ) (m : ℕ) (x : List ℕ) {f g a n : ℕ} {b : Bool} → f ≡ field (table rows names) m 3 → a ≡ f → g ≡ field (table rows names) m 4 → n ≡ g
+    → b ≡ sameBytes (take n (drop a names)) x → b ≡ sameBytes (nameIn (table rows names) m) x
+in-row rows names m x f a g n e = e ∙ ap (λ (l : List ℕ). sameBytes l x) (name-in rows names m f g a n refl)
+
 -- the member at i has the name
 abbrev pub named : Table → ℕ → List ℕ → ℕ → Bool
 named t r x i = sameBytes (nameAt t r i) x
 
-pub named-is : (rows names : List ℕ) (r i : ℕ) (x : List ℕ) {m f g a n : ℕ} {b : Bool} → m ≡ memberRow (table rows names) r i → f ≡ field (table rows names) m 3 → a ≡ f
-    → g ≡ field (table rows names) m 4 → n ≡ g → b ≡ sameBytes (take n (drop a names)) x → b ≡ named (table rows names) r x i
-unfolding nameAt nameIn
-named-is rows names r i x p f a g n b = b ∙ rw (n, a, g, f, p)
+pub named-is : (t : Table) (r i : ℕ) (x : List ℕ) {m : ℕ} {b : Bool} → m ≡ memberRow t r i → b ≡ sameBytes (nameIn t m) x → b ≡ named t r x i
+unfolding nameAt
+named-is t r i x e h = h ∙ rw e
 
 pub position-starts : (t : Table) (r : ℕ) (x : List ℕ) {n : ℕ} → n ≡ field t r 3 → firstWhere (named t r x) 0 (n - 0) ≡ position t r x
 unfolding position countOf

@@ -1,16 +1,18 @@
 // The name of a member at a place: its position in the type, and where its value stands.
 use tokens::cursor::Cursor;
+use tokens::strings::first_differs;
+use tokens::strings::plain_first;
 use tokens::strings::same;
 use tokens::strings::string_end;
 use types::row::field;
 use types::row::wide;
 use types::token::Found;
 ghost use mathlib.Core.Path.{_≡_};
-ghost use Prim.Native.Nat.{_+_, _≤_};
+ghost use Prim.Native.Nat.{_+_, _<_, _≤_};
 ghost use lib.ListN.{length};
-ghost use Rattle.jer.specs.Table.{position};
+ghost use Rattle.jer.specs.Table.{nameIn, sameBytes, position};
 ghost use Rattle.types.specs.Rows.{table, foundOf};
-ghost use Rattle.tokens.specs.Strings.{denoted};
+ghost use Rattle.tokens.specs.Strings.{bare, pieceAt, denoted};
 ghost use Rattle.places.specs.ByPlaces.{valuePlace};
 
 // The value of the member whose name stands at q.
@@ -25,6 +27,19 @@ pub fn value_place(s: &[u8], q: usize) -> usize
     value.at
 }
 
+// Whether the name in the member's row m is the string at p, whose plain first byte is b, or 256 for none: it is compared first.
+fn has_name(types: &[u32], names: &[u8], s: &[u8], m: usize, p: usize, b: u32) -> bool
+    requires { ⌜ (length (now s) ≤ 65536) × (b < 256 → bare b ≡ pieceAt (now s) p) ⌝ }
+    ensures { λ r. ⌜ r ≡ sameBytes (nameIn (table (now (types .entry)) (now (names .entry))) m) (denoted (now (s .entry)) p) ⌝ }
+{
+    let start = wide(field(types, m, 3));
+    if first_differs(names, start, b) {
+        return false;
+    }
+    let len = wide(field(types, m, 4));
+    same(s, p, names, start, len)
+}
+
 // The position, in the type at `row`, of the member whose name stands at q.
 pub fn position(types: &[u32], names: &[u8], s: &[u8], row: usize, q: usize) -> Found
     requires { ⌜ (length (now s) ≤ 65536) × (q ≤ 65536) ⌝ }
@@ -32,12 +47,11 @@ pub fn position(types: &[u32], names: &[u8], s: &[u8], row: usize, q: usize) -> 
 {
     let first = wide(field(types, row, 2));
     let count = field(types, row, 3);
+    let p = q + 1;
+    let b = plain_first(s, p);
     let mut i: u32 = 0;
     while i < count {
-        let m = first + wide(i);
-        let start = wide(field(types, m, 3));
-        let len = wide(field(types, m, 4));
-        if same(s, q + 1, names, start, len) {
+        if has_name(types, names, s, first + wide(i), p, b) {
             return Found::At(i);
         }
         i += 1;

@@ -11,6 +11,7 @@ use lib.Dec.{eqb}
 use lib.ListN.{length, getD, take, drop, set, drop-of-length-le, length-drop}
 use lib.Seq.{drop-cons, drop-drop, take-all, take-nil, sets}
 use Rattle.jer.specs.Table.{sameBytes}
+use Rattle.tokens.specs.Places.{byteAt}
 use Rattle.tokens.specs.Strings.{begins}
 
 -- ---- a part
@@ -82,11 +83,13 @@ module _ (l : List ℕ) (k b : ℕ) (ys : List ℕ) where
   unfolding sameBytes
   same-differ h e = rw (drop-cons l k 0 h, ne-eqb (getD l k 0) b e, sameBytes)
 
-  -- a part of l whose first byte is another one
-  pub same-first : (n : ℕ) → k < length l → (getD l k 0 ≡ b → ⊥) → sameBytes (take n (drop k l)) (b ∷ ys) ≡ false
-  unfolding sameBytes
-  same-first zero h e = refl
-  same-first (suc n) h e = rw (drop-cons l k 0 h, ne-eqb (getD l k 0) b e, sameBytes)
+-- a part of l that does not begin with b
+pub same-first : (l : List ℕ) (k b : ℕ) (ys : List ℕ) (n : ℕ) → (byteAt l k ≡ b → ⊥) → sameBytes (take n (drop k l)) (b ∷ ys) ≡ false
+unfolding sameBytes
+same-first [] k b ys n e = rw (← part-past [] k n (omega arith))
+same-first (x ∷ l) zero b ys zero e = refl
+same-first (x ∷ l) zero b ys (suc n) e = rw (ne-eqb x b e, sameBytes)
+same-first (x ∷ l) (suc k) b ys n e = same-first l k b ys n e
 
 -- bytes that begin with x
 same-cut : (x l ys : List ℕ) → begins x l ≡ true → (sameBytes l (x ++ ys) ≡ sameBytes (drop (length x) l) ys) × (length x ≤ length l)

@@ -172,6 +172,13 @@ module _ (s : List ℕ) (p : ℕ) where
   pub piece-inside : (pieceAt s p ≡ close → ⊥) → p < length s
   piece-inside h = inside s p (λ e. h (piece-none e))
 
+  -- by the byte that the total getter gives
+  pub piece-plain : {b : ℕ} → b ≡ byteAt s p → b < 256 → (b ≡ 0x22 → ⊥) → (b ≡ 0x5C → ⊥) → bare b ≡ pieceAt s p
+  unfolding pieceAt
+  piece-plain e h j k =
+      rw (ne-eqb (byteAt s p) 0x22 (λ x. j (e ∙ x)), ne-eqb (byteAt s p) 256 (λ x. omega arith), pieceAt)
+      (rw (ne-eqb (byteAt s p) 0x5C (λ x. k (e ∙ x))) (ap bare e))
+
   module _ (l : p < length s) where
     same-byte : getD s p 0 ≡ byteAt s p
     same-byte = byte-inside s p l
@@ -187,11 +194,7 @@ module _ (s : List ℕ) (p : ℕ) where
         rw (ne-eqb (byteAt s p) 0x22 (λ x. omega arith), ne-eqb (byteAt s p) 256 (λ x. omega arith), pieceAt) (rw (eq-eqb (byteAt s p) 0x5C w))
 
     pub piece-bare : getD s p 0 < 256 → (getD s p 0 ≡ 0x22 → ⊥) → (getD s p 0 ≡ 0x5C → ⊥) → bare (getD s p 0) ≡ pieceAt s p
-    unfolding pieceAt
-    piece-bare h j k =
-        let w = same-byte in
-        rw (ne-eqb (byteAt s p) 0x22 (λ x. j (w ∙ x)), ne-eqb (byteAt s p) 256 (λ x. omega arith), pieceAt)
-        (rw (ne-eqb (byteAt s p) 0x5C (λ x. k (w ∙ x))) (ap bare w))
+    piece-bare = piece-plain same-byte
 
 -- an escape goes ahead
 abbrev Ahead : ℕ → Piece → Type 0
@@ -286,10 +289,10 @@ module _ (s : List ℕ) (p : ℕ) where
       go zero h l = absurd (omega arith)
       go (suc n) h l = rw (← e, denotedIn) (ap (λ (l : List ℕ). encode x ++ l) (denoted-more s n q (omega arith)))
 
--- a string whose first byte stands for itself, against bytes that begin with another one
-pub denoted-other : (s : List ℕ) (p : ℕ) (names : List ℕ) (from : ℕ) {b : ℕ} → bare b ≡ pieceAt s p → from < length names → (getD names from 0 ≡ b → ⊥)
+-- a string whose first byte stands for itself, against bytes that do not begin with it
+pub denoted-other : (s : List ℕ) (p : ℕ) (names : List ℕ) (from : ℕ) {b : ℕ} → bare b ≡ pieceAt s p → (byteAt names from ≡ b → ⊥)
     → (n : ℕ) → sameBytes (take n (drop from names)) (denoted s p) ≡ false
-denoted-other s p names from {b} e h d n = rw (denoted-bare s p b e) (same-first names from b (denoted s (p + 1)) n h d)
+denoted-other s p names from {b} e d n = rw (denoted-bare s p b e) (same-first names from b (denoted s (p + 1)) n d)
 
 -- ---- the end of a string
 

@@ -1,10 +1,10 @@
 -- What stands at a place of a text: total, so that no place is out of range. Code by places cites these definitions;
 -- `proofs/` shows that on a JSON text they give what the grammar says.
-use Prim.Native.Nat.{ℕ, zero, suc, _+_, _-_}
+use Prim.Native.Nat.{ℕ, suc, _+_, _-_}
 use mathlib.Core.List.{List, [], _∷_}
-use mathlib.Core.Bool.{Bool, true, false, _||_, _&&_}
-use lib.Dec.{eqb, leb}
-use lib.ListN.{length, getD, drop}
+use mathlib.Core.Bool.{Bool, true, false, _||_}
+use lib.Dec.{eqb}
+use lib.ListN.{getD, drop}
 
 -- the byte at a place, 256 past the end
 abbrev pub byteAt : List ℕ → ℕ → ℕ

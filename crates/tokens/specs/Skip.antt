@@ -1,7 +1,7 @@
 -- Past a value, by places.
 -- 01, Reading: "A member that the table does not know is skipped, value and all its nesting, if the sequence is extensible."
 use Prim.Native.Nat.{ℕ, zero, suc, _+_, _-_}
-use mathlib.Core.List.{List, [], _∷_}
+use mathlib.Core.List.{List}
 use mathlib.Core.Bool.{Bool, true, false, _||_, not}
 use lib.Dec.{eqb}
 use lib.ListN.{length}

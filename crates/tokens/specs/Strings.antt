@@ -4,7 +4,7 @@ use mathlib.Core.List.{List, [], _∷_, _++_}
 use mathlib.Core.Bool.{Bool, true, false, _&&_, _||_}
 use lib.Dec.{eqb, leb}
 use lib.ListN.{length}
-use Rattle.json.specs.Bytes.{Row, on, pick}
+use Rattle.json.specs.Bytes.{on, pick}
 use Rattle.json.specs.Utf8.{encode}
 use Rattle.json.specs.Grammar.{paired}
 use Rattle.tokens.specs.Places.{byteAt}

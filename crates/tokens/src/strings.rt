@@ -1,13 +1,14 @@
 // Strings, from the place after the opening quotation mark: the characters that they denote, compared, counted and copied.
 ghost use mathlib.Core.Path.{_≡_};
 ghost use mathlib.Core.Bool.{true, false};
+ghost use mathlib.Core.List.{List};
 ghost use Prim.Native.Nat.{ℕ, _≤_, _<_};
 ghost use lib.ListN.{length, take, drop};
 ghost use lib.Seq.{sets};
 ghost use Rattle.json.specs.Utf8.{encode};
 ghost use Rattle.json.specs.Grammar.{paired};
 ghost use Rattle.jer.specs.Table.{sameBytes};
-ghost use Rattle.tokens.specs.Strings.{digitAt, unitAt, letterOf, escaped, escapeAt, pieceAt, denoted, stringEnd};
+ghost use Rattle.tokens.specs.Strings.{digitAt, unitAt, letterOf, bare, escaped, escapeAt, pieceAt, denoted, stringEnd};
 ghost use Rattle.tokens.specs.Enums.{pieceOf, Coded, Encodes};
 use crate::cursor::byte_at;
 use crate::slices::part;
@@ -225,24 +226,28 @@ pub fn same_as(s: &[u8], p: usize, name: &[u8]) -> bool
     k == name.len()
 }
 
-// Whether the string's first byte stands for itself and is another one than that of the names at `from`.
-fn first_differs(s: &[u8], p: usize, names: &[u8], from: usize) -> bool
-    ensures { λ r. ⌜ (r ≡ true → (n : ℕ) → sameBytes (take n (drop from (now (names .entry)))) (denoted (now (s .entry)) p) ≡ false) ⌝ }
+// The first byte of the string at p if it stands for itself, or 256.
+pub fn plain_first(s: &[u8], p: usize) -> u32
+    ensures { λ r. ⌜ (r < 256 → bare r ≡ pieceAt (now (s .entry)) p) ⌝ }
 {
-    if s.len() <= p {
-        return false;
-    }
-    if names.len() <= from {
-        return false;
-    }
-    let b = s[p];
+    let b = byte_at(s, p);
     if b == 0x22 {
-        return false;
+        return 256;
     }
     if b == 0x5C {
+        return 256;
+    }
+    b
+}
+
+// Whether no name at `from` can be a string that begins with b, its plain first byte. Where b is 256, any can.
+pub fn first_differs(names: &[u8], from: usize, b: u32) -> bool
+    ensures { λ r. ⌜ (r ≡ true → (s : List ℕ) (p n : ℕ) → (b < 256 → bare b ≡ pieceAt s p) → sameBytes (take n (drop from (now (names .entry)))) (denoted s p) ≡ false) ⌝ }
+{
+    if 256 <= b {
         return false;
     }
-    names[from] != b
+    byte_at(names, from) != b
 }
 
 // Whether the string at p denotes the name that stands in `names` at `from`, len bytes long.
@@ -250,9 +255,6 @@ pub fn same(s: &[u8], p: usize, names: &[u8], from: usize, len: usize) -> bool
     requires { ⌜ length (now s) ≤ 65536 ⌝ }
     ensures { λ r. ⌜ r ≡ sameBytes (take len (drop from (now (names .entry)))) (denoted (now (s .entry)) p) ⌝ }
 {
-    if first_differs(s, p, names, from) {
-        return false;
-    }
     let name = part(names, from, len);
     same_as(s, p, name)
 }

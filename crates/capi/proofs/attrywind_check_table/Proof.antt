@@ -3,7 +3,6 @@ use Rattle.capi.specs.Answers.{ofTable}
 use borrow.Author.Needs.{needs}
 use Rattle.capi.proofs.attrywind_check_table.Statement.{statement}
 use Rattle.capi.proofs.attrywind_check_table.Tie as tie
-use Rattle.capi.proofs.attrywind_check_table.Reads as reads
 
 -- src/lib.rt:41:11
 check-requires : tie.Need-check-requires

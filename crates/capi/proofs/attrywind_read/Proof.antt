@@ -3,7 +3,6 @@ use Rattle.capi.specs.Answers.{ofReading}
 use borrow.Author.Needs.{needs}
 use Rattle.capi.proofs.attrywind_read.Statement.{statement}
 use Rattle.capi.proofs.attrywind_read.Tie as tie
-use Rattle.capi.proofs.attrywind_read.Reads as reads
 
 -- src/lib.rt:65:11
 read-requires : tie.Need-read-requires

@@ -3,7 +3,6 @@ use Rattle.capi.specs.Answers.{ofWriting}
 use borrow.Author.Needs.{needs}
 use Rattle.capi.proofs.attrywind_write.Statement.{statement}
 use Rattle.capi.proofs.attrywind_write.Tie as tie
-use Rattle.capi.proofs.attrywind_write.Reads as reads
 
 -- src/lib.rt:88:11
 write-requires : tie.Need-write-requires

@@ -4,7 +4,6 @@ use Rattle.capi.specs.Answers.{amountsAfter}
 use borrow.Author.Needs.{needs}
 use Rattle.capi.proofs.refused.Statement.{statement}
 use Rattle.capi.proofs.refused.Tie as tie
-use Rattle.capi.proofs.refused.Reads as reads
 
 -- src/lib.rt:30:9
 report-requires : tie.Need-report-requires

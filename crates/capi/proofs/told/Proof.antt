@@ -3,7 +3,6 @@ use borrow.Author.Needs.{needs}
 use Rattle.capi.proofs.AnswerLaws.{stored, no-room}
 use Rattle.capi.proofs.told.Statement.{statement}
 use Rattle.capi.proofs.told.Tie as tie
-use Rattle.capi.proofs.told.Reads as reads
 
 -- src/lib.rt:20:9
 slice-write-amounts : tie.Need-slice-write-amounts

@@ -4,8 +4,6 @@ use lib.Seq.{length-take-le, take-all}
 use borrow.Author.Needs.{needs}
 use Rattle.hexlines.proofs.first.Statement.{statement}
 use Rattle.hexlines.proofs.first.Tie as tie
-use Rattle.hexlines.proofs.first.Reads as reads
-use Rattle.hexlines.proofs.first.Lts as lts
 
 -- src/lib.rt:34:9
 returns : tie.Need-returns

@@ -4,8 +4,6 @@ use lib.Seq.{length-take-le, take-all}
 use borrow.Author.Needs.{needs}
 use Rattle.hexlines.proofs.first_numbers.Statement.{statement}
 use Rattle.hexlines.proofs.first_numbers.Tie as tie
-use Rattle.hexlines.proofs.first_numbers.Reads as reads
-use Rattle.hexlines.proofs.first_numbers.Lts as lts
 
 -- src/lib.rt:44:9
 returns : tie.Need-returns

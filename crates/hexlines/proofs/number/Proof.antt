@@ -1,13 +1,9 @@
-use Prim.Native.Nat.{ℕ, _≤_, _<_, _-_, _+_}
+use Prim.Native.Nat.{_≤_, _-_}
 use mathlib.Core.Path.{_≡_}
 use lib.ListN.{length}
 use borrow.Author.Needs.{needs}
 use Rattle.hexlines.proofs.number.Statement.{statement}
 use Rattle.hexlines.proofs.number.Tie as tie
-use Rattle.hexlines.proofs.number.Reads as reads
-use Rattle.hexlines.proofs.number.Lts as lts
-use Rattle.hexlines.proofs.digit.Reads as digit-reads
-use Rattle.hexlines.proofs.next_byte.Reads as next-byte-reads
 
 abbrev Inv-loop : tie.InvT-loop
 Inv-loop buf₀ high i₀ x₀ k₀ buf i x k = (k ≤ 8) × (length buf ≡ length buf₀)

@@ -1,15 +1,9 @@
-use Prim.Native.Nat.{ℕ, _≤_, _<_, _-_, _+_}
+use Prim.Native.Nat.{_-_}
 use mathlib.Core.Path.{_≡_}
 use lib.ListN.{length}
 use borrow.Author.Needs.{needs}
 use Rattle.hexlines.proofs.numbers.Statement.{statement}
 use Rattle.hexlines.proofs.numbers.Tie as tie
-use Rattle.hexlines.proofs.numbers.Reads as reads
-use Rattle.hexlines.proofs.numbers.Lts as lts
-use Rattle.hexlines.proofs.ends.Reads as ends-reads
-use Rattle.hexlines.proofs.next_byte.Reads as next-byte-reads
-use Rattle.hexlines.proofs.number.Reads as number-reads
-use Rattle.hexlines.proofs.put_number.Reads as put-number-reads
 
 abbrev Inv-loop : tie.InvT-loop
 Inv-loop buf₀ out₀ i₀ k₀ buf out i k = (length buf ≡ length buf₀) × (length out ≡ length out₀)

@@ -1,15 +1,9 @@
-use Prim.Native.Nat.{ℕ, _≤_, _<_, _-_, _+_}
+use Prim.Native.Nat.{_-_}
 use mathlib.Core.Path.{_≡_}
 use lib.ListN.{length}
 use borrow.Author.Needs.{needs}
 use Rattle.hexlines.proofs.octets.Statement.{statement}
 use Rattle.hexlines.proofs.octets.Tie as tie
-use Rattle.hexlines.proofs.octets.Reads as reads
-use Rattle.hexlines.proofs.octets.Lts as lts
-use Rattle.hexlines.proofs.digit.Reads as digit-reads
-use Rattle.hexlines.proofs.ends.Reads as ends-reads
-use Rattle.hexlines.proofs.next_byte.Reads as next-byte-reads
-use Rattle.hexlines.proofs.put.Reads as put-reads
 
 abbrev Inv-loop : tie.InvT-loop
 Inv-loop buf₀ out₀ i₀ k₀ buf out i k = (length buf ≡ length buf₀) × (length out ≡ length out₀)

@@ -1,14 +1,8 @@
-use Prim.Native.Nat.{ℕ, _≤_, _<_, _-_, _+_}
-use mathlib.Core.Path.{_≡_}
+use Prim.Native.Nat.{_≤_, _-_}
 use lib.ListN.{length}
 use borrow.Author.Needs.{needs}
 use Rattle.hexlines.proofs.print_octets.Statement.{statement}
 use Rattle.hexlines.proofs.print_octets.Tie as tie
-use Rattle.hexlines.proofs.print_octets.Reads as reads
-use Rattle.hexlines.proofs.print_octets.Lts as lts
-use Rattle.hexlines.proofs.byte_at.Reads as byte-at-reads
-use Rattle.hexlines.proofs.digit_of.Reads as digit-of-reads
-use Rattle.io.proofs.write_all.Reads as write-all-reads
 
 abbrev Inv-loop : tie.InvT-loop
 Inv-loop s i₀ t5 i = 0 ≤ i

@@ -1,12 +1,8 @@
-use Prim.Native.Nat.{ℕ, _≤_, _<_, _-_, _+_}
-use mathlib.Core.Path.{_≡_}
+use Prim.Native.Nat.{_≤_, _-_}
 use lib.ListN.{length}
 use borrow.Author.Needs.{needs}
 use Rattle.hexlines.proofs.print_rows.Statement.{statement}
 use Rattle.hexlines.proofs.print_rows.Tie as tie
-use Rattle.hexlines.proofs.print_rows.Reads as reads
-use Rattle.hexlines.proofs.print_rows.Lts as lts
-use Rattle.hexlines.proofs.print_row.Reads as print-row-reads
 
 abbrev Inv-loop : tie.InvT-loop
 Inv-loop rows n k₀ at₀ k at = k ≤ at

@@ -1,13 +1,9 @@
-use Prim.Native.Nat.{ℕ, _≤_, _<_, _-_, _+_}
+use Prim.Native.Nat.{_≤_, _-_}
 use mathlib.Core.Path.{_≡_}
 use lib.ListN.{length}
 use borrow.Author.Needs.{needs}
 use Rattle.hexlines.proofs.put8.Statement.{statement}
 use Rattle.hexlines.proofs.put8.Tie as tie
-use Rattle.hexlines.proofs.put8.Reads as reads
-use Rattle.hexlines.proofs.put8.Lts as lts
-use Rattle.hexlines.proofs.digit_of.Reads as digit-of-reads
-use Rattle.hexlines.proofs.put.Reads as put-reads
 
 abbrev Inv-loop : tie.InvT-loop
 Inv-loop out₀ at x rest₀ k₀ out rest k = (k ≤ 8) × (length out ≡ length out₀)

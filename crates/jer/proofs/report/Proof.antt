@@ -1,11 +1,6 @@
 use borrow.Author.Needs.{needs}
 use Rattle.jer.proofs.report.Statement.{statement}
 use Rattle.jer.proofs.report.Tie as tie
-use Rattle.jer.proofs.report.Reads as reads
-use Rattle.jer.proofs.report.Lts as lts
-use Rattle.jer.proofs.cause_number.Reads as cause-number-reads
-use Rattle.jer.proofs.limit_number.Reads as limit-number-reads
-use Rattle.jer.proofs.table_number.Reads as table-number-reads
 
 -- src/lib.rt:121:25
 enum-known-e : tie.Need-enum-known-e

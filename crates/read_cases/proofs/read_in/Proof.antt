@@ -4,9 +4,6 @@ use lib.Seq.{length-take-le}
 use borrow.Author.Needs.{needs}
 use Rattle.read_cases.proofs.read_in.Statement.{statement}
 use Rattle.read_cases.proofs.read_in.Tie as tie
-use Rattle.read_cases.proofs.read_in.Reads as reads
-use Rattle.read_cases.proofs.read_in.Lts as lts
-use Rattle.reading.proofs.read.Reads as read-reads
 
 -- src/main.rt:47:9
 read-requires : tie.Need-read-requires

@@ -1,4 +1,4 @@
-use mathlib.Core.Path.{_≡_, refl, sym, _∙_}
+use mathlib.Core.Path.{refl, _∙_}
 use native.Mathlib.Omega.{arith}
 use Rattle.types.specs.Rows.{table}
 use Rattle.places.specs.ByPlaces.{readAt}
@@ -7,11 +7,6 @@ use Rattle.reading.proofs.ReadLaws.{given, means-no, means-ok, refuses,
 use borrow.Author.Needs.{needs}
 use Rattle.reading.proofs.measured.Statement.{statement}
 use Rattle.reading.proofs.measured.Tie as tie
-use Rattle.reading.proofs.measured.Reads as reads
-use Rattle.reading.proofs.measured.Lts as lts
-use Rattle.typed.proofs.cycle.value.Reads as value-reads
-use Rattle.reading.proofs.needed.Reads as needed-reads
-use Rattle.tokens.proofs.cursor.run.Reads as run-reads
 
 -- src/lib.rt:48:9
 run-requires : tie.Need-run-requires

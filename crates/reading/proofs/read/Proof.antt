@@ -1,14 +1,9 @@
-use mathlib.Core.Path.{_≡_, sym, _∙_}
+use mathlib.Core.Path.{sym, _∙_}
 use Rattle.types.specs.Rows.{table}
 use Rattle.reading.proofs.ReadLaws.{bad-table, bad-text, refuses, tell}
 use borrow.Author.Needs.{needs}
 use Rattle.reading.proofs.read.Statement.{statement}
 use Rattle.reading.proofs.read.Tie as tie
-use Rattle.reading.proofs.read.Reads as reads
-use Rattle.reading.proofs.read.Lts as lts
-use Rattle.reading.proofs.measured.Reads as measured-reads
-use Rattle.text.proofs.check.Reads as check-reads
-use Rattle.types.proofs.check.Reads as check-reads′
 
 -- src/lib.rt:32:11
 check-requires : tie.Need-check-requires

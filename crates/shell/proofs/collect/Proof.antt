@@ -1,14 +1,9 @@
-use Prim.Native.Nat.{ℕ, _≤_, _<_, _-_, _+_}
+use Prim.Native.Nat.{_≤_, _-_}
 use mathlib.Core.Path.{_≡_}
 use lib.ListN.{length}
 use borrow.Author.Needs.{needs}
 use Rattle.shell.proofs.collect.Statement.{statement}
 use Rattle.shell.proofs.collect.Tie as tie
-use Rattle.shell.proofs.collect.Reads as reads
-use Rattle.shell.proofs.collect.Lts as lts
-use Rattle.hexlines.proofs.next_byte.Reads as next-byte-reads
-use Rattle.hexlines.proofs.put.Reads as put-reads
-use Rattle.io.proofs.buffer.Reads as buffer-reads
 
 abbrev Inv-loop : tie.InvT-loop
 Inv-loop lines out₀ buf₀ input₀ left₀ digits₀ k₀ out buf input left digits k = (4096 ≡ length buf) × (length out ≡ length out₀) × (digits ≤ 16384) × (k ≤ length out)

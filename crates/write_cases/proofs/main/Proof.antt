@@ -1,13 +1,9 @@
-use Prim.Native.Nat.{ℕ, _≤_, _<_, _-_, _+_}
+use Prim.Native.Nat.{_-_}
 use mathlib.Core.Path.{_≡_}
 use lib.ListN.{length}
 use borrow.Author.Needs.{needs}
 use Rattle.write_cases.proofs.main.Statement.{statement}
 use Rattle.write_cases.proofs.main.Tie as tie
-use Rattle.write_cases.proofs.main.Reads as reads
-use Rattle.write_cases.proofs.main.Lts as lts
-use Rattle.io.proofs.large_buffer.Reads as large-buffer-reads
-use Rattle.write_cases.proofs.one.Reads as one-reads
 
 abbrev Inv-loop : tie.InvT-loop
 Inv-loop buf₀ input₀ turns₀ buf input turns = 65536 ≡ length buf

@@ -4,9 +4,6 @@ use lib.Seq.{length-take-le}
 use borrow.Author.Needs.{needs}
 use Rattle.write_cases.proofs.write_in.Statement.{statement}
 use Rattle.write_cases.proofs.write_in.Tie as tie
-use Rattle.write_cases.proofs.write_in.Reads as reads
-use Rattle.write_cases.proofs.write_in.Lts as lts
-use Rattle.writing.proofs.write.Reads as write-reads
 
 -- src/main.rt:44:9
 write-requires : tie.Need-write-requires

@@ -1,13 +1,7 @@
-use Prim.Native.Nat.{ℕ, _≤_, _<_, _-_, _+_}
-use mathlib.Core.Path.{_≡_}
-use lib.ListN.{length}
+use Prim.Native.Nat.{_≤_, _-_}
 use borrow.Author.Needs.{needs}
 use Rattle.hexlines.proofs.decode.is_good.Statement.{statement}
 use Rattle.hexlines.proofs.decode.is_good.Tie as tie
-use Rattle.hexlines.proofs.decode.is_good.Reads as reads
-use Rattle.hexlines.proofs.decode.is_good.Lts as lts
-use Rattle.hexlines.proofs.byte_at.Reads as byte-at-reads
-use Rattle.hexlines.proofs.decode.is_digit.Reads as is-digit-reads
 
 abbrev Inv-loop : tie.InvT-loop
 Inv-loop s at end unit i₀ i = 0 ≤ i

@@ -1,11 +1,8 @@
-use Prim.Native.Nat.{ℕ, _≤_, _<_, _-_, _+_}
-use mathlib.Core.Path.{_≡_}
+use Prim.Native.Nat.{_≤_, _-_}
 use lib.ListN.{length}
 use borrow.Author.Needs.{needs}
 use Rattle.hexlines.proofs.decode.line_end.Statement.{statement}
 use Rattle.hexlines.proofs.decode.line_end.Tie as tie
-use Rattle.hexlines.proofs.decode.line_end.Reads as reads
-use Rattle.hexlines.proofs.decode.line_end.Lts as lts
 
 abbrev Inv-loop : tie.InvT-loop
 Inv-loop s at i₀ i = (at ≤ i) × (i ≤ length s)

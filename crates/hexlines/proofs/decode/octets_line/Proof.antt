@@ -1,15 +1,9 @@
-use Prim.Native.Nat.{ℕ, _≤_, _<_, _-_, _+_}
+use Prim.Native.Nat.{_≤_, _-_}
 use mathlib.Core.Path.{_≡_}
 use lib.ListN.{length}
 use borrow.Author.Needs.{needs}
 use Rattle.hexlines.proofs.decode.octets_line.Statement.{statement}
 use Rattle.hexlines.proofs.decode.octets_line.Tie as tie
-use Rattle.hexlines.proofs.decode.octets_line.Reads as reads
-use Rattle.hexlines.proofs.decode.octets_line.Lts as lts
-use Rattle.hexlines.proofs.decode.is_good.Reads as is-good-reads
-use Rattle.hexlines.proofs.decode.line_end.Reads as line-end-reads
-use Rattle.hexlines.proofs.decode.value_at.Reads as value-at-reads
-use Rattle.hexlines.proofs.put.Reads as put-reads
 
 abbrev Inv-loop : tie.InvT-loop
 Inv-loop s at out₀ end k₀ i₀ out k i = (length out ≡ length out₀) × (k ≤ i)

@@ -1,13 +1,7 @@
-use Prim.Native.Nat.{ℕ, _≤_, _<_, _-_, _+_}
-use mathlib.Core.Path.{_≡_}
-use lib.ListN.{length}
+use Prim.Native.Nat.{_≤_, _-_}
 use borrow.Author.Needs.{needs}
 use Rattle.hexlines.proofs.decode.value_at.Statement.{statement}
 use Rattle.hexlines.proofs.decode.value_at.Tie as tie
-use Rattle.hexlines.proofs.decode.value_at.Reads as reads
-use Rattle.hexlines.proofs.decode.value_at.Lts as lts
-use Rattle.hexlines.proofs.byte_at.Reads as byte-at-reads
-use Rattle.hexlines.proofs.digit.Reads as digit-reads
 
 abbrev Inv-loop : tie.InvT-loop
 Inv-loop s at n x₀ k₀ x k = 0 ≤ k

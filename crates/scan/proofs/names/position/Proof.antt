@@ -18,18 +18,18 @@ abbrev test : List ℕ → List ℕ → List ℕ → ℕ → ℕ → ℕ → Boo
 test types names s row q = named (table types names) row (denoted s (q + 1))
 
 abbrev Inv-loop : tie.InvT-loop
-Inv-loop types names s row q first count i₀ i = firstWhere (test types names s row q) i (count - i) ≡ position (table types names) row (denoted s (q + 1))
+Inv-loop types names s row q first count p b i₀ i = firstWhere (test types names s row q) i (count - i) ≡ position (table types names) row (denoted s (q + 1))
 
 abbrev μ-loop : tie.MeasureT-loop
-μ-loop types names s row q first count i₀ i = count - i
+μ-loop types names s row q first count p b i₀ i = count - i
 
-compared : (c : tie.After-same Inv-loop μ-loop) → let a = c .before .before .before .before .before .before .before .before .before .before .before .before .before .before .args in c .same .result ≡ test (a .types .now) (a .names .now) (a .s .now) (a .row) (a .q) (c .before .before .before .before .before .before .before .loop .i)
+compared : (c : tie.After-has-name Inv-loop μ-loop) → let a = c .before .before .before .before .before .before .before .before .before .before .before .args in c .has-name .result ≡ test (a .types .now) (a .names .now) (a .s .now) (a .row) (a .q) (c .before .before .before .loop .i)
 compared c =
-    let a = c .before .before .before .before .before .before .before .before .before .before .before .before .before .before .args in
+    let a = c .before .before .before .before .before .before .before .before .before .before .before .args in
     let ns = a .names .now in
-    let i = c .before .before .before .before .before .before .before .loop .i in
-    let m = member-row (a .types .now) ns (a .row) i (c .before .before .before .before .before .before .before .before .before .before .field .ensures ns) (c .before .before .before .before .before .before .before .before .before .wide .ensures .0) (c .before .before .before .before .before .wide2 .ensures .0) in
-    named-is (a .types .now) ns (a .row) i (denoted (a .s .now) (a .q + 1)) m (c .before .before .before .before .field3 .ensures ns) (c .before .before .before .wide3 .ensures .0) (c .before .before .field4 .ensures ns) (c .before .wide4 .ensures .0) (c .same .ensures)
+    let i = c .before .before .before .loop .i in
+    let m = member-row (a .types .now) ns (a .row) i (c .before .before .before .before .before .before .before .field .ensures ns) (c .before .before .before .before .before .before .wide .ensures .0) (c .before .wide2 .ensures .0) in
+    named-is (table (a .types .now) ns) (a .row) i (denoted (a .s .now) (a .q + 1)) m (c .has-name .ensures)
 
 field-requires : tie.Need-field-requires Inv-loop μ-loop
 field-requires c κs = search needs
@@ -40,39 +40,32 @@ wide-requires c κs = search needs
 field-requires-2 : tie.Need-field-requires-2 Inv-loop μ-loop
 field-requires-2 c κs = search needs
 
+add-p : tie.Need-add-p Inv-loop μ-loop
+add-p c = search needs
+
+plain-first-requires : tie.Need-plain-first-requires Inv-loop μ-loop
+plain-first-requires c κs = search needs
+
 loop-holds : tie.Need-loop-holds Inv-loop μ-loop
-loop-holds c = let a = c .before .before .before .before .before .before .args in position-starts (table (a .types .now) (a .names .now)) (a .row) (denoted (a .s .now) (a .q + 1)) (c .field2 .ensures (a .names .now))
+loop-holds c =
+    let a = c .before .before .before .before .before .before .before .args in
+    position-starts (table (a .types .now) (a .names .now)) (a .row) (denoted (a .s .now) (a .q + 1)) (c .before .field2 .ensures (a .names .now))
 
 wide-requires-2 : tie.Need-wide-requires-2 Inv-loop μ-loop
 wide-requires-2 c κs = search needs
 
-add-m : tie.Need-add-m Inv-loop μ-loop
-add-m c = search needs
+add-has-name : tie.Need-add-has-name Inv-loop μ-loop
+add-has-name c = search needs
 
-field-requires-3 : tie.Need-field-requires-3 Inv-loop μ-loop
-field-requires-3 c κs = search needs
-
-wide-requires-3 : tie.Need-wide-requires-3 Inv-loop μ-loop
-wide-requires-3 c κs = search needs
-
-field-requires-4 : tie.Need-field-requires-4 Inv-loop μ-loop
-field-requires-4 c κs = search needs
-
-wide-requires-4 : tie.Need-wide-requires-4 Inv-loop μ-loop
-wide-requires-4 c κs = search needs
-
-add-same : tie.Need-add-same Inv-loop μ-loop
-add-same c = search needs
-
-same-requires : tie.Need-same-requires Inv-loop μ-loop
-same-requires c κs = search needs
+has-name-requires : tie.Need-has-name-requires Inv-loop μ-loop
+has-name-requires c κs = (c .before .before .before .before .before .before .before .before .before .before .pre .0, c .before .before .before .plain-first .ensures)
 
 returns : tie.Need-returns Inv-loop μ-loop
 unfolding foundOf
 returns c =
-    let a = c .before .before .before .before .before .before .before .before .before .before .before .before .before .before .before .args in
-    let l = c .before .before .before .before .before .before .before .before .loop in
-    ap foundOf (first-found (test (a .types .now) (a .names .now) (a .s .now) (a .row) (a .q)) (l .i) (c .before .before .before .before .before .before .before .before .before .field2 .result) (c .before .before .before .before .before .before .before .loop-test .taken) (compared (c .before)) (c .if1 .taken) (l .inv))
+    let a = c .before .before .before .before .before .before .before .before .before .before .before .before .args in
+    let l = c .before .before .before .before .loop in
+    ap foundOf (first-found (test (a .types .now) (a .names .now) (a .s .now) (a .row) (a .q)) (l .i) (c .before .before .before .before .before .before .field2 .result) (c .before .before .before .loop-test .taken) (compared (c .before)) (c .if1 .taken) (l .inv))
 
 add-i : tie.Need-add-i Inv-loop μ-loop
 add-i c = search needs
@@ -82,16 +75,16 @@ loop-less c = omega arith
 
 loop-again : tie.Need-loop-again Inv-loop μ-loop
 loop-again c =
-    let a = c .before .before .before .before .before .before .before .before .before .before .before .before .before .before .before .args in
-    let l = c .before .before .before .before .before .before .before .before .loop in
-    first-next (test (a .types .now) (a .names .now) (a .s .now) (a .row) (a .q)) (l .i) (c .before .before .before .before .before .before .before .before .before .field2 .result) (c .before .before .before .before .before .before .before .loop-test .taken) (compared (c .before)) (c .if1 .left) (l .inv)
+    let a = c .before .before .before .before .before .before .before .before .before .before .before .before .args in
+    let l = c .before .before .before .before .loop in
+    first-next (test (a .types .now) (a .names .now) (a .s .now) (a .row) (a .q)) (l .i) (c .before .before .before .before .before .before .field2 .result) (c .before .before .before .loop-test .taken) (compared (c .before)) (c .if1 .left) (l .inv)
 
 returns-2 : tie.Need-returns-2 Inv-loop μ-loop
 unfolding foundOf
 returns-2 c =
-    let a = c .before .before .before .before .before .before .before .before .args in
+    let a = c .before .before .before .before .before .before .before .before .before .args in
     let l = c .before .loop in
-    ap foundOf (first-ends (test (a .types .now) (a .names .now) (a .s .now) (a .row) (a .q)) (l .i) (c .before .before .field2 .result) (c .loop-test .left) (l .inv))
+    ap foundOf (first-ends (test (a .types .now) (a .names .now) (a .s .now) (a .row) (a .q)) (l .i) (c .before .before .before .field2 .result) (c .loop-test .left) (l .inv))
 
 pub position-spec : {M : Type 1} → statement M
 position-spec =
@@ -102,15 +95,12 @@ position-spec =
     field-requires
     wide-requires
     field-requires-2
+    add-p
+    plain-first-requires
     loop-holds
     wide-requires-2
-    add-m
-    field-requires-3
-    wide-requires-3
-    field-requires-4
-    wide-requires-4
-    add-same
-    same-requires
+    add-has-name
+    has-name-requires
     returns
     add-i
     loop-less

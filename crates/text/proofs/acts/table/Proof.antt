@@ -1,17 +1,16 @@
 -- The table has, for each mode and class, what the class's first byte leads to; one test over all modes and bytes shows that its other bytes lead there too.
-use Prim.Native.Nat.{ℕ, _<_, _≤_, _+_, _-_}
+use Prim.Native.Nat.{ℕ, _<_, _+_, _-_}
 use mathlib.Core.Path.{_≡_, _∙_, ap}
 use mathlib.Core.List.{List, [], _∷_}
-use mathlib.Core.Bool.{Bool, _&&_}
+use mathlib.Core.Bool.{Bool}
 use native.Mathlib.Nat.{zero-add}
 use native.Mathlib.Omega.{arith}
-use borrow.Author.Needs.{needs}
-use lib.Dec.{T, eqb, leb, eqb→eq, leb→le}
+use lib.Dec.{T, eqb, eqb→eq}
 use lib.ListN.{getD}
 use Rattle.json.specs.Bytes.{In, pick}
 use Rattle.text.specs.Class.{classOf}
 use Rattle.text.specs.Outline.{actOf}
-use Rattle.text.proofs.Tables.{both, all, below, table, table-at}
+use Rattle.text.proofs.Tables.{all, below, table, table-at}
 use Rattle.text.proofs.ClassLaws.{class-range}
 use Rattle.text.proofs.acts.table.Statement.{statement}
 use Rattle.text.proofs.acts.table.Tie as tie

@@ -1,7 +1,6 @@
 -- One computed test: each entry of the table against `classOf` of the bytes 0 to 255.
 use mathlib.Core.Path.{_∙_, ap}
 use native.Mathlib.Nat.{zero-add}
-use borrow.Author.Needs.{needs}
 use Rattle.text.specs.Class.{classOf}
 use Rattle.text.proofs.Tables.{table-at}
 use Rattle.text.proofs.classes.table.Statement.{statement}

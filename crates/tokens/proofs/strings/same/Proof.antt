@@ -1,5 +1,5 @@
 use borrow.Author.Needs.{needs}
-use mathlib.Core.Path.{sym, ap, _∙_}
+use mathlib.Core.Path.{ap, _∙_}
 use mathlib.Core.List.{List}
 use Prim.Native.Nat.{ℕ}
 use Rattle.jer.specs.Table.{sameBytes}
@@ -7,22 +7,16 @@ use Rattle.tokens.specs.Strings.{denoted}
 use Rattle.tokens.proofs.strings.same.Statement.{statement}
 use Rattle.tokens.proofs.strings.same.Tie as tie
 
-first-differs-requires : tie.Need-first-differs-requires
-first-differs-requires c κs = search needs
-
-returns : tie.Need-returns
-returns c = sym (c .before .first-differs .ensures (c .if1 .taken) (c .before .before .before .before .args .len))
-
 part-requires : tie.Need-part-requires
 part-requires c κs = search needs
 
 same-as-requires : tie.Need-same-as-requires
 same-as-requires c κs = search needs
 
-returns-2 : tie.Need-returns-2
-returns-2 c =
-    let a = c .before .before .before .before .before .before .args in
+returns : tie.Need-returns
+returns c =
+    let a = c .before .before .before .before .args in
     c .same-as .ensures ∙ ap (λ (l : List ℕ). sameBytes l (denoted (a .s .now) (a .p))) (c .before .part .ensures)
 
 pub same-spec : {M : Type 1} → statement M
-same-spec = tie.close (tie.spec first-differs-requires returns part-requires same-as-requires returns-2)
+same-spec = tie.close (tie.spec part-requires same-as-requires returns)

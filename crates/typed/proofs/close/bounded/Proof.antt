@@ -2,9 +2,6 @@ use Rattle.typed.proofs.FoundLaws.{bounded-refused, bounded-rows, bound
 use borrow.Author.Needs.{needs}
 use Rattle.typed.proofs.close.bounded.Statement.{statement}
 use Rattle.typed.proofs.close.bounded.Tie as tie
-use Rattle.typed.proofs.close.bounded.Reads as reads
-use Rattle.typed.proofs.close.bounded.Lts as lts
-use Rattle.typed.proofs.close.too_many.Reads as too-many-reads
 
 enum-known-z : tie.Need-enum-known-z
 enum-known-z c = search needs

@@ -1,15 +1,10 @@
-use mathlib.Core.Path.{_≡_, ap, _∙_}
+use mathlib.Core.Path.{ap, _∙_}
 use mathlib.Core.List.{[], _∷_}
 use Prim.Native.Nat.{ℕ, _*_}
 use lib.Seq.{sets}
 use borrow.Author.Needs.{needs}
 use Rattle.typed.proofs.close.close.Statement.{statement}
 use Rattle.typed.proofs.close.close.Tie as tie
-use Rattle.typed.proofs.close.close.Reads as reads
-use Rattle.typed.proofs.close.close.Lts as lts
-use Rattle.leaf.proofs.store.narrow.Reads as narrow-reads
-use Rattle.leaf.proofs.store.put_row.Reads as put-row-reads
-use Rattle.typed.proofs.close.bounded.Reads as bounded-reads
 
 add-narrow : tie.Need-add-narrow
 add-narrow c = search needs

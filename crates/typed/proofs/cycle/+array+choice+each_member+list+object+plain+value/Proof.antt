@@ -15,7 +15,6 @@ use Rattle.scan.proofs.WithinLaws.{space-within}
 use Rattle.tokens.specs.Places.{pastSpace}
 use Rattle.tokens.specs.Strings.{denoted}
 use Rattle.typed.specs.Members.{oneOf, nextOf}
-use Rattle.leaf.specs.declared.Step.the-variants as step
 use Rattle.typed.specs.Cycle.{limit, plainAt}
 use Rattle.typed.proofs.StoredLaws.{took, not-took, whole-list, whole-seq, whole-choice, closed, along, reads-no}
 use Rattle.typed.proofs.ListLaws.{Near, near-first, near-after, near-part, near-shut, Loop, loop-start, loop-shut, loop-full, loop-refused, loop-more}

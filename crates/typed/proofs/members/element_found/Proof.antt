@@ -6,16 +6,10 @@ use Rattle.tokens.specs.Skip.{isEnd}
 use Rattle.types.specs.Rows.{table}
 use native.Mathlib.Omega.{arith}
 use mathlib.Core.Bool.{not}
-use mathlib.Core.Path.{sym, ap, _∙_}
+use mathlib.Core.Path.{ap, _∙_}
 use borrow.Author.Needs.{needs}
 use Rattle.typed.proofs.members.element_found.Statement.{statement}
 use Rattle.typed.proofs.members.element_found.Tie as tie
-use Rattle.typed.proofs.members.element_found.Reads as reads
-use Rattle.typed.proofs.members.element_found.Lts as lts
-use Rattle.scan.proofs.parts.after_part.Reads as after-part-reads
-use Rattle.scan.proofs.parts.null_at.Reads as null-at-reads
-use Rattle.tokens.proofs.cursor.run.Reads as run-reads
-use Rattle.types.proofs.row.may_miss.Reads as may-miss-reads
 
 may-miss-requires : tie.Need-may-miss-requires
 may-miss-requires c κs = search needs

@@ -4,11 +4,6 @@ use borrow.Author.Tests.{not-true, not-false}
 use borrow.Author.Needs.{needs}
 use Rattle.typed.proofs.members.member_found.Statement.{statement}
 use Rattle.typed.proofs.members.member_found.Tie as tie
-use Rattle.typed.proofs.members.member_found.Reads as reads
-use Rattle.typed.proofs.members.member_found.Lts as lts
-use Rattle.typed.proofs.members.null_absent.Reads as null-absent-reads
-use Rattle.scan.proofs.parts.null_at.Reads as null-at-reads
-use Rattle.types.proofs.row.may_miss.Reads as may-miss-reads
 
 may-miss-requires : tie.Need-may-miss-requires
 may-miss-requires c κs = search needs

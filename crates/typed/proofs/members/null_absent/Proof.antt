@@ -2,12 +2,6 @@ use Rattle.jer.specs.Read.{nullAbsent}
 use borrow.Author.Needs.{needs}
 use Rattle.typed.proofs.members.null_absent.Statement.{statement}
 use Rattle.typed.proofs.members.null_absent.Tie as tie
-use Rattle.typed.proofs.members.null_absent.Reads as reads
-use Rattle.typed.proofs.members.null_absent.Lts as lts
-use Rattle.types.proofs.row.Row.optional.Reads as optional-reads
-use Rattle.types.proofs.row.member_at.Reads as member-at-reads
-use Rattle.types.proofs.row.type_at.Reads as type-at-reads
-use Rattle.types.proofs.token.null_taken.Reads as null-taken-reads
 
 member-at-requires : tie.Need-member-at-requires
 member-at-requires c κs = search needs

@@ -6,13 +6,6 @@ use mathlib.Core.Path.{sym, ap, _∙_}
 use borrow.Author.Needs.{needs}
 use Rattle.typed.proofs.members.one_at.Statement.{statement}
 use Rattle.typed.proofs.members.one_at.Tie as tie
-use Rattle.typed.proofs.members.one_at.Reads as reads
-use Rattle.typed.proofs.members.one_at.Lts as lts
-use Rattle.scan.proofs.names.value_place.Reads as value-place-reads
-use Rattle.scan.proofs.parts.first_part.Reads as first-part-reads
-use Rattle.tokens.proofs.cursor.Cursor.skip_space.Reads as skip-space-reads
-use Rattle.tokens.proofs.cursor.byte_at.Reads as byte-at-reads
-use Rattle.tokens.proofs.skip.skip_value.Reads as skip-value-reads
 
 first-part-requires : tie.Need-first-part-requires
 first-part-requires c κs = search needs

@@ -5,11 +5,6 @@ use mathlib.Core.Path.{sym, ap, _∙_}
 use borrow.Author.Needs.{needs}
 use Rattle.typed.proofs.members.surplus.Statement.{statement}
 use Rattle.typed.proofs.members.surplus.Tie as tie
-use Rattle.typed.proofs.members.surplus.Reads as reads
-use Rattle.typed.proofs.members.surplus.Lts as lts
-use Rattle.tokens.proofs.skip.skip_bracket.Reads as skip-bracket-reads
-use Rattle.types.proofs.row.Row.at.Reads as at-reads
-use Rattle.types.proofs.row.Row.extensible.Reads as extensible-reads
 
 enum-known-next : tie.Need-enum-known-next
 enum-known-next c = search needs

@@ -2,11 +2,6 @@ use mathlib.Core.Path.{sym, _∙_}
 use borrow.Author.Needs.{needs}
 use Rattle.typed.proofs.members.unknown.Statement.{statement}
 use Rattle.typed.proofs.members.unknown.Tie as tie
-use Rattle.typed.proofs.members.unknown.Reads as reads
-use Rattle.typed.proofs.members.unknown.Lts as lts
-use Rattle.leaf.proofs.refused.Reads as refused-reads
-use Rattle.types.proofs.row.Row.at.Reads as at-reads
-use Rattle.types.proofs.row.Row.extensible.Reads as extensible-reads
 
 at-requires : tie.Need-at-requires
 at-requires c κs = search needs
