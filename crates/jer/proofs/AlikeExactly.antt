@@ -20,28 +20,18 @@ use Rattle.jer.specs.Respelled.{Respelled}
 use Rattle.jer.proofs.Sane.{Sane}
 use Rattle.jer.proofs.ValidRows.{both}
 use Rattle.jer.proofs.WeightGot.{refused, steps, at-kind}
-use Rattle.jer.proofs.SpellRead.{treeToken, read-token}
+use Rattle.jer.proofs.SpellRead.{read-token}
 use Rattle.jer.proofs.AlikeRead.{brackets-as, braces-as}
 use Rattle.jer.proofs.AlikeOnly.{Shape, isNull, isBool, isInt, isReal, isString, isBrackets, isBraces, shape, number-only, string-only, Only, OnlyItems, from-plain}
 use Rattle.jer.proofs.AlikeOnlyArray.{nulls, items-only, elements-only}
 use Rattle.jer.proofs.AlikeOnlyObject.{OnlyMembers, object-only, choice-only}
-
-tree-token : (j : Json) → treeToken j ≡ tokenIn j
-unfolding treeToken tokenIn
-tree-token (jnull p) = refl
-tree-token (jbool p b) = refl
-tree-token (jint p m n) = refl
-tree-token (jreal p) = refl
-tree-token (jstr p s) = refl
-tree-token (jarr p is) = refl
-tree-token (jobj p ms) = refl
 
 -- ---- a row that is not UNWRAPPED
 
 module _ (t : Table) (r : ℕ) (w : isUnwrapped t r ≡ false) (v : Val) where
   -- two trees that it reads have one token
   same-shape : (j k : Json) → read j t r ≡ ok v → read k t r ≡ ok v → Shape (tokenIn j) k
-  same-shape j k e f = let z : tokenIn k ≡ tokenIn j = cc (tree-token j, tree-token k, read-token j t r v w e, read-token k t r v w f) in rw z at (shape k)
+  same-shape j k e f = let z : tokenIn k ≡ tokenIn j = cc (read-token j t r v w e, read-token k t r v w f) in rw z at (shape k)
 
   bool-plain : (p : ℕ) (b : Bool) → read (jbool p b) t r ≡ ok v → ok (vBool b) ≡ ok v
   unfolding read unwrapping

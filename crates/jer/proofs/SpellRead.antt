@@ -11,23 +11,15 @@ use Rattle.json.specs.Bytes.{pick}
 use Rattle.json.specs.Tree.{Json, jnull, jbool, jint, jreal, jstr, jarr, jobj, Items, Members, mnil, mcons, placeOf}
 use Rattle.json.proofs.SoundRows.{pick-within, only, _⨾_}
 use Rattle.jer.specs.declared.Cause.the-variants.{BadNumber}
-use Rattle.jer.specs.Table.{Table, BOOLEAN, INTEGER, ENUMERATED, NULL, OCTET-STRING, UTF8String, SEQUENCE, SEQUENCE-OF, CHOICE, kindOf, extensible, isArray, isUnwrapped, elementOf, countOf, typeAt, position, Token, tNull, tBoolean, tNumber, tString, tArray, tObject, tokenPick, tokenOf, alternative, isSome, canBeNull, nullTaken}
+use Rattle.jer.specs.Table.{Table, BOOLEAN, INTEGER, ENUMERATED, NULL, OCTET-STRING, UTF8String, SEQUENCE, SEQUENCE-OF, CHOICE, kindOf, extensible, isArray, isUnwrapped, elementOf, countOf, typeAt, position, tNull, tString, tArray, tObject, tokenPick, tokenOf, alternative, isSome, canBeNull, nullTaken}
 use Rattle.jer.specs.Value.{Val, vBool, vEnum, vNull, vBytes, vSeq, vList, vChoice, Vals, Parts}
 use Rattle.jer.specs.Answer.{Res, ok, bind, at}
+use Rattle.jer.specs.Moved.{tokenIn}
 use Rattle.jer.specs.Read.{Meaning, readInt, readItem, readOctets, octetsOf, readString, atKind, picked, unwrapping, readObject, nullValue, readElements, readItems, readArray, readChosen, readChoice, readBraces, null?, read, elements, entries}
 use Rattle.jer.proofs.ValidRows.{both, array-kind}
 use Rattle.jer.proofs.WeightGot.{cases, refused, nothing, got, steps, at-kind}
 
 -- ---- trees by their tokens
-
-unfoldable pub treeToken : Json → Token
-treeToken (jnull p) = tNull
-treeToken (jbool p b) = tBoolean
-treeToken (jint p m n) = tNumber
-treeToken (jreal p) = tNumber
-treeToken (jstr p s) = tString
-treeToken (jarr p is) = tArray
-treeToken (jobj p ms) = tObject
 
 -- what a tree means at a type that is not UNWRAPPED
 unfoldable plainly : Json → Table → Meaning
@@ -39,8 +31,8 @@ plainly (jstr p s) t r = readString t p s r
 plainly (jarr p is) t r = readArray t p (elements is t) r
 plainly (jobj p ms) t r = readBraces t p (entries ms t) r
 
-read-as : (j : Json) (t : Table) (r : ℕ) → read j t r ≡ unwrapping t (treeToken j) (placeOf j) (λ q. plainly j t q) r
-unfolding read treeToken placeOf plainly
+read-as : (j : Json) (t : Table) (r : ℕ) → read j t r ≡ unwrapping t (tokenIn j) (placeOf j) (λ q. plainly j t q) r
+unfolding read tokenIn placeOf plainly
 read-as (jnull p) t r = refl
 read-as (jbool p b) t r = refl
 read-as (jint p m n) t r = refl
@@ -54,7 +46,7 @@ unfolding unwrapping
 read-plain j t r w = read-as j t r ∙ rw (w, unwrapping)
 
 -- the token picks the alternative
-pub read-picked : (j : Json) (t : Table) (r i : ℕ) (v : Val) → isUnwrapped t r ≡ true → alternative t r (treeToken j) ≡ some i → isUnwrapped t (typeAt t r i) ≡ false
+pub read-picked : (j : Json) (t : Table) (r i : ℕ) (v : Val) → isUnwrapped t r ≡ true → alternative t r (tokenIn j) ≡ some i → isUnwrapped t (typeAt t r i) ≡ false
     → read j t (typeAt t r i) ≡ ok v → read j t r ≡ ok (vChoice i v)
 unfolding unwrapping picked bind
 read-picked j t r i v w a u e = read-as j t r ∙ rw (w, unwrapping, a) (rw (sym (read-plain j t (typeAt t r i) u) ∙ e))
@@ -161,8 +153,8 @@ brace-token t r p ms v =
     cases (eqb (kindOf t r) CHOICE) (λ k e. choice-token t r (eqb-true _ _ k))
     (λ k. cases (eqb (kindOf t r) SEQUENCE && not (isArray t r)) (λ a e. let b = both _ _ .0 a in sequence-token t r (eqb-true _ _ (b .0)) ∙ rw (not-true (isArray t r) (b .1))) (λ a e. refused e))
 
-plain-token : (j : Json) (t : Table) (r : ℕ) (v : Val) → plainly j t r ≡ ok v → tokenOf t r ≡ treeToken j
-unfolding plainly tokenOf pick treeToken
+plain-token : (j : Json) (t : Table) (r : ℕ) (v : Val) → plainly j t r ≡ ok v → tokenOf t r ≡ tokenIn j
+unfolding plainly tokenOf pick tokenIn
 plain-token (jnull p) t r v e = rw (at-kind t r NULL p _ v e .0)
 plain-token (jbool p b) t r v e = rw (at-kind t r BOOLEAN p _ v e .0)
 plain-token (jint p m n) t r v e = rw (at-kind t r INTEGER p _ v e .0)
@@ -172,7 +164,7 @@ plain-token (jarr p is) t r v e = bracket-token t r p is v e
 plain-token (jobj p ms) t r v e = brace-token t r p ms v e
 
 -- a tree that a type reads, if the type is not UNWRAPPED, has the type's token
-pub read-token : (j : Json) (t : Table) (r : ℕ) (v : Val) → isUnwrapped t r ≡ false → read j t r ≡ ok v → tokenOf t r ≡ treeToken j
+pub read-token : (j : Json) (t : Table) (r : ℕ) (v : Val) → isUnwrapped t r ≡ false → read j t r ≡ ok v → tokenOf t r ≡ tokenIn j
 read-token j t r v w e = plain-token j t r v (sym (read-plain j t r w) ∙ e)
 
 -- ---- null

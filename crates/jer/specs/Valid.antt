@@ -56,14 +56,18 @@ goodAlone t r =
 
 -- ---- by the kinds of the rows it points to
 
+-- the rows that the type at r counts as its own are member rows
+abbrev pub ownsMembers : Table → ℕ → Bool
+ownsMembers t r = every (λ i. eqb (kindOf t (memberRow t r i)) MEMBER) 0 (countOf t r)
+
 unfoldable pub goodPointers : Table → ℕ → Bool
 goodPointers t r =
     pick (kindOf t r)
     (on SEQUENCE-OF SEQUENCE-OF (λ k. isType t (elementOf t r))
     ∷ on MEMBER MEMBER (λ k. isType t (field t r 2))
-    ∷ on ENUMERATED ENUMERATED (λ k. every (λ i. eqb (kindOf t (memberRow t r i)) MEMBER) 0 (countOf t r))
-    ∷ on SEQUENCE SEQUENCE (λ k. every (λ i. eqb (kindOf t (memberRow t r i)) MEMBER) 0 (countOf t r))
-    ∷ on CHOICE CHOICE (λ k. every (λ i. eqb (kindOf t (memberRow t r i)) MEMBER) 0 (countOf t r))
+    ∷ on ENUMERATED ENUMERATED (λ k. ownsMembers t r)
+    ∷ on SEQUENCE SEQUENCE (λ k. ownsMembers t r)
+    ∷ on CHOICE CHOICE (λ k. ownsMembers t r)
     ∷ [])
     true
 
