@@ -10,22 +10,28 @@ use libc::STDIN_FILENO;
 use libc::STDOUT_FILENO;
 ghost use Prim.Native.Nat.{ℕ, _≤_};
 ghost use mathlib.Core.Path.{_≡_};
-ghost use lib.ListN.{length, take};
+ghost use lib.ListN.{getD, length, set, take};
 
 // The byte at a place, 0 past the end.
-pub fn byte_at(s: &[u8], i: usize) -> u8 {
+pub fn byte_at(s: &[u8], i: usize) -> u8
+    ensures { λ r. ⌜ r ≡ getD (now (s .entry)) i 0 ⌝ }
+{
     if i < s.len() { s[i] } else { 0 }
 }
 
 // Stores a byte, if there is room.
-pub fn put(out: &mut [u8], i: usize, b: u8) {
+pub fn put(out: &mut [u8], i: usize, b: u8)
+    ensures { λ _. ⌜ now (out .exit) ≡ set (now (out .entry)) i b ⌝ }
+{
     if i < out.len() {
         out[i] = b;
     }
 }
 
 // Stores a number, if there is room.
-pub fn put_number(out: &mut [u32], i: usize, x: u32) {
+pub fn put_number(out: &mut [u32], i: usize, x: u32)
+    ensures { λ _. ⌜ now (out .exit) ≡ set (now (out .entry)) i x ⌝ }
+{
     if i < out.len() {
         out[i] = x;
     }
