@@ -1,61 +1,14 @@
-// Lines of hexadecimal on standard input and output, for the programs that run stored cases.
-// What a program reads and prints is tested and not proved; these functions are proved safe, and that they end.
-// Reads past the end of a buffer give 0 and stores past its end do nothing, so that no function has a `requires`.
-pub mod decode; // decode.rt: the lines that a program is given, judged
-
+// Standard input and output for the programs: lines of hexadecimal read as they come, and bytes shown.
+// What a program reads and prints through these functions is tested and not proved: they are proved safe, and that they end.
+// What stands between reading and printing, the crates `lines` and `shell`, is proved.
+ghost use Prim.Native.Nat.{_≤_};
+ghost use lib.ListN.{length};
 use jer::Judged;
-use jer::Refusal;
 use jer::report;
 use libc::STDIN_FILENO;
 use libc::STDOUT_FILENO;
-ghost use Prim.Native.Nat.{ℕ, _≤_};
-ghost use mathlib.Core.Path.{_≡_};
-ghost use lib.ListN.{getD, length, set, take};
-
-// The byte at a place, 0 past the end.
-pub fn byte_at(s: &[u8], i: usize) -> u8
-    ensures { λ r. ⌜ r ≡ getD (now (s .entry)) i 0 ⌝ }
-{
-    if i < s.len() { s[i] } else { 0 }
-}
-
-// Stores a byte, if there is room.
-pub fn put(out: &mut [u8], i: usize, b: u8)
-    ensures { λ _. ⌜ now (out .exit) ≡ set (now (out .entry)) i b ⌝ }
-{
-    if i < out.len() {
-        out[i] = b;
-    }
-}
-
-// Stores a number, if there is room.
-pub fn put_number(out: &mut [u32], i: usize, x: u32)
-    ensures { λ _. ⌜ now (out .exit) ≡ set (now (out .entry)) i x ⌝ }
-{
-    if i < out.len() {
-        out[i] = x;
-    }
-}
-
-// The first n bytes, or all.
-pub fn first(s: &[u8], n: usize) -> &[u8]
-    ensures { λ r. ⌜ now r ≡ take n (now (s .entry)) ⌝ }
-{
-    if s.len() <= n {
-        return s;
-    }
-    &s[..n]
-}
-
-// The first n numbers, or all.
-pub fn first_numbers(s: &[u32], n: usize) -> &[u32]
-    ensures { λ r. ⌜ now r ≡ take n (now (s .entry)) ⌝ }
-{
-    if s.len() <= n {
-        return s;
-    }
-    &s[..n]
-}
+use lines::shown::put_number;
+use tokens::slices::part;
 
 // Where in its buffer the input stands.
 pub struct Input {
@@ -64,7 +17,7 @@ pub struct Input {
 }
 
 // The next byte, or 256 at the end of the input.
-pub struct Next {
+struct Next {
     pub byte: u32,
     pub input: Input,
 }
@@ -76,7 +29,18 @@ pub struct Line {
     pub input: Input,
 }
 
-pub fn next_byte(buf: &mut [u8], input: Input) -> Next {
+// Digits in a line at the most.
+const DIGITS: u32 = 16384;
+
+// The byte at a place, 0 past the end.
+fn byte_at(s: &[u8], i: usize) -> u8 {
+    if i < s.len() { s[i] } else { 0 }
+}
+
+// The next byte of standard input, which is read anew where the buffer is used up.
+fn next_byte(buf: &mut [u8], input: Input) -> Next
+    ensures { λ r. ⌜ r .byte ≤ 256 ⌝ }
+{
     let at = input.at;
     let end = input.end;
     if at < end {
@@ -104,8 +68,42 @@ pub fn next_byte(buf: &mut [u8], input: Input) -> Next {
     }
 }
 
+// What is read of standard input: up to the end of this many lines, or to a line that is too long.
+pub fn collect(lines: u32, out: &mut [u8]) -> usize
+    ensures { λ r. ⌜ r ≤ length (now (out .entry)) ⌝ }
+{
+    let mut buf = io::buffer();
+    let mut input = Input { at: 0, end: 0 };
+    let mut left = lines;
+    let mut digits: u32 = 0;
+    let mut k = 0;
+    while k < out.len() {
+        let a = next_byte(&mut buf, input);
+        let b = a.byte;
+        if b == 256 {
+            return k;
+        }
+        out[k] = b as u8;
+        k += 1;
+        input = a.input;
+        if b == 0x0A {
+            if left <= 1 {
+                return k;
+            }
+            left -= 1;
+            digits = 0;
+        } else {
+            if DIGITS <= digits {
+                return k;
+            }
+            digits += 1;
+        }
+    }
+    k
+}
+
 // A hexadecimal digit's value, 0 for any other byte.
-pub fn digit(b: u32) -> u32
+fn digit(b: u32) -> u32
     ensures { λ r. ⌜ r ≤ 15 ⌝ }
 {
     match b {
@@ -122,7 +120,9 @@ fn ends(b: u32) -> bool {
 }
 
 // The octets of a line.
-pub fn octets(buf: &mut [u8], input: Input, out: &mut [u8]) -> Line {
+pub fn octets(buf: &mut [u8], input: Input, out: &mut [u8]) -> Line
+    ensures { λ r. ⌜ r .count ≤ length (now (out .entry)) ⌝ }
+{
     let mut i = input;
     let mut k = 0;
     while k < out.len() {
@@ -137,7 +137,7 @@ pub fn octets(buf: &mut [u8], input: Input, out: &mut [u8]) -> Line {
             };
         }
         let b = next_byte(buf, rest);
-        put(out, k, (digit(high) * 16 + digit(b.byte)) as u8);
+        out[k] = (digit(high) * 16 + digit(b.byte)) as u8;
         i = b.input;
         k += 1;
     }
@@ -163,7 +163,9 @@ fn number(buf: &mut [u8], input: Input, high: u32) -> Next {
 }
 
 // The numbers of a line.
-pub fn numbers(buf: &mut [u8], input: Input, out: &mut [u32]) -> Line {
+pub fn numbers(buf: &mut [u8], input: Input, out: &mut [u32]) -> Line
+    ensures { λ r. ⌜ r .count ≤ length (now (out .entry)) ⌝ }
+{
     let mut i = input;
     let mut k = 0;
     while k < out.len() {
@@ -178,7 +180,7 @@ pub fn numbers(buf: &mut [u8], input: Input, out: &mut [u32]) -> Line {
             };
         }
         let b = number(buf, rest, high);
-        put_number(out, k, b.byte);
+        out[k] = b.byte;
         i = b.input;
         k += 1;
     }
@@ -186,30 +188,6 @@ pub fn numbers(buf: &mut [u8], input: Input, out: &mut [u32]) -> Line {
         count: k,
         over: false,
         input: i,
-    }
-}
-
-// An upper-case hexadecimal digit.
-fn digit_of(x: u32) -> u8 {
-    let d = x % 16;
-    if d < 10 {
-        (0x30 + d) as u8
-    } else {
-        (0x37 + d) as u8
-    }
-}
-
-// The eight digits of a number, at a place.
-fn put8(out: &mut [u8], at: usize, x: u32) {
-    if out.len() <= at {
-        return;
-    }
-    let mut rest = x;
-    let mut k = 8;
-    while 0 < k {
-        k -= 1;
-        put(out, at + k, digit_of(rest));
-        rest = rest / 16;
     }
 }
 
@@ -222,72 +200,14 @@ pub fn print_judged(j: Judged) {
         Judged::Refused(e) => {
             let r = report(e);
             let mut line = *b"NO 00000000 00000000\n";
-            put8(&mut line, 3, r.number);
-            put8(&mut line, 12, (r.first % 4294967296) as u32);
+            put_number(&mut line, 3, r.number as u64);
+            put_number(&mut line, 12, r.first);
             io::write_all(STDOUT_FILENO, &line);
         }
     }
 }
 
-// Prints the line of a refusal: FFFFFFFF, number, first and second amount.
-pub fn print_refusal(e: Refusal) {
-    let r = report(e);
-    let mut line = *b"FFFFFFFF000000000000000000000000\n";
-    put8(&mut line, 8, r.number);
-    put8(&mut line, 16, (r.first % 4294967296) as u32);
-    put8(&mut line, 24, (r.second % 4294967296) as u32);
-    io::write_all(STDOUT_FILENO, &line);
-}
-
-// Prints the line of refusal 15 at an input line.
-pub fn print_bad_line(line: u32) {
-    let mut out = *b"FFFFFFFF0000000F0000000000000000\n";
-    put8(&mut out, 16, line);
-    io::write_all(STDOUT_FILENO, &out);
-}
-
-// Prints octets as one line.
-pub fn print_octets(s: &[u8]) {
-    let mut i = 0;
-    while i < s.len() {
-        let b = byte_at(s, i) as u32;
-        let mut two = [0u8; 2];
-        two[0] = digit_of(b / 16);
-        two[1] = digit_of(b);
-        io::write_all(STDOUT_FILENO, &two);
-        i += 1;
-    }
-    io::write_all(STDOUT_FILENO, b"\n");
-}
-
-// Prints the four numbers of the row at a place as one line.
-fn print_row(rows: &[u32], at: usize) {
-    if rows.len() <= at {
-        return;
-    }
-    let mut line = *b"00000000000000000000000000000000\n";
-    put8(&mut line, 0, number_at(rows, at));
-    put8(&mut line, 8, number_at(rows, at + 1));
-    put8(&mut line, 16, number_at(rows, at + 2));
-    put8(&mut line, 24, number_at(rows, at + 3));
-    io::write_all(STDOUT_FILENO, &line);
-}
-
-// The number at a place, 0 past the end.
-fn number_at(s: &[u32], i: usize) -> u32 {
-    if i < s.len() { s[i] } else { 0 }
-}
-
-// Prints the first n rows, a line each.
-pub fn print_rows(rows: &[u32], n: usize) {
-    let mut k = 0;
-    let mut at = 0;
-    while at < rows.len() {
-        if n <= k {
-            return;
-        }
-        print_row(rows, at);
-        k += 1;
-        at += 4;
-    }
+// Prints the first n bytes of a text, or all.
+pub fn show(text: &[u8], n: usize) {
+    io::write_all(STDOUT_FILENO, part(text, 0, n));
 }

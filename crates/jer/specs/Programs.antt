@@ -1,7 +1,7 @@
 -- The programs `jerread` and `jerwrite`: what they print for what stands on standard input.
 -- 01: "The program `jerread` takes three lines of hexadecimal, either letter case, on standard input: type table (eight digits a number),
 -- names, text; each line at most 16,384 digits."
-use Prim.Native.Nat.{ℕ, suc, _+_, _*_, _/_, _%_, _^_}
+use Prim.Native.Nat.{ℕ, _+_, _*_, _/_, _%_, _^_}
 use mathlib.Core.List.{List, [], _∷_, _++_}
 use mathlib.Core.Bool.{true, false}
 use mathlib.Core.Option.{Option, none, some}
@@ -15,7 +15,7 @@ use Rattle.jer.specs.Table.{Table}
 use Rattle.jer.specs.Value.{Val}
 use Rattle.jer.specs.Answer.{Res, ok, no, Values, values, valuesOf}
 use Rattle.jer.specs.Octets.{also, unhex, onlyIf, hex}
-use Rattle.jer.specs.Rows.{ValueRow, numbers, rowsOf, poolOf}
+use Rattle.jer.specs.Rows.{ValueRow, rowsOf, poolOf}
 use Rattle.jer.specs.Calls.{readText, readAnswer, writeText, writeAnswer}
 
 -- ---- lines
@@ -36,24 +36,12 @@ lineFrom (b ∷ s) =
 -- "The first line that is missing (no byte left), odd, not hexadecimal or, for line one, not whole eights is 15"
 -- a line of octets: hexadecimal of at most 16,384 digits, a whole number of units of n octets
 unfoldable pub octetsIn : ℕ → List ℕ → Option (List ℕ)
-octetsIn n bs = elim (leb (length bs) 16384) [ true ↦ also (unhex bs) (λ os. onlyIf (eqb (length os % suc n) 0) os) | false ↦ none ]
+octetsIn n bs = elim (leb (length bs) 16384) [ true ↦ also (unhex bs) (λ os. onlyIf (eqb (length os % n) 0) os) | false ↦ none ]
 
--- 01, Refusal numbers, 15: "program only: bad or over-long input line | line from 1"
-pub data Lines : Type 0 where
-  lines : List (List ℕ) → Lines
-  badLine : ℕ → Lines
-
--- the first of these lines, in units of n octets, before the others
-unfoldable pub withLine : Option (List ℕ) → ℕ → Lines → Lines
-withLine none i others = badLine i
-withLine (some os) i (lines ls) = lines (os ∷ ls)
-withLine (some os) i (badLine j) = badLine j
-
--- lines from the number i on, one for each unit; "input after line three is not read"
-unfoldable pub linesFrom : ℕ → List ℕ → List ℕ → Lines
-linesFrom i [] s = lines []
-linesFrom i (n ∷ ns) [] = badLine i
-linesFrom i (n ∷ ns) (b ∷ s) = withLine (octetsIn n ((lineFrom (b ∷ s)) .bytes)) i (linesFrom (suc i) ns ((lineFrom (b ∷ s)) .rest))
+-- the octets of the next line
+unfoldable pub lineAt : ℕ → List ℕ → Option (List ℕ)
+lineAt n [] = none
+lineAt n (b ∷ s) = octetsIn n ((lineFrom (b ∷ s)) .bytes)
 
 -- octets as numbers of eight digits
 unfoldable pub numbersIn : List ℕ → List ℕ
@@ -82,6 +70,11 @@ unfoldable pub rowLines : List ValueRow → List ℕ
 rowLines [] = []
 rowLines (w ∷ ws) = endLine (digits8 (w .kind ∷ w .a ∷ w .b ∷ w .size ∷ [])) ++ rowLines ws
 
+-- 01, Refusal numbers, 15: "program only: bad or over-long input line | line from 1"
+-- what is printed for the next line, the i-th, in units of n octets, and for the input after it
+unfoldable pub withLine : ℕ → ℕ → List ℕ → (List ℕ → List ℕ → List ℕ) → List ℕ
+withLine i n s f = elim (lineAt n s) [ none ↦ refusalLine (values 15 i 0) | some os ↦ f os ((lineFrom s) .rest) ]
+
 -- ---- jerread
 
 -- "It lends 4,096 rows and 16,384 pool bytes."
@@ -93,15 +86,19 @@ printRead t (ok v) (reading.Read n m) = rowLines (rowsOf v t 0 0) ++ endLine (he
 unfoldable pub readPrinted : Table → Res Val → List ℕ
 readPrinted t x = printRead t x (readAnswer t 16384 16384 x)
 
-unfoldable pub readLines : Lines → List ℕ
-readLines (badLine i) = refusalLine (values 15 i 0)
-readLines (lines []) = []
-readLines (lines (a ∷ [])) = []
-readLines (lines (a ∷ b ∷ [])) = []
-readLines (lines (a ∷ b ∷ c ∷ ls)) = readPrinted (record { rows = numbersIn a; names = b }) (readText (record { rows = numbersIn a; names = b }) c)
+-- a text read by the type table whose rows and names are given
+unfoldable pub readShown : List ℕ → List ℕ → List ℕ → List ℕ
+readShown types names text = readPrinted (record { rows = types; names = names }) (readText (record { rows = types; names = names }) text)
+
+-- "type table (eight digits a number), names, text"; "input after line three is not read"
+unfoldable pub readThird : List ℕ → List ℕ → List ℕ → List ℕ
+readThird types names s = withLine 3 1 s (λ text rest. readShown types names text)
+
+unfoldable pub readSecond : List ℕ → List ℕ → List ℕ
+readSecond types s = withLine 2 1 s (λ names rest. readThird types names rest)
 
 unfoldable pub jerread : List ℕ → List ℕ
-jerread s = readLines (linesFrom 1 (3 ∷ 0 ∷ 0 ∷ []) s)
+jerread s = withLine 1 4 s (λ types rest. readSecond (numbersIn types) rest)
 
 -- ---- jerwrite, the reader's counterpart: type table, names, value rows, pool; 65,536 bytes of text are lent
 
@@ -113,13 +110,17 @@ printWrite (ok s) (writing.Written n) = endLine (hex s)
 unfoldable pub writePrinted : Res (List ℕ) → List ℕ
 writePrinted x = printWrite x (writeAnswer 65536 x)
 
-unfoldable pub writeLines : Lines → List ℕ
-writeLines (badLine i) = refusalLine (values 15 i 0)
-writeLines (lines []) = []
-writeLines (lines (a ∷ [])) = []
-writeLines (lines (a ∷ b ∷ [])) = []
-writeLines (lines (a ∷ b ∷ c ∷ [])) = []
-writeLines (lines (a ∷ b ∷ c ∷ d ∷ ls)) = writePrinted (writeText (record { rows = numbersIn a; names = b }) (numbersIn c) d)
+unfoldable pub writeShown : List ℕ → List ℕ → List ℕ → List ℕ → List ℕ
+writeShown types names values pool = writePrinted (writeText (record { rows = types; names = names }) values pool)
+
+unfoldable pub writeFourth : List ℕ → List ℕ → List ℕ → List ℕ → List ℕ
+writeFourth types names values s = withLine 4 1 s (λ pool rest. writeShown types names values pool)
+
+unfoldable pub writeThird : List ℕ → List ℕ → List ℕ → List ℕ
+writeThird types names s = withLine 3 4 s (λ values rest. writeFourth types names (numbersIn values) rest)
+
+unfoldable pub writeSecond : List ℕ → List ℕ → List ℕ
+writeSecond types s = withLine 2 1 s (λ names rest. writeThird types names rest)
 
 unfoldable pub jerwrite : List ℕ → List ℕ
-jerwrite s = writeLines (linesFrom 1 (3 ∷ 0 ∷ 3 ∷ 0 ∷ []) s)
+jerwrite s = withLine 1 4 s (λ types rest. writeSecond (numbersIn types) rest)

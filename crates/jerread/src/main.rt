@@ -1,10 +1,14 @@
 // `jerread`: three lines of hexadecimal on standard input, type table, names and text; prints the value rows and the pool, or the refusal.
-use hexlines::first;
-use shell::answer_read;
-use shell::collect;
+use hexlines::collect;
+use hexlines::show;
+use shell::reads::answer;
+use tokens::slices::part;
 
+// 4,096 rows, a pool of 16,384 bytes and their line feeds are 167,937 bytes at the most.
 fn main() {
     let mut input = [0u8; 49200];
     let n = collect(3, &mut input);
-    answer_read(first(&input, n));
+    let mut out = [0u8; 168000];
+    let k = answer(part(&input, 0, n), &mut out);
+    show(&out, k);
 }

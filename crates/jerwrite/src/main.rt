@@ -1,10 +1,14 @@
 // `jerwrite`: four lines of hexadecimal on standard input, type table, names, value rows and pool; prints the text, or the refusal.
-use hexlines::first;
-use shell::answer_write;
-use shell::collect;
+use hexlines::collect;
+use hexlines::show;
+use shell::writes::answer;
+use tokens::slices::part;
 
+// A text of 65,536 bytes and its line feed are 131,073 bytes.
 fn main() {
     let mut input = [0u8; 65600];
     let n = collect(4, &mut input);
-    answer_write(first(&input, n));
+    let mut out = [0u8; 131200];
+    let k = answer(part(&input, 0, n), &mut out);
+    show(&out, k);
 }

@@ -1,16 +1,19 @@
 // Runs `jerwrite` on the stored inputs: a line of hexadecimal each, the whole of a standard input.
 use hexlines::Input;
 use hexlines::Line;
-use hexlines::first;
 use hexlines::octets;
-use shell::answer_write;
+use hexlines::show;
+use shell::writes::answer;
+use tokens::slices::part;
 
 // Answers the input in the next line.
 fn one(buf: &mut [u8], input: Input) -> Line {
     let mut given = [0u8; 65600];
     let line = octets(buf, input, &mut given);
     if !line.over {
-        answer_write(first(&given, line.count));
+        let mut out = [0u8; 131200];
+        let k = answer(part(&given, 0, line.count), &mut out);
+        show(&out, k);
     }
     line
 }

@@ -1,14 +1,13 @@
 // Reads the stored texts: five lines of hexadecimal each, type table, names, text, and the room for rows and pool.
 use hexlines::Input;
 use hexlines::Line;
-use hexlines::first;
-use hexlines::first_numbers;
 use hexlines::numbers;
 use hexlines::octets;
-use hexlines::print_octets;
-use hexlines::print_refusal;
-use hexlines::print_rows;
+use hexlines::show;
 use jer::Reading;
+use lines::shown::put_reading;
+use lines::taken::first_numbers;
+use tokens::slices::part;
 
 // The first number of the next line.
 fn number(buf: &mut [u8], input: Input) -> Line {
@@ -31,15 +30,10 @@ fn wide(n: u32) -> usize {
 fn answer(types: &[u32], names: &[u8], text: &[u8], n: usize, m: usize) {
     let mut rows = [0u32; 16384];
     let mut pool = [0u8; 16384];
-    match read_in(types, names, text, &mut rows, &mut pool, n, m) {
-        Reading::Refused(e) => {
-            print_refusal(e);
-        }
-        Reading::Read { rows: k, pool: j } => {
-            print_rows(&rows, k);
-            print_octets(first(&pool, j));
-        }
-    }
+    let r = read_in(types, names, text, &mut rows, &mut pool, n, m);
+    let mut out = [0u8; 168000];
+    let k = put_reading(&mut out, r, &rows, &pool);
+    show(&out, k);
 }
 
 fn read_in(
@@ -73,14 +67,14 @@ fn with_text(buf: &mut [u8], input: Input, types: &[u32], names: &[u8]) -> Line 
     let mut text = [0u8; 65600];
     let c = octets(buf, input, &mut text);
     let at = c.input;
-    with_room(buf, at, types, names, first(&text, c.count))
+    with_room(buf, at, types, names, part(&text, 0, c.count))
 }
 
 fn with_names(buf: &mut [u8], input: Input, types: &[u32]) -> Line {
     let mut names = [0u8; 65600];
     let b = octets(buf, input, &mut names);
     let at = b.input;
-    with_text(buf, at, types, first(&names, b.count))
+    with_text(buf, at, types, part(&names, 0, b.count))
 }
 
 // Answers the case in the next five lines.

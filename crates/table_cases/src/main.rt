@@ -1,11 +1,11 @@
 // Judges the stored type tables: a line of rows and a line of names each, answered by OK or by the refusal's number and row.
 use hexlines::Input;
 use hexlines::Line;
-use hexlines::first;
-use hexlines::first_numbers;
 use hexlines::numbers;
 use hexlines::octets;
 use hexlines::print_judged;
+use lines::taken::first_numbers;
+use tokens::slices::part;
 
 // Judges the table in the next two lines.
 fn one(buf: &mut [u8], input: Input) -> Line {
@@ -17,7 +17,10 @@ fn one(buf: &mut [u8], input: Input) -> Line {
     let mut names = [0u8; 65600];
     let rest = line.input;
     let next = octets(buf, rest, &mut names);
-    print_judged(types::check(first_numbers(&rows, line.count), first(&names, next.count)));
+    print_judged(types::check(
+        first_numbers(&rows, line.count),
+        part(&names, 0, next.count),
+    ));
     next
 }
 

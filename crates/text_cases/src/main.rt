@@ -1,16 +1,16 @@
 // Judges the stored texts: a line of hexadecimal each, answered by OK or by the refusal's number and place.
 use hexlines::Input;
 use hexlines::Line;
-use hexlines::first;
 use hexlines::octets;
 use hexlines::print_judged;
+use tokens::slices::part;
 
 // Judges the text in the next line.
 fn one(buf: &mut [u8], input: Input) -> Line {
     let mut text = [0u8; 65600];
     let line = octets(buf, input, &mut text);
     if !line.over {
-        print_judged(text::check(first(&text, line.count)));
+        print_judged(text::check(part(&text, 0, line.count)));
     }
     line
 }

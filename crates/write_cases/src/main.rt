@@ -1,13 +1,13 @@
 // Writes the stored value tables: five lines of hexadecimal each, type table, names, value rows, pool, and the room for text.
 use hexlines::Input;
 use hexlines::Line;
-use hexlines::first;
-use hexlines::first_numbers;
 use hexlines::numbers;
 use hexlines::octets;
-use hexlines::print_octets;
-use hexlines::print_refusal;
+use hexlines::show;
 use jer::Writing;
+use lines::shown::put_writing;
+use lines::taken::first_numbers;
+use tokens::slices::part;
 
 // The first number of the next line.
 fn number(buf: &mut [u8], input: Input) -> Line {
@@ -29,14 +29,10 @@ fn wide(n: u32) -> usize {
 // Writes into the first n bytes of what is lent, and prints the answer.
 fn answer(types: &[u32], names: &[u8], values: &[u32], pool: &[u8], n: usize) {
     let mut text = [0u8; 65536];
-    match write_in(types, names, values, pool, &mut text, n) {
-        Writing::Refused(e) => {
-            print_refusal(e);
-        }
-        Writing::Written(k) => {
-            print_octets(first(&text, k));
-        }
-    }
+    let w = write_in(types, names, values, pool, &mut text, n);
+    let mut out = [0u8; 131200];
+    let k = put_writing(&mut out, w, &text);
+    show(&out, k);
 }
 
 fn write_in(
@@ -58,7 +54,7 @@ fn with_pool(buf: &mut [u8], input: Input, types: &[u32], names: &[u8], values: 
     let d = octets(buf, input, &mut pool);
     let at = d.input;
     let n = number(buf, at);
-    answer(types, names, values, first(&pool, d.count), n.count);
+    answer(types, names, values, part(&pool, 0, d.count), n.count);
     n
 }
 
@@ -73,7 +69,7 @@ fn with_names(buf: &mut [u8], input: Input, types: &[u32]) -> Line {
     let mut names = [0u8; 16384];
     let b = octets(buf, input, &mut names);
     let at = b.input;
-    with_values(buf, at, types, first(&names, b.count))
+    with_values(buf, at, types, part(&names, 0, b.count))
 }
 
 // Answers the case in the next five lines.

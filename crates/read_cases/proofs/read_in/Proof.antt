@@ -5,67 +5,51 @@ use borrow.Author.Needs.{needs}
 use Rattle.read_cases.proofs.read_in.Statement.{statement}
 use Rattle.read_cases.proofs.read_in.Tie as tie
 
--- src/main.rt:47:9
 read-requires : tie.Need-read-requires
 read-requires c κs = search needs
 
--- src/main.rt:47:9
 same-length : tie.Need-same-length
 same-length c = search needs
 
--- src/main.rt:47:9
 same-length-2 : tie.Need-same-length-2
 same-length-2 c = search needs
 
--- src/main.rt:47:9
 returns : tie.Need-returns
 returns c = search needs
 
--- src/main.rt:50:9
 read-requires-2 : tie.Need-read-requires-2
 read-requires-2 c κs = search needs
 
--- src/main.rt:50:9
 same-length-3 : tie.Need-same-length-3
 same-length-3 c = search needs
 
--- src/main.rt:50:9
 same-length-4 : tie.Need-same-length-4
 same-length-4 c = search needs
 
--- src/main.rt:50:9
 returns-2 : tie.Need-returns-2
 returns-2 c = search needs
 
--- src/main.rt:52:39
 slice-relend-prefix-read : tie.Need-slice-relend-prefix-read
 slice-relend-prefix-read c = search needs
 
--- src/main.rt:52:39
 slice-aggregate-read : tie.Need-slice-aggregate-read
 slice-aggregate-read c = sym (length-take-le (c .before .before .before .before .before .before .before .before .args .n) _ (omega arith))
 
--- src/main.rt:52:55
 slice-relend-prefix-read-2 : tie.Need-slice-relend-prefix-read-2
 slice-relend-prefix-read-2 c = search needs
 
--- src/main.rt:52:55
 slice-aggregate-read-2 : tie.Need-slice-aggregate-read-2
 slice-aggregate-read-2 c = sym (length-take-le (c .before .before .before .before .before .before .before .before .before .args .m) _ (omega arith))
 
--- src/main.rt:52:5
 read-requires-3 : tie.Need-read-requires-3
 read-requires-3 c κs = search needs
 
--- src/main.rt:45:1
 same-length-5 : tie.Need-same-length-5
 same-length-5 c = search needs
 
--- src/main.rt:45:1
 same-length-6 : tie.Need-same-length-6
 same-length-6 c = search needs
 
--- src/main.rt:45:1
 returns-3 : tie.Need-returns-3
 returns-3 c = search needs
 

@@ -11,39 +11,30 @@ Inv-loop buf₀ input₀ turns₀ buf input turns = 65536 ≡ length buf
 abbrev μ-loop : tie.MeasureT-loop
 μ-loop buf₀ input₀ turns₀ buf input turns = turns
 
--- src/main.rt:20:19
 large-buffer-requires : tie.Need-large-buffer-requires Inv-loop μ-loop
 large-buffer-requires c κs = search needs
 
--- src/main.rt:23:5
 loop-holds : tie.Need-loop-holds Inv-loop μ-loop
 loop-holds c = search needs
 
--- src/main.rt:24:24
 slice-aggregate-one : tie.Need-slice-aggregate-one Inv-loop μ-loop
 slice-aggregate-one c = search needs
 
--- src/main.rt:24:13
 one-requires : tie.Need-one-requires Inv-loop μ-loop
 one-requires c κs = search needs
 
--- src/main.rt:26:13
 returns : tie.Need-returns Inv-loop μ-loop
 returns c = search needs
 
--- src/main.rt:29:9
 sub-turns : tie.Need-sub-turns Inv-loop μ-loop
 sub-turns c = search needs
 
--- src/main.rt:23:5
 loop-less : tie.Need-loop-less Inv-loop μ-loop
 loop-less c = search needs
 
--- src/main.rt:23:5
 loop-again : tie.Need-loop-again Inv-loop μ-loop
 loop-again c = search needs
 
--- src/main.rt:19:1
 returns-2 : tie.Need-returns-2 Inv-loop μ-loop
 returns-2 c = search needs
 

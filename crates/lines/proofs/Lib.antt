@@ -1,0 +1,3 @@
+-- Laws of the definitions in the form that the code's proofs cite.
+pub mod ShownLaws
+pub mod TakenLaws

@@ -1,0 +1,47 @@
+use borrow.Author.Needs.{needs}
+use Prim.Native.Nat.{_+_}
+use native.Mathlib.Omega.{arith}
+use Rattle.lines.proofs.TakenLaws.{hex-small}
+use Rattle.lines.proofs.taken.octet.Statement.{statement}
+use Rattle.lines.proofs.taken.octet.Tie as tie
+
+shared-slice-read-digit : tie.Need-shared-slice-read-digit
+shared-slice-read-digit c = search needs
+
+digit-requires : tie.Need-digit-requires
+digit-requires c κs = search needs
+
+mul-result : tie.Need-mul-result
+mul-result c = let w = hex-small (c .before .before .before .args .line .now) (c .before .before .before .args .i) (c .before .before .before .pre .0) (omega arith) (c .digit .ensures) in search needs
+
+add-digit : tie.Need-add-digit
+add-digit c = search needs
+
+shared-slice-read-digit-2 : tie.Need-shared-slice-read-digit-2
+shared-slice-read-digit-2 c = search needs
+
+digit-requires-2 : tie.Need-digit-requires-2
+digit-requires-2 c κs = search needs
+
+add-result : tie.Need-add-result
+add-result c = let l = c .before .before .before .before .before .args .line .now in
+    let i = c .before .before .before .before .before .args .i in
+    let w = hex-small l i (c .before .before .before .before .before .pre .0) (omega arith) (c .before .before .digit .ensures) in
+    let v = hex-small l (i + 1) (c .before .before .before .before .before .pre .0) (omega arith) (c .digit2 .ensures) in
+    search needs
+
+returns : tie.Need-returns
+returns c = search needs
+
+pub octet-spec : {M : Type 1} → statement M
+octet-spec =
+    tie.close
+    (tie.spec
+    shared-slice-read-digit
+    digit-requires
+    mul-result
+    add-digit
+    shared-slice-read-digit-2
+    digit-requires-2
+    add-result
+    returns)

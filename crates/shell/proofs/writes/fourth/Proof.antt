@@ -1,0 +1,73 @@
+use borrow.Author.Needs.{needs}
+use Prim.Native.Nat.{ℕ}
+use mathlib.Core.Path.{sym, ap, _∙_}
+use mathlib.Core.List.{List}
+use native.Mathlib.Omega.{arith}
+use lib.ListN.{drop}
+use Rattle.jer.specs.Programs.{writeFourth, writeShown}
+use Rattle.lines.proofs.ShownLaws.{shown-as}
+use Rattle.shell.proofs.LineLaws.{octets-refused, octets-given}
+use Rattle.shell.proofs.writes.fourth.Statement.{statement}
+use Rattle.shell.proofs.writes.fourth.Tie as tie
+
+slice-aggregate-octets-line : tie.Need-slice-aggregate-octets-line
+slice-aggregate-octets-line c = search needs
+
+octets-line-requires : tie.Need-octets-line-requires
+octets-line-requires c κs = search needs
+
+enum-known-n : tie.Need-enum-known-n
+enum-known-n c = search needs
+
+enum-told : tie.Need-enum-told
+enum-told c = search needs
+
+put-bad-line-requires : tie.Need-put-bad-line-requires
+put-bad-line-requires c κs = search needs
+
+same-length : tie.Need-same-length
+same-length c = search needs
+
+returns : tie.Need-returns
+unfolding writeFourth
+returns c = let a = c .before .before .before .before .before .before .before .before .before .before .before .before .before .before .args in
+    shown-as (a .out .now) 0 (octets-refused 4 (a .s .now) (a .p) (λ pool rest. writeShown (a .types .now) (a .names .now) (a .values .now) pool) (sym (c .before .before .before .before .enum-told .given .1) ∙ c .before .before .before .before .before .before .before .octets-line .ensures .0)) (c .before .before .put-bad-line .ensures)
+
+slice-aggregate-part : tie.Need-slice-aggregate-part
+slice-aggregate-part c = search needs
+
+part-requires : tie.Need-part-requires
+part-requires c κs = search needs
+
+show-requires : tie.Need-show-requires
+show-requires c κs = search needs
+
+same-length-2 : tie.Need-same-length-2
+same-length-2 c = search needs
+
+returns-2 : tie.Need-returns-2
+unfolding writeFourth
+returns-2 c = let a = c .before .before .before .before .before .before .before .before .before .before .before .before .before .before .before .before .before .args in
+    let taken = c .before .before .before .before .before .before .before .before .before .before .octets-line in
+    let line = c .before .before .before .before .before .before .before .n .given in
+    let f : List ℕ → List ℕ → List ℕ = λ pool rest. writeShown (a .types .now) (a .names .now) (a .values .now) pool in
+    shown-as (a .out .now) 0
+    (ap (λ (x : List ℕ). f x (drop (line .0 .1 .0) (a .s .now))) (c .before .before .before .before .part .ensures) ∙ octets-given 4 (a .s .now) (a .p) f _ (omega arith) (sym (line .1) ∙ taken .ensures .0) (taken .ensures .1))
+    (c .before .before .show .ensures)
+
+pub fourth-spec : {M : Type 1} → statement M
+fourth-spec =
+    tie.close
+    (tie.spec
+    slice-aggregate-octets-line
+    octets-line-requires
+    enum-known-n
+    enum-told
+    put-bad-line-requires
+    same-length
+    returns
+    slice-aggregate-part
+    part-requires
+    show-requires
+    same-length-2
+    returns-2)
