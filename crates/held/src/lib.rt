@@ -88,7 +88,7 @@ fn read_outermost(s: &[u8]) -> Extent
 pub fn outermost(s: &[u8]) -> Outer
     ensures { λ r. ⌜ r ≡ outerOf (now (s .entry)) ⌝ }
 {
-    if s.len() > 65536 {
+    if json::TEXT < s.len() {
         return Outer::TooLong;
     }
     Outer::Value(read_outermost(s))

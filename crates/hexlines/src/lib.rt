@@ -2,12 +2,14 @@
 // What a program reads and prints through these functions is tested and not proved: they are proved safe, and that they end.
 // What stands between reading and printing, the crates `lines` and `shell`, is proved.
 ghost use Prim.Native.Nat.{_≤_};
+ghost use mathlib.Core.Path.{_≡_};
 ghost use lib.ListN.{length};
 use jer::Judged;
 use jer::report;
 use libc::STDIN_FILENO;
 use libc::STDOUT_FILENO;
 use lines::shown::put_number;
+use lines::taken::DIGITS;
 use tokens::slices::part;
 
 // Where in its buffer the input stands.
@@ -28,9 +30,6 @@ pub struct Line {
     pub over: bool,
     pub input: Input,
 }
-
-// Digits in a line at the most.
-const DIGITS: u32 = 16384;
 
 // The byte at a place, 0 past the end.
 fn byte_at(s: &[u8], i: usize) -> u8 {
@@ -75,7 +74,7 @@ pub fn collect(lines: u32, out: &mut [u8]) -> usize
     let mut buf = io::buffer();
     let mut input = Input { at: 0, end: 0 };
     let mut left = lines;
-    let mut digits: u32 = 0;
+    let mut digits = 0;
     let mut k = 0;
     while k < out.len() {
         let a = next_byte(&mut buf, input);
@@ -188,6 +187,27 @@ pub fn numbers(buf: &mut [u8], input: Input, out: &mut [u32]) -> Line
         count: k,
         over: false,
         input: i,
+    }
+}
+
+fn wide(x: u32) -> usize
+    ensures { λ r. ⌜ (r ≡ x) × (r ≤ 4294967295) ⌝ }
+{
+    x as usize
+}
+
+// The first number of the next line, which stands in the place of a count.
+pub fn single(buf: &mut [u8], input: Input) -> Line
+    ensures { λ r. ⌜ r .count ≤ 4294967295 ⌝ }
+{
+    let mut one = [0u32; 2];
+    let line = numbers(buf, input, &mut one);
+    let rest = line.input;
+    let n = one[0];
+    Line {
+        count: wide(n),
+        over: line.over,
+        input: rest,
     }
 }
 

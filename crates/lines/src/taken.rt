@@ -17,7 +17,7 @@ pub enum Taken {
 }
 
 // Digits in a line at the most.
-const DIGITS: usize = 16384;
+pub const DIGITS: usize = 16384;
 
 // How many bytes the line at a place has.
 fn line_len(s: &[u8], at: usize) -> usize

@@ -4,27 +4,11 @@ use hexlines::Line;
 use hexlines::numbers;
 use hexlines::octets;
 use hexlines::show;
+use hexlines::single;
 use jer::Reading;
 use lines::shown::put_reading;
 use lines::taken::first_numbers;
 use tokens::slices::part;
-
-// The first number of the next line.
-fn number(buf: &mut [u8], input: Input) -> Line {
-    let mut one = [0u32; 2];
-    let line = numbers(buf, input, &mut one);
-    let rest = line.input;
-    let n = one[0];
-    Line {
-        count: wide(n),
-        over: line.over,
-        input: rest,
-    }
-}
-
-fn wide(n: u32) -> usize {
-    n as usize
-}
 
 // Reads into the first n numbers and m bytes of what is lent, and prints the answer.
 fn answer(types: &[u32], names: &[u8], text: &[u8], n: usize, m: usize) {
@@ -56,9 +40,9 @@ fn read_in(
 
 // The room of a case, and its answer.
 fn with_room(buf: &mut [u8], input: Input, types: &[u32], names: &[u8], text: &[u8]) -> Line {
-    let n = number(buf, input);
+    let n = single(buf, input);
     let at = n.input;
-    let m = number(buf, at);
+    let m = single(buf, at);
     answer(types, names, text, n.count, m.count);
     m
 }

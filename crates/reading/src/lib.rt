@@ -15,9 +15,6 @@ ghost use Rattle.jer.specs.declared.Refusal.the-variants.{Amounts};
 ghost use Rattle.jer.specs.Contracts.{TableCall, TextCall, ReadCall};
 ghost use Rattle.types.specs.Rows.{table};
 
-// Brackets that may be open at one time.
-const DEPTH: u32 = 32;
-
 // Reads the text by the type table into the lent rows and pool; a refusal leaves both as they were.
 pub fn read(types: &[u32], names: &[u8], s: &[u8], rows: &mut [u32], pool: &mut [u8]) -> Reading
     ensures { λ r. ⌜ ReadCall (table (now (types .entry)) (now (names .entry))) (now (s .entry)) (now (rows .entry)) (now (pool .entry)) r (now (rows .exit)) (now (pool .exit)) ⌝ }
@@ -49,7 +46,7 @@ fn measured(types: &[u32], names: &[u8], s: &[u8], rows: &mut [u32], pool: &mut 
         p,
         0,
         0,
-        DEPTH,
+        json::BRACKETS,
     ) {
         Step::Refused(e) => Reading::Refused(e),
         Step::Read(_, n, m) => {
@@ -59,7 +56,7 @@ fn measured(types: &[u32], names: &[u8], s: &[u8], rows: &mut [u32], pool: &mut 
             if pool.len() < m {
                 return needed(n, m);
             }
-            value(types, names, s, rows, pool, 0, p, 0, 0, DEPTH);
+            value(types, names, s, rows, pool, 0, p, 0, 0, json::BRACKETS);
             Reading::Read { rows: n, pool: m }
         }
     }

@@ -4,27 +4,11 @@ use hexlines::Line;
 use hexlines::numbers;
 use hexlines::octets;
 use hexlines::show;
+use hexlines::single;
 use jer::Writing;
 use lines::shown::put_writing;
 use lines::taken::first_numbers;
 use tokens::slices::part;
-
-// The first number of the next line.
-fn number(buf: &mut [u8], input: Input) -> Line {
-    let mut one = [0u32; 2];
-    let line = numbers(buf, input, &mut one);
-    let rest = line.input;
-    let n = one[0];
-    Line {
-        count: wide(n),
-        over: line.over,
-        input: rest,
-    }
-}
-
-fn wide(n: u32) -> usize {
-    n as usize
-}
 
 // Writes into the first n bytes of what is lent, and prints the answer.
 fn answer(types: &[u32], names: &[u8], values: &[u32], pool: &[u8], n: usize) {
@@ -53,7 +37,7 @@ fn with_pool(buf: &mut [u8], input: Input, types: &[u32], names: &[u8], values: 
     let mut pool = [0u8; 16384];
     let d = octets(buf, input, &mut pool);
     let at = d.input;
-    let n = number(buf, at);
+    let n = single(buf, at);
     answer(types, names, values, part(&pool, 0, d.count), n.count);
     n
 }

@@ -19,11 +19,6 @@ ghost use Rattle.jer.specs.Contracts.{WriteCall};
 ghost use Rattle.types.specs.Rows.{table};
 ghost use Rattle.writing.specs.Text.{Wrapped, valueWritten, Answers};
 
-// House sizes of document 01: bytes of text, and brackets open at one time.
-const TEXT: usize = 65536;
-
-const BRACKETS: u32 = 32;
-
 // The one text of the value table, stored from the start of `text`. A refusal leaves it as it was.
 pub fn write(types: &[u32], names: &[u8], values: &[u32], pool: &[u8], text: &mut [u8]) -> Writing
     ensures { λ r. ⌜ WriteCall (table (now (types .entry)) (now (names .entry))) (now (values .entry)) (now (pool .entry)) (now (text .entry)) r (now (text .exit)) ⌝ }
@@ -39,20 +34,20 @@ fn write_value(types: &[u32], names: &[u8], values: &[u32], pool: &[u8], text: &
     requires { ⌜ Wrapped (table (now types) (now names)) ⌝ }
     ensures { λ r. ⌜ Answers (valueWritten (table (now (types .entry)) (now (names .entry))) (now (values .entry)) (now (pool .entry))) (now (text .entry)) (now (text .exit)) r ⌝ }
 {
-    match judged(types, names, values, pool, 0, 0, 0, BRACKETS) {
+    match judged(types, names, values, pool, 0, 0, 0, json::BRACKETS) {
         Taken::Wrong(q) => Writing::Refused(Refusal::AtRow(Which::ValueTable, q)),
         Taken::Took { row, used, end } => {
             let rows = (values.len() % 4 == 0) & (values.len() / 4 == row);
             if !(rows & (pool.len() == used)) {
                 return Writing::Refused(Refusal::AtRow(Which::ValueTable, row));
             }
-            if TEXT < end {
+            if json::TEXT < end {
                 return Writing::Refused(Refusal::Amounts(Limit::HouseSize, end as u64, 0));
             }
             if text.len() < end {
                 return Writing::Refused(Refusal::Amounts(Limit::LentRoom, end as u64, 0));
             }
-            value(types, names, values, pool, text, 0, 0, 0, 0, BRACKETS);
+            value(types, names, values, pool, text, 0, 0, 0, 0, json::BRACKETS);
             Writing::Written(end)
         }
     }

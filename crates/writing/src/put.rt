@@ -16,9 +16,6 @@ ghost use Rattle.jer.specs.Calls.{amount};
 ghost use Rattle.types.specs.Rows.{table};
 ghost use Rattle.writing.specs.Text.{Puts, spelled, comma, nulls, nameText, lead, opening, closing, keptAfter};
 
-// The house size: a text that ends past it is measured and not kept.
-const HOUSE: usize = 65536;
-
 // The place b bytes after a.
 pub fn add(a: usize, b: usize) -> usize
     ensures { λ r. ⌜ r ≡ amount (a + b) ⌝ }
@@ -88,7 +85,7 @@ pub fn put_integer(text: &mut [u8], k: usize, low: u32, high: u32) -> usize
     ensures { λ e. ⌜ Puts (intText (high * 2 ^ 32 + low)) k (now (text .entry)) (now (text .exit)) e ⌝ }
 {
     let end = add(k, integer::integer_len(low, high) as usize);
-    if end <= HOUSE {
+    if end <= json::TEXT {
         integer::put_integer(text, k, low, high);
         return end;
     }
@@ -131,7 +128,7 @@ fn put_spelled(text: &mut [u8], k: usize, form: Form, s: &[u8]) -> usize
     if text.len() <= k {
         return end;
     }
-    if end <= HOUSE {
+    if end <= json::TEXT {
         store(text, k, form, s);
         return end;
     }
