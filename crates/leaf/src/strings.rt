@@ -109,8 +109,8 @@ pub fn string(
             octets::decode::Found::Octets(n) => bytes(rows, i, kind, o, n, string_end(s, p + 1)),
         },
         Row::UTF8_STRING => {
-            let n = copy(s, p + 1, pool, wide(narrow(o)));
-            bytes(rows, i, kind, o, n, string_end(s, p + 1))
+            let c = copy(s, p + 1, pool, wide(narrow(o)));
+            bytes(rows, i, kind, o, c.count, string_end(s, c.from))
         }
         _ => refused(Cause::OtherKind, p),
     }

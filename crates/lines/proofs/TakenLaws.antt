@@ -1,16 +1,16 @@
 -- Lines of hexadecimal: their digits, their ends, and what is stored of them.
 use mathlib.Core.Path.{_≡_, refl, sym, ap, _∙_}
-use mathlib.Core.List.{List, [], _∷_, _++_}
+use mathlib.Core.List.{List, [], _∷_}
 use mathlib.Core.Bool.{Bool, true, false}
 use mathlib.Core.Option.{Option, none, some}
-use Prim.Native.Nat.{ℕ, zero, suc, _+_, _-_, _*_, _/_, _%_, _<_, _≤_}
+use Prim.Native.Nat.{ℕ, zero, suc, _+_, _-_, _/_, _%_, _<_, _≤_}
 use native.Mathlib.Numerals.{add-one}
 use native.Mathlib.Omega.{arith}
 use borrow.Author.Tests.{eq-eqb, ne-eqb, eqb-true, eqb-false, leb-true, leb-false, le-leb, lt-leb}
 use lib.Dec.{eqb, leb}
 use lib.ListN.{length, getD, take, drop, drop-of-length-le, length-drop}
-use lib.Seq.{drop-cons, drop-drop, sets}
-use Rattle.json.specs.Bytes.{In, pick}
+use lib.Seq.{drop-cons, sets}
+use Rattle.json.specs.Bytes.{In}
 use Rattle.json.proofs.SoundRows.{pick-within, _⨾_}
 use Rattle.jer.specs.Octets.{also, onlyIf, hexValue, unhex}
 use Rattle.jer.specs.Programs.{lineFrom, lineAt, octetsIn, numbersIn}

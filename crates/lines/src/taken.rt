@@ -2,7 +2,7 @@
 ghost use mathlib.Core.Path.{_≡_};
 ghost use mathlib.Core.Bool.{true};
 ghost use Prim.Native.Nat.{_+_, _*_, _<_, _≤_};
-ghost use lib.ListN.{length, getD, take, drop, set};
+ghost use lib.ListN.{length, take, drop, set};
 ghost use lib.Seq.{sets};
 ghost use Rattle.jer.specs.Programs.{lineFrom, octetsIn, lineAt, numbersIn};
 ghost use Rattle.lines.specs.Taken.{digitOf, octetsOf, octetAt, numberAt, isHex, isSome, numbersLine, takenOf, after};

@@ -2,7 +2,7 @@
 use mathlib.Core.Path.{_≡_, refl, sym, ap, _∙_}
 use mathlib.Core.List.{List, [], _∷_, _++_}
 use mathlib.Core.Bool.{Bool, true, false, _&&_}
-use Prim.Native.Nat.{ℕ, zero, suc, _+_, _/_, _%_, _<_, _≤_}
+use Prim.Native.Nat.{ℕ, zero, suc, _+_, _*_, _/_, _%_, _<_, _≤_}
 use native.Mathlib.Numerals.{add-one}
 use native.Mathlib.Omega.{arith}
 use borrow.Author.Tests.{lt-ltb, le-ltb, eq-eqb, ne-eqb, eqb-true, eqb-false}
@@ -11,7 +11,7 @@ use lib.ListN.{length, getD, drop, drop-of-length-le, length-append}
 use lib.Seq.{drop-cons, sets}
 use Rattle.json.specs.Bytes.{pick}
 use Rattle.json.proofs.Feed.{pick-none}
-use Rattle.json.proofs.SoundRows.{only, _⨾_}
+use Rattle.json.proofs.SoundRows.{pick-within, only, _⨾_}
 use Rattle.jer.specs.Octets.{hexDigit}
 use Rattle.jer.specs.Table.{sameBytes}
 use Rattle.jer.specs.Write.{escaped, escapes}
@@ -78,6 +78,31 @@ module _ {b : ℕ} (f : b < 256) {x : ℕ} (e : x ≡ letterFor b) where
 pub control-digits : (b : ℕ) {x y : ℕ} → x ≡ hexDigit (b / 16) → y ≡ hexDigit (b % 16)
     → 0x5C ∷ 0x75 ∷ 0x30 ∷ 0x30 ∷ x ∷ y ∷ [] ≡ 0x5C ∷ 0x75 ∷ 0x30 ∷ 0x30 ∷ hexDigit (b / 16) ∷ hexDigit (b % 16) ∷ []
 control-digits b e f = rw (e, f)
+
+-- ---- how many bytes there are
+
+abbrev OneToSix : List ℕ → Type 0
+OneToSix l = (1 ≤ length l) × (length l ≤ 6)
+
+escaped-few : (b : ℕ) → OneToSix (escaped b)
+unfolding escaped
+escaped-few b =
+    pick-within OneToSix b _ (b ∷ [])
+    ((λ i. (omega arith, omega arith))
+    ⨾ (λ i. (omega arith, omega arith))
+    ⨾ (λ i. (omega arith, omega arith))
+    ⨾ (λ i. (omega arith, omega arith))
+    ⨾ (λ i. (omega arith, omega arith))
+    ⨾ (λ i. (omega arith, omega arith))
+    ⨾ (λ i. (omega arith, omega arith))
+    ⨾ (λ i. (omega arith, omega arith))
+    ⨾ tt)
+    (omega arith, omega arith)
+
+pub escapes-few : (os : List ℕ) → (length os ≤ length (escapes os)) × (length (escapes os) ≤ 6 * length os)
+unfolding escapes
+escapes-few [] = (omega arith, omega arith)
+escapes-few (b ∷ os) = let e = escaped-few b in let f = escapes-few os in (omega (arith, length-append (escaped b) (escapes os), e, f), omega (arith, length-append (escaped b) (escapes os), e, f))
 
 -- ---- byte by byte
 

@@ -1,6 +1,6 @@
 -- What is printed for an answer is what the definitions say of the value, or of the text.
 use Prim.Native.Nat.{ℕ}
-use mathlib.Core.Path.{_≡_, refl, sym, ap, _∙_}
+use mathlib.Core.Path.{_≡_, refl, ap, _∙_}
 use mathlib.Core.List.{List, [], _∷_, _++_}
 use mathlib.Core.Bool.{Bool, true, false, _&&_}
 use lib.Dec.{leb}
@@ -13,7 +13,7 @@ use Rattle.jer.specs.Answer.{Res, ok, no}
 use Rattle.jer.specs.Rows.{ValueRow, numbers, rowsOf, poolOf}
 use Rattle.jer.specs.Calls.{over, rowNumbers, roomy, readText, readAnswer, rowsAfter, poolAfter, writeText, amount, writeAnswer, textAfter}
 use Rattle.jer.specs.Contracts.{ReadCall, WriteCall}
-use Rattle.jer.specs.Programs.{rowLines, endLine, printRead, readPrinted, readShown, printWrite, writePrinted, writeShown}
+use Rattle.jer.specs.Programs.{rowLines, endLine, printRead, readPrinted, printWrite, writePrinted}
 use Rattle.jer.specs.declared.Limit.the-variants.{HouseSize, LentRoom}
 use Rattle.jer.specs.declared.Refusal.the-variants.{Amounts}
 use Rattle.jer.specs.declared.Reading.{Reading}

@@ -1,7 +1,7 @@
 -- What is printed for a line that was taken, and for one that is bad.
 use Prim.Native.Nat.{ℕ, suc, _+_, _≤_}
 use mathlib.Core.Path.{_≡_, refl, sym, ap, _∙_}
-use mathlib.Core.List.{List, [], _∷_, _++_}
+use mathlib.Core.List.{List, _++_}
 use mathlib.Core.Option.{Option, none, some}
 use native.Mathlib.Omega.{arith}
 use lib.ListN.{length, take, drop}
@@ -10,7 +10,6 @@ use Rattle.jer.specs.Octets.{also}
 use Rattle.jer.specs.Answer.{values}
 use Rattle.jer.specs.Programs.{lineFrom, lineAt, numbersIn, refusalLine, withLine}
 use Rattle.lines.specs.Taken.{numbersLine, takenOf, after}
-use Rattle.lines.specs.declared.taken.Taken.{Taken}
 use Rattle.lines.specs.declared.taken.Taken.the-variants as taken
 use Rattle.lines.proofs.TakenLaws.{line-rest, octets-few, numbers-few}
 

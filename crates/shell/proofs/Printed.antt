@@ -14,7 +14,7 @@ use Rattle.jer.specs.Table.{Table}
 use Rattle.jer.specs.Value.{Val}
 use Rattle.jer.specs.Answer.{Res, ok, no, Values, values, valuesOf}
 use Rattle.jer.specs.Rows.{ValueRow, numbers, rowsOf, poolOf}
-use Rattle.jer.specs.Calls.{rowNumbers, roomy, readText, readAnswer, writeText, amount, writeAnswer}
+use Rattle.jer.specs.Calls.{rowNumbers, roomy, readAnswer, amount, writeAnswer}
 use Rattle.jer.specs.Programs.{lineFrom, lineAt, refusalLine, rowLines, endLine, withLine, printRead, readPrinted, readShown, readThird, readSecond, jerread, printWrite, writePrinted, writeShown, writeFourth, writeThird, writeSecond, jerwrite}
 use Rattle.jer.specs.declared.Limit.the-variants.{HouseSize, LentRoom}
 use Rattle.jer.specs.declared.Refusal.the-variants.{Amounts}

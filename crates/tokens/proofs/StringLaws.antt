@@ -7,7 +7,7 @@ use native.Mathlib.Nat.{add-zero, add-suc}
 use native.Mathlib.Numerals.{add-one}
 use native.Mathlib.Omega.{arith}
 use borrow.Author.Tests.{lt-ltb, le-ltb, eq-eqb, ne-eqb, eqb-true, eqb-false, le-leb, lt-leb, leb-true, leb-false}
-use lib.Dec.{eqb, leb}
+use lib.Dec.{eqb, leb, ltb}
 use lib.ListN.{length, getD, take, drop, set, length-append}
 use lib.Seq.{sets}
 use Rattle.json.specs.Bytes.{Row, on, pick}
@@ -407,6 +407,32 @@ module _ (x : ℕ) where
 pub encodes-length : {c : Utf8} {bs : List ℕ} → Encodes c bs → length (take (c .len) (c .bytes)) ≡ c .len
 encodes-length f = ap length (f .bytes) ∙ sym (f .len)
 
+-- ---- how many bytes a string denotes at the most
+
+encode-few : (x : ℕ) → length (encode x) ≤ 4
+unfolding encode
+encode-few x = go (ltb x 0x80) refl (ltb x 0x800) refl (ltb x 0x10000) refl
+  where
+    go : (a : Bool) → ltb x 0x80 ≡ a → (b : Bool) → ltb x 0x800 ≡ b → (c : Bool) → ltb x 0x10000 ≡ c → length (encode x) ≤ 4
+    go true e b f c g = rw (e, encode) (omega arith)
+    go false e true f c g = rw (e, encode) (rw f (omega arith))
+    go false e false f true g = rw (e, encode) (rw f (rw g (omega arith)))
+    go false e false f false g = rw (e, encode) (rw f (rw g (omega arith)))
+
+denoted-in-few : (s : List ℕ) (k p : ℕ) → length (denotedIn k s p) ≤ 4 * k
+unfolding denotedIn
+denoted-in-few s zero p = omega arith
+denoted-in-few s (suc k) p = go (pieceAt s p) refl (denoted-in-few s k)
+  where
+    go : (x : Piece) → pieceAt s p ≡ x → ((q : ℕ) → length (denotedIn k s q) ≤ 4 * k) → length (denotedIn (suc k) s p) ≤ 4 * suc k
+    go close e h = rw (e, denotedIn) (omega arith)
+    go (bare b) e h = rw (e, denotedIn) (omega (arith, h (p + 1)))
+    go (escaped x q) e h = rw (e, denotedIn) (omega (arith, length-append (encode x) (denotedIn k s q), encode-few x, h q))
+
+pub denoted-few : (s : List ℕ) (p : ℕ) → length (denoted s p) ≤ 4 * length s
+unfolding denoted
+denoted-few s p = denoted-in-few s (length s) p
+
 -- ---- the loops over a string: what is known at a place i, and what a piece makes of it
 
 -- what was passed denotes n bytes
@@ -418,10 +444,10 @@ module _ {s : List ℕ} {p i n : ℕ} (f : Counting s p i n) where
   pub counting-close : close ≡ pieceAt s i → n ≡ length (denoted s p)
   counting-close e = omega (arith, ap length (denoted-close s i e))
 
-  pub counting-bare : {b : ℕ} → bare b ≡ pieceAt s i → Counting s p (i + 1) (n + 1)
+  counting-bare : {b : ℕ} → bare b ≡ pieceAt s i → Counting s p (i + 1) (n + 1)
   counting-bare {b} e = record { counted = omega (arith, ap length (denoted-bare s i b e)); few = omega arith }
 
-  pub counting-escaped : {x q : ℕ} {c : Utf8} → escaped x q ≡ pieceAt s i → Encodes c (encode x) → Counting s p q (n + c .len)
+  counting-escaped : {x q : ℕ} {c : Utf8} → escaped x q ≡ pieceAt s i → Encodes c (encode x) → Counting s p q (n + c .len)
   counting-escaped {x} {q} e g = record {
     counted = omega (arith, g .len, ap length (denoted-escaped s i x q e), length-append (encode x) (denoted s q));
     few = omega (arith, g .few, escaped-inside s i e);
@@ -450,6 +476,10 @@ module _ {s : List ℕ} {p : ℕ} {before : List ℕ} {j : ℕ} {now : List ℕ}
     stored = rw (h, add-one n, add-suc j n) (rw (denoted-bare s i b e) at (f .stored));
     kept = k ∙ f .kept;
   }
+
+  -- the rest is stored at once
+  pub copying-rest : {m : ℕ} {after : List ℕ} → m ≡ length (denoted s i) → after ≡ sets now (j + n) (denoted s i) → (n + m ≡ length (denoted s p)) × (after ≡ sets before j (denoted s p))
+  copying-rest e h = (omega (arith, e, f .counting .counted), h ∙ f .stored)
 
   pub copying-escaped : {x q : ℕ} {c : Utf8} {after : List ℕ} → escaped x q ≡ pieceAt s i → Encodes c (encode x) → after ≡ sets now (j + n) (take (c .len) (c .bytes))
       → length after ≡ length now → Copying s p before j after q (n + c .len)

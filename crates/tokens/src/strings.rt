@@ -259,34 +259,9 @@ pub fn same(s: &[u8], p: usize, names: &[u8], from: usize, len: usize) -> bool
     same_as(s, p, name)
 }
 
-// How many bytes the string at p denotes.
-pub fn count(s: &[u8], p: usize) -> usize
-    requires { ⌜ length (now s) ≤ 65536 ⌝ }
-    ensures { λ r. ⌜ r ≡ length (denoted (now (s .entry)) p) ⌝ }
-{
-    let mut i = p;
-    let mut n = 0;
-    while i < s.len() {
-        let b = s[i];
-        if b == 0x22 {
-            return n;
-        }
-        if b == 0x5C {
-            let e = escape(s, i + 1);
-            let u = encoded(e.code);
-            n += u.len;
-            i = e.next;
-        } else {
-            n += 1;
-            i += 1;
-        }
-    }
-    n
-}
-
 // Stores the bytes that the string at p denotes, from j on, as far as there is room. Returns how many they are.
-pub fn copy(s: &[u8], p: usize, pool: &mut [u8], j: usize) -> usize
-    requires { ⌜ (length (now s) ≤ 65536) × (j ≤ 4294967296) ⌝ }
+fn copy_rest(s: &[u8], p: usize, pool: &mut [u8], j: usize) -> usize
+    requires { ⌜ (length (now s) ≤ 65536) × (j ≤ 4295491584) ⌝ }
     ensures { λ r. ⌜ r ≡ length (denoted (now (s .entry)) p) ⌝ }
     ensures { λ _. ⌜ now (pool .exit) ≡ sets (now (pool .entry)) j (denoted (now (s .entry)) p) ⌝ }
 {
@@ -312,4 +287,38 @@ pub fn copy(s: &[u8], p: usize, pool: &mut [u8], j: usize) -> usize
         }
     }
     n
+}
+
+// A string that was copied: how many bytes it denotes, and a place from which its end is still to be sought.
+pub struct Copied {
+    pub count: usize,
+    pub from: usize,
+}
+
+// As `copy_rest`. The end is to be sought from the first escape on, so that what stands before it is walked once.
+pub fn copy(s: &[u8], p: usize, pool: &mut [u8], j: usize) -> Copied
+    requires { ⌜ (length (now s) ≤ 65536) × (j ≤ 4294967296) ⌝ }
+    ensures { λ r. ⌜ r .count ≡ length (denoted (now (s .entry)) p) ⌝ }
+    ensures { λ r. ⌜ stringEnd (now (s .entry)) (r .from) ≡ stringEnd (now (s .entry)) p ⌝ }
+    ensures { λ _. ⌜ now (pool .exit) ≡ sets (now (pool .entry)) j (denoted (now (s .entry)) p) ⌝ }
+{
+    let mut i = p;
+    let mut n = 0;
+    while i < s.len() {
+        let b = s[i];
+        if b == 0x22 {
+            return Copied { count: n, from: i };
+        }
+        if b == 0x5C {
+            let rest = copy_rest(s, i, pool, j + n);
+            return Copied {
+                count: n + rest,
+                from: i,
+            };
+        }
+        put(pool, j + n, b);
+        n += 1;
+        i += 1;
+    }
+    Copied { count: n, from: i }
 }

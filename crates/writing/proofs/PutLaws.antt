@@ -2,7 +2,7 @@
 use mathlib.Core.Path.{_≡_, refl, sym, ap, _∙_}
 use mathlib.Core.List.{List, [], _∷_, _++_, append-assoc, append-nil}
 use mathlib.Core.Bool.{Bool, true, false}
-use Prim.Native.Nat.{ℕ, zero, suc, _+_, _-_, _<_, _≤_}
+use Prim.Native.Nat.{ℕ, zero, suc, _+_, _-_, _*_, _<_, _≤_}
 use native.Mathlib.Omega.{arith}
 use native.Mathlib.Numerals.{add-one}
 use native.Mathlib.Nat.{add-zero, add-comm}
@@ -14,8 +14,12 @@ use Rattle.jer.specs.Table.{Table, memberRow, nameIn, nameAt}
 use Rattle.jer.specs.Calls.{amount}
 use Rattle.jer.specs.Write.{nullText}
 use Rattle.octets.proofs.AmountLaws.{amount-within, amount-over, amount-add}
+use Rattle.octets.proofs.EncodeLaws.{hex-length, base64-length}
+use Rattle.octets.proofs.EscapeLaws.{escapes-few}
 use Rattle.tokens.proofs.SliceLaws.{sets-append}
-use Rattle.writing.specs.Text.{Puts, comma, nulls, nameText, lead}
+use Rattle.writing.specs.Text.{Puts, spelled, comma, nulls, nameText, lead}
+use Rattle.writing.specs.declared.put.Form.{Form}
+use Rattle.writing.specs.declared.put.Form.the-variants.{Escaped, Hexadecimal, Base64}
 
 -- ---- pieces
 
@@ -122,3 +126,14 @@ puts-nowhere {s} {l} {k} h m = record { ends = h; stands = λ _. sets-out l k s 
 
 pub puts-measured : {s : List ℕ} {k e : ℕ} {l m : List ℕ} → e ≡ amount (k + length s) → 65536 < e → Puts s k l m e
 puts-measured {s} {k} f h = record { ends = f; stands = λ z. absurd (omega (arith, amount-within (k + length s) (omega arith))) }
+
+-- past the house size it may stand anywhere
+pub puts-past : {s : List ℕ} {k e : ℕ} {l m : List ℕ} → e ≡ amount (k + length s) → 65536 < k + length s → Puts s k l m e
+puts-past f h = record { ends = f; stands = λ z. absurd (omega arith) }
+
+-- a spelled string is no shorter than its bytes, and at most six times as long
+pub spelled-few : (f : Form) (s : List ℕ) → (length s ≤ length (spelled f s)) × (length (spelled f s) ≤ 6 * length s)
+unfolding spelled
+spelled-few Escaped s = escapes-few s
+spelled-few Hexadecimal s = (omega (arith, hex-length s), omega (arith, hex-length s))
+spelled-few Base64 s = (omega (arith, base64-length s), omega (arith, base64-length s))

@@ -110,8 +110,16 @@ fn spelled_len(form: Form, s: &[u8]) -> usize
     }
 }
 
+// Where a string from k on ends.
+fn end_of(k: usize, form: Form, s: &[u8]) -> usize
+    ensures { λ e. ⌜ e ≡ amount (k + length (spelled form (now (s .entry)))) ⌝ }
+{
+    add(k, spelled_len(form, s))
+}
+
 fn store(text: &mut [u8], k: usize, form: Form, s: &[u8]) -> usize
-    requires { ⌜ k + length (spelled form (now s)) ≤ 65536 ⌝ }
+    requires { ⌜ (k ≤ 65536) × (length (now s) ≤ 65536) ⌝ }
+    ensures { λ n. ⌜ n ≡ length (spelled form (now (s .entry))) ⌝ }
     ensures { λ _. ⌜ now (text .exit) ≡ sets (now (text .entry)) k (spelled form (now (s .entry))) ⌝ }
 {
     match form {
@@ -121,18 +129,21 @@ fn store(text: &mut [u8], k: usize, form: Form, s: &[u8]) -> usize
     }
 }
 
+// Where there is no room, or the string ends past the house size, it is only measured.
 fn put_spelled(text: &mut [u8], k: usize, form: Form, s: &[u8]) -> usize
     ensures { λ e. ⌜ Puts (spelled form (now (s .entry))) k (now (text .entry)) (now (text .exit)) e ⌝ }
 {
-    let end = add(k, spelled_len(form, s));
     if text.len() <= k {
-        return end;
+        return end_of(k, form, s);
     }
-    if end <= json::TEXT {
-        store(text, k, form, s);
-        return end;
+    if json::TEXT < k {
+        return end_of(k, form, s);
     }
-    end
+    if json::TEXT < s.len() {
+        return end_of(k, form, s);
+    }
+    let n = store(text, k, form, s);
+    add(k, n)
 }
 
 // A string in quotation marks.

@@ -45,9 +45,6 @@ wide-requires c κs = search needs
 copy-requires : tie.Need-copy-requires
 copy-requires c κs = search needs
 
-add-string-end-2 : tie.Need-add-string-end-2
-add-string-end-2 c = search needs
-
 string-end-requires-2 : tie.Need-string-end-requires-2
 string-end-requires-2 c κs = search needs
 
@@ -93,7 +90,7 @@ same-length-6 c = search needs
 returns-4 : tie.Need-returns-4
 returns-4 c = let a = c .before .before .before .before .before .before .before .before .before .before .before .before .before .before .before .before .before .before .args in
     let ns = a .names .now in
-    utf8-read (table (a .types .now) ns) (a .s .now) (a .row) (a .p) (c .before .before .before .before .before .before .before .before .before .before .before .before .field .ensures ns) (c .before .before .before .string-end2 .ensures) (c .before .before .bytes2 .ensures .0) (c .before .before .bytes2 .ensures .1) (c .before .before .before .before .before .before .before .before .before .before .before .match .keys3) (c .before .before .before .before .before .before .before .copy .ensures .0) (λ h. c .before .before .before .before .before .before .before .before .wide .ensures .0 ∙ c .before .before .before .before .before .before .before .before .before .narrow .ensures h) (c .before .before .before .before .before .before .before .copy .ensures .1)
+    utf8-read (table (a .types .now) ns) (a .s .now) (a .row) (a .p) (c .before .before .before .before .before .before .before .before .before .before .before .before .field .ensures ns) (c .before .before .before .string-end2 .ensures ∙ c .before .before .before .before .before .before .before .copy .ensures .1 .0) (c .before .before .bytes2 .ensures .0) (c .before .before .bytes2 .ensures .1) (c .before .before .before .before .before .before .before .before .before .before .before .match .keys3) (c .before .before .before .before .before .before .before .copy .ensures .0) (λ h. c .before .before .before .before .before .before .before .before .wide .ensures .0 ∙ c .before .before .before .before .before .before .before .before .before .narrow .ensures h) (c .before .before .before .before .before .before .before .copy .ensures .1 .1)
 
 returns-5 : tie.Need-returns-5
 returns-5 c = let a = c .before .before .before .before .before .before .before .before .args in
@@ -118,7 +115,6 @@ string-spec =
     narrow-requires
     wide-requires
     copy-requires
-    add-string-end-2
     string-end-requires-2
     bytes-requires-2
     refused-requires-2

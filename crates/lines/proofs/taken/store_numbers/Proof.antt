@@ -2,7 +2,7 @@ use borrow.Author.Needs.{needs}
 use Prim.Native.Nat.{_-_, _≤_}
 use native.Mathlib.Omega.{arith}
 use lib.ListN.{length, drop}
-use Rattle.octets.proofs.PutLaws.{Putting, putting-start}
+use Rattle.octets.proofs.PutLaws.{Putting}
 use Rattle.jer.specs.Programs.{numbersIn}
 use Rattle.lines.specs.Taken.{octetsOf}
 use Rattle.lines.proofs.TakenLaws.{numbers-next, numbers-stored}

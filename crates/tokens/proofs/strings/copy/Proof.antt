@@ -1,101 +1,84 @@
 use borrow.Author.Needs.{needs}
 use Prim.Native.Nat.{_-_}
-use mathlib.Core.Path.{sym, _∙_}
+use mathlib.Core.Path.{_≡_, refl, sym, _∙_}
 use native.Mathlib.Omega.{arith}
 use lib.ListN.{length}
-use Rattle.tokens.proofs.StringLaws.{piece-past, piece-quote, piece-escape, piece-bare, escaped-inside, encodes-length, counting-close, Copying, copying-start, copying-close, copying-bare, copying-escaped}
+use Rattle.tokens.specs.Strings.{stringEnd}
+use Rattle.tokens.proofs.StringLaws.{piece-past, piece-quote, piece-bare, end-other, denoted-few, counting-close, Copying, copying-start, copying-close, copying-bare, copying-rest}
 use Rattle.tokens.proofs.strings.copy.Statement.{statement}
 use Rattle.tokens.proofs.strings.copy.Tie as tie
 
 abbrev Inv-loop : tie.InvT-loop
-Inv-loop s p pool₀ j i₀ n₀ pool i n = Copying s p pool₀ j pool i n
+Inv-loop s p pool₀ j i₀ n₀ pool i n = Copying s p pool₀ j pool i n × (stringEnd s i ≡ stringEnd s p)
 
 abbrev μ-loop : tie.MeasureT-loop
 μ-loop s p pool₀ j i₀ n₀ pool i n = length s - i
 
 loop-holds : tie.Need-loop-holds Inv-loop μ-loop
-loop-holds c =
-    let a = c .before .before .args in
-    copying-start (a .s .now) (a .p) (a .pool .now) (a .j)
+loop-holds c = let a = c .before .before .args in
+    (copying-start (a .s .now) (a .p) (a .pool .now) (a .j), refl)
 
 shared-slice-read-b : tie.Need-shared-slice-read-b Inv-loop μ-loop
 shared-slice-read-b c = search needs
 
 same-length : tie.Need-same-length Inv-loop μ-loop
-same-length c = c .before .before .before .loop .inv .kept
+same-length c = c .before .before .before .loop .inv .0 .kept
 
 returns : tie.Need-returns Inv-loop μ-loop
-returns c =
-    let l = c .before .before .before .loop in
+returns c = let l = c .before .before .before .loop in
     let here = piece-quote (c .before .before .before .before .before .before .args .s .now) (l .i) (c .before .before .loop-test .taken) (c .if1 .taken) in
-    (counting-close (l .inv .counting) here, copying-close (l .inv) here)
+    (counting-close (l .inv .0 .counting) here, (l .inv .1, copying-close (l .inv .0) here))
 
-add-escape : tie.Need-add-escape Inv-loop μ-loop
-add-escape c = search needs
+add-copy-rest : tie.Need-add-copy-rest Inv-loop μ-loop
+add-copy-rest c = omega (arith, c .before .before .before .before .before .loop .inv .0 .counting)
 
-escape-requires : tie.Need-escape-requires Inv-loop μ-loop
-escape-requires c κs = search needs
+copy-rest-requires : tie.Need-copy-rest-requires Inv-loop μ-loop
+copy-rest-requires c κs = (omega arith, omega (arith, c .before .before .before .before .before .loop .inv .0 .counting, c .before .before .before .before .before .before .before .before .pre))
 
-encoded-requires : tie.Need-encoded-requires Inv-loop μ-loop
-encoded-requires c κs = c .escape .ensures .1
+add-t15 : tie.Need-add-t15 Inv-loop μ-loop
+add-t15 c = let l = c .before .before .before .before .before .before .before .before .loop in
+    let few = denoted-few (c .before .before .before .before .before .before .before .before .before .before .before .args .s .now) (l .i) in
+    omega (arith, few, c .before .before .copy-rest .ensures .0, l .inv .0 .counting, c .before .before .before .before .before .before .before .before .before .before .before .pre)
 
-add-put-all : tie.Need-add-put-all Inv-loop μ-loop
-add-put-all c = omega (arith, c .before .before .before .before .before .before .before .before .loop .inv .counting)
+same-length-2 : tie.Need-same-length-2 Inv-loop μ-loop
+same-length-2 c = search needs
 
-array-share-prefix-bytes : tie.Need-array-share-prefix-bytes Inv-loop μ-loop
-array-share-prefix-bytes c = c .before .before .encoded .ensures .room
-
-slice-aggregate-put-all : tie.Need-slice-aggregate-put-all Inv-loop μ-loop
-slice-aggregate-put-all c = sym (encodes-length (c .before .before .before .encoded .ensures))
-
-put-all-requires : tie.Need-put-all-requires Inv-loop μ-loop
-put-all-requires c κs =
-    let f = c .before .before .before .encoded .ensures in
-    omega (arith, encodes-length f, f .few, c .before .before .before .before .before .before .before .before .before .loop .inv .counting, c .before .before .before .before .before .before .before .before .before .before .before .before .pre)
-
-add-n : tie.Need-add-n Inv-loop μ-loop
-add-n c = omega (arith, c .before .before .before .before .before .before .encoded .ensures .few, c .before .before .before .before .before .before .before .before .before .before .before .before .loop .inv .counting, c .before .before .before .before .before .before .before .before .before .before .before .before .before .before .before .pre)
-
-loop-less : tie.Need-loop-less Inv-loop μ-loop
-loop-less c =
-    let here = c .before .before .before .before .before .before .before .escape .ensures .0 ∙ piece-escape (c .before .before .before .before .before .before .before .before .before .before .before .before .before .before .before .args .s .now) (c .before .before .before .before .before .before .before .before .before .before .before .before .loop .i) (c .before .before .before .before .before .before .before .before .before .before .before .loop-test .taken) (c .before .before .before .before .before .before .before .before .if2 .taken) in
-    omega (arith, escaped-inside _ _ here)
-
-loop-again : tie.Need-loop-again Inv-loop μ-loop
-loop-again c =
-    let l = c .before .before .before .before .before .before .before .before .before .before .before .before .loop in
-    let here = c .before .before .before .before .before .before .before .escape .ensures .0 ∙ piece-escape (c .before .before .before .before .before .before .before .before .before .before .before .before .before .before .before .args .s .now) (l .i) (c .before .before .before .before .before .before .before .before .before .before .before .loop-test .taken) (c .before .before .before .before .before .before .before .before .if2 .taken) in
-    copying-escaped (l .inv) here (c .before .before .before .before .before .before .encoded .ensures) (c .before .before .put-all .ensures) (c .before .before .put-all .kept .0)
+returns-2 : tie.Need-returns-2 Inv-loop μ-loop
+returns-2 c = let l = c .before .before .before .before .before .before .before .before .loop in
+    let r = copying-rest (l .inv .0) (c .before .before .copy-rest .ensures .0) (c .before .before .copy-rest .ensures .1) in
+    (r .0, (l .inv .1, r .1))
 
 add-put : tie.Need-add-put Inv-loop μ-loop
-add-put c = omega (arith, c .before .before .before .before .before .loop .inv .counting)
+add-put c = omega (arith, c .before .before .before .before .before .loop .inv .0 .counting)
 
 put-requires : tie.Need-put-requires Inv-loop μ-loop
 put-requires c κs = search needs
 
-add-n-2 : tie.Need-add-n-2 Inv-loop μ-loop
-add-n-2 c = omega (arith, c .before .before .before .before .before .before .before .before .loop .inv .counting, c .before .before .before .before .before .before .before .before .before .before .before .pre)
+add-n : tie.Need-add-n Inv-loop μ-loop
+add-n c =
+    let c₅ = c .before .before .before .before .before in
+    let c₁₀ = c₅ .before .before .before .before .before in
+    omega (arith, c₅ .before .before .before .loop .inv .0 .counting, c₁₀ .before .pre)
 
 add-i : tie.Need-add-i Inv-loop μ-loop
-add-i c = omega arith
+add-i c = search needs
 
-loop-less-2 : tie.Need-loop-less-2 Inv-loop μ-loop
-loop-less-2 c = omega arith
+loop-less : tie.Need-loop-less Inv-loop μ-loop
+loop-less c = search needs
 
-loop-again-2 : tie.Need-loop-again-2 Inv-loop μ-loop
-loop-again-2 c =
+loop-again : tie.Need-loop-again Inv-loop μ-loop
+loop-again c = let s = c .before .before .before .before .before .before .before .before .before .before .before .args .s .now in
     let l = c .before .before .before .before .before .before .before .before .loop in
-    let here = piece-bare (c .before .before .before .before .before .before .before .before .before .before .before .args .s .now) (l .i) (c .before .before .before .before .before .before .before .loop-test .taken) (c .before .before .before .before .before .before .shared-slice-known2 .given (l .i) .fits) (c .before .before .before .before .before .if1 .left) (c .before .before .before .before .if2 .left) in
-    copying-bare (l .inv) here (c .before .before .put .ensures) (c .before .before .put .kept .0)
+    let here = piece-bare s (l .i) (c .before .before .before .before .before .before .before .loop-test .taken) (c .before .before .before .before .before .before .shared-slice-known2 .given (l .i) .fits) (c .before .before .before .before .before .if1 .left) (c .before .before .before .before .if2 .left) in
+    (copying-bare (l .inv .0) here (c .before .before .put .ensures) (c .before .before .put .kept .0), sym (end-other s (l .i) (c .before .before .before .before .before .before .before .loop-test .taken) (c .before .before .before .before .before .before .shared-slice-known2 .given (l .i) .fits) (c .before .before .before .before .before .if1 .left) (c .before .before .before .before .if2 .left)) ∙ l .inv .1)
 
-same-length-2 : tie.Need-same-length-2 Inv-loop μ-loop
-same-length-2 c = c .before .loop .inv .kept
+same-length-3 : tie.Need-same-length-3 Inv-loop μ-loop
+same-length-3 c = c .before .loop .inv .0 .kept
 
-returns-2 : tie.Need-returns-2 Inv-loop μ-loop
-returns-2 c =
-    let l = c .before .loop in
+returns-3 : tie.Need-returns-3 Inv-loop μ-loop
+returns-3 c = let l = c .before .loop in
     let here = piece-past (c .before .before .before .before .args .s .now) (l .i) (c .loop-test .left) in
-    (counting-close (l .inv .counting) here, copying-close (l .inv) here)
+    (counting-close (l .inv .0 .counting) here, (l .inv .1, copying-close (l .inv .0) here))
 
 pub copy-spec : {M : Type 1} → statement M
 copy-spec =
@@ -107,21 +90,16 @@ copy-spec =
     shared-slice-read-b
     same-length
     returns
-    add-escape
-    escape-requires
-    encoded-requires
-    add-put-all
-    array-share-prefix-bytes
-    slice-aggregate-put-all
-    put-all-requires
-    add-n
-    loop-less
-    loop-again
+    add-copy-rest
+    copy-rest-requires
+    add-t15
+    same-length-2
+    returns-2
     add-put
     put-requires
-    add-n-2
+    add-n
     add-i
-    loop-less-2
-    loop-again-2
-    same-length-2
-    returns-2)
+    loop-less
+    loop-again
+    same-length-3
+    returns-3)

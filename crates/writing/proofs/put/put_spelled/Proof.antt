@@ -1,48 +1,53 @@
-use lib.ListN.{length}
-use Rattle.writing.specs.Text.{spelled}
-use Rattle.writing.proofs.PutLaws.{measured, fits, puts-stored, puts-measured, puts-nowhere}
 use borrow.Author.Needs.{needs}
+use native.Mathlib.Omega.{arith}
+use Rattle.writing.specs.Text.{spelled}
+use Rattle.writing.proofs.PutLaws.{counted, puts-stored, puts-nowhere, puts-past, spelled-few}
 use Rattle.writing.proofs.put.put_spelled.Statement.{statement}
 use Rattle.writing.proofs.put.put_spelled.Tie as tie
 
-spelled-len-requires : tie.Need-spelled-len-requires
-spelled-len-requires c κs = search needs
+end-of-requires : tie.Need-end-of-requires
+end-of-requires c κs = search needs
+
+returns : tie.Need-returns
+returns c = puts-nowhere (c .end-of .ensures) (c .before .if1 .taken)
+
+end-of-requires-2 : tie.Need-end-of-requires-2
+end-of-requires-2 c κs = search needs
+
+returns-2 : tie.Need-returns-2
+returns-2 c = puts-past (c .end-of2 .ensures) (omega arith)
+
+end-of-requires-3 : tie.Need-end-of-requires-3
+end-of-requires-3 c κs = search needs
+
+returns-3 : tie.Need-returns-3
+returns-3 c = let a = c .before .before .before .before .before .before .args in
+    puts-past (c .end-of3 .ensures) (omega (arith, spelled-few (a .form) (a .s .now)))
+
+store-requires : tie.Need-store-requires
+store-requires c κs = search needs
 
 add-requires : tie.Need-add-requires
 add-requires c κs = search needs
 
-returns : tie.Need-returns
-returns c =
-    let a = c .before .before .before .before .before .args in
-    puts-nowhere (measured (a .k) (length (spelled (a .form) (a .s .now))) (c .before .before .spelled-len .ensures) (c .before .add .ensures)) (c .if1 .taken)
-
-store-requires : tie.Need-store-requires
-store-requires c κs =
-    let a = c .before .before .before .before .before .before .before .args in
-    let s = spelled (a .form) (a .s .now) in
-    fits s (a .k) (measured (a .k) (length s) (c .before .before .before .before .spelled-len .ensures) (c .before .before .before .add .ensures)) (c .before .if2 .taken)
-
 same-length : tie.Need-same-length
 same-length c = search needs
 
-returns-2 : tie.Need-returns-2
-returns-2 c =
-    let a = c .before .before .before .before .before .before .before .before .before .before .args in
-    puts-stored (measured (a .k) (length (spelled (a .form) (a .s .now))) (c .before .before .before .before .before .before .before .spelled-len .ensures) (c .before .before .before .before .before .before .add .ensures)) (c .before .before .store .ensures)
-
-returns-3 : tie.Need-returns-3
-returns-3 c =
-    let a = c .before .before .before .before .before .before .args in
-    puts-measured (measured (a .k) (length (spelled (a .form) (a .s .now))) (c .before .before .before .spelled-len .ensures) (c .before .before .add .ensures)) (c .if2 .left)
+returns-4 : tie.Need-returns-4
+returns-4 c = let a = c .before .before .before .before .before .before .before .before .before .before .args in
+    puts-stored (counted (spelled (a .form) (a .s .now)) (a .k) (c .before .before .before .store .ensures .0) (c .add .ensures)) (c .before .before .before .store .ensures .1)
 
 pub put-spelled-spec : {M : Type 1} → statement M
 put-spelled-spec =
     tie.close
     (tie.spec
-    spelled-len-requires
-    add-requires
+    end-of-requires
     returns
-    store-requires
-    same-length
+    end-of-requires-2
     returns-2
-    returns-3)
+    end-of-requires-3
+    returns-3
+    store-requires
+    add-requires
+    same-length
+    returns-4)

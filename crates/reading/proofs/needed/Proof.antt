@@ -1,0 +1,9 @@
+use mathlib.Core.Path.{refl}
+use Rattle.reading.proofs.needed.Statement.{statement}
+use Rattle.reading.proofs.needed.Tie as tie
+
+returns : tie.Need-returns
+returns c = refl
+
+pub needed-spec : {M : Type 1} → statement M
+needed-spec = tie.close (tie.spec returns)

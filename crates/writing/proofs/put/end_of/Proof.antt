@@ -1,0 +1,19 @@
+use borrow.Author.Needs.{needs}
+use lib.ListN.{length}
+use Rattle.writing.specs.Text.{spelled}
+use Rattle.writing.proofs.PutLaws.{measured}
+use Rattle.writing.proofs.put.end_of.Statement.{statement}
+use Rattle.writing.proofs.put.end_of.Tie as tie
+
+spelled-len-requires : tie.Need-spelled-len-requires
+spelled-len-requires c κs = search needs
+
+add-requires : tie.Need-add-requires
+add-requires c κs = search needs
+
+returns : tie.Need-returns
+returns c = let a = c .before .before .before .args in
+    measured (a .k) (length (spelled (a .form) (a .s .now))) (c .before .spelled-len .ensures) (c .add .ensures)
+
+pub end-of-spec : {M : Type 1} → statement M
+end-of-spec = tie.close (tie.spec spelled-len-requires add-requires returns)
