@@ -1,7 +1,7 @@
 // `jerwrite`: four lines of hexadecimal on standard input, type table, names, value rows and pool; prints the text, or the refusal.
-use hexlines::collect;
-use hexlines::show;
+use libc::STDOUT_FILENO;
 use shell::writes::answer;
+use stdin::collect;
 use tokens::slices::part;
 
 // A text of 65,536 bytes and its line feed are 131,073 bytes.
@@ -10,5 +10,5 @@ fn main() {
     let n = collect(4, &mut input);
     let mut out = [0u8; 131200];
     let k = answer(part(&input, 0, n), &mut out);
-    show(&out, k);
+    io::write_all(STDOUT_FILENO, part(&out, 0, k));
 }

@@ -1,9 +1,9 @@
 // Runs `jerwrite` on the stored inputs: a line of hexadecimal each, the whole of a standard input.
-use hexlines::Input;
-use hexlines::Line;
-use hexlines::octets;
-use hexlines::show;
+use libc::STDOUT_FILENO;
 use shell::writes::answer;
+use stdin::Input;
+use stdin::Line;
+use stdin::octets;
 use tokens::slices::part;
 
 // Answers the input in the next line.
@@ -13,7 +13,7 @@ fn one(buf: &mut [u8], input: Input) -> Line {
     if !line.over {
         let mut out = [0u8; 131200];
         let k = answer(part(&given, 0, line.count), &mut out);
-        show(&out, k);
+        io::write_all(STDOUT_FILENO, part(&out, 0, k));
     }
     line
 }

@@ -13,13 +13,15 @@ use Rattle.jer.specs.Programs.{digits8, endLine, refusalLine}
 use Rattle.jer.specs.Reports.{reportedOf}
 use Rattle.jer.specs.declared.Reported.{Reported}
 use Rattle.jer.specs.declared.Refusal.{Refusal}
+use Rattle.jer.specs.declared.Judged.{Judged}
+use Rattle.jer.specs.declared.Judged.the-variants as judged
 use Rattle.jer.specs.declared.Reading.{Reading}
 use Rattle.jer.specs.declared.Reading.the-variants as reading
 use Rattle.jer.specs.declared.Writing.{Writing}
 use Rattle.jer.specs.declared.Writing.the-variants as writing
 use Rattle.octets.proofs.EncodeLaws.{hex-length}
 use Rattle.octets.proofs.PutLaws.{sets-as, sets-next, Putting, putting-start, putting-next}
-use Rattle.lines.specs.Shown.{fourLine, fourLines, readingLines, writingLines}
+use Rattle.lines.specs.Shown.{fourLine, fourLines, readingLines, writingLines, noLine, judgedLine}
 
 -- ---- a number
 
@@ -161,3 +163,19 @@ writing-refused text h = rw h
 pub writing-written : {w : Writing} {n : ℕ} (text : List ℕ) → w ≡ writing.Written n → endLine (hex (take n text)) ≡ writingLines w text
 unfolding writingLines
 writing-written text h = rw h
+
+-- the line of a refused judgement has 21 bytes, and is stored part by part
+module _ (n p : ℕ) where
+  pub no-stored : (l : List ℕ) {a b c d e f g : List ℕ} → a ≡ set l 0 0x4E → b ≡ set a 1 0x4F → c ≡ set b 2 0x20 → d ≡ sets c 3 (digits8 (n ∷ [])) → e ≡ set d 11 0x20 → f ≡ sets e 12 (digits8 (p ∷ [])) → g ≡ set f 20 0x0A
+      → (21 ≡ length (noLine n p)) × (g ≡ sets l 0 (noLine n p))
+  unfolding noLine endLine digits8 hex
+  no-stored l ea eb ec ed ee ef eg = (refl, rw (eg, ef, ee, ed, ec, eb, ea) refl)
+
+-- what is printed for each answer of judging
+pub judged-good : {j : Judged} (l : List ℕ) {a b c : List ℕ} → j ≡ judged.Good → a ≡ set l 0 0x4F → b ≡ set a 1 0x4B → c ≡ set b 2 0x0A → (3 ≡ length (judgedLine j)) × (c ≡ sets l 0 (judgedLine j))
+unfolding judgedLine endLine
+judged-good l h ea eb ec = rw h (refl, rw (ec, eb, ea) refl)
+
+pub judged-refused : {j : Judged} {e : Refusal} {r : Reported} → j ≡ judged.Refused e → r ≡ reportedOf (valuesOf e) → noLine (r .number) (r .first) ≡ judgedLine j
+unfolding judgedLine
+judged-refused {j} {e} h k = ap (λ (x : Reported). noLine (x .number) (x .first)) k ∙ rw h

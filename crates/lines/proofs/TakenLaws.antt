@@ -1,7 +1,7 @@
 -- Lines of hexadecimal: their digits, their ends, and what is stored of them.
 use mathlib.Core.Path.{_≡_, refl, sym, ap, _∙_}
 use mathlib.Core.List.{List, [], _∷_}
-use mathlib.Core.Bool.{Bool, true, false}
+use mathlib.Core.Bool.{Bool, true, false, false≢true}
 use mathlib.Core.Option.{Option, none, some}
 use Prim.Native.Nat.{ℕ, zero, suc, _+_, _-_, _/_, _%_, _<_, _≤_}
 use native.Mathlib.Numerals.{add-one}
@@ -70,7 +70,7 @@ module _ (b : ℕ) (s : List ℕ) where
   hex-first h = go (eqb (digitOf b) 16) refl
     where
       go : (t : Bool) → eqb (digitOf b) 16 ≡ t → (digitOf b ≡ 16 → ⊥) × (isHex s ≡ true)
-      go true e = absurd (let f : true ≡ false = sym h ∙ hex-not (eqb-true (digitOf b) 16 e) in let z : _≡_ {A = ℕ} 0 1 = cc in omega arith)
+      go true e = absurd (false≢true (sym (hex-not (eqb-true (digitOf b) 16 e)) ∙ h))
       go false e = (eqb-false (digitOf b) 16 e, sym (hex-rest (eqb-false (digitOf b) 16 e)) ∙ h)
 
 module _ (l : List ℕ) (i : ℕ) where
@@ -144,13 +144,10 @@ numbers-length (a ∷ b ∷ c ∷ d ∷ os) = omega (arith, numbers-length os)
 
 -- ---- good lines
 
-clash : true ≡ false → ⊥
-clash e = absurd (let z : _≡_ {A = ℕ} 0 1 = cc in omega arith)
-
 pub not-some : (o : Option (List ℕ)) → false ≡ isSome o → o ≡ none
 unfolding isSome
 not-some none e = refl
-not-some (some xs) e = absurd (clash (sym e))
+not-some (some xs) e = absurd (false≢true e)
 
 module _ (n : ℕ) (bs : List ℕ) where
   over-none : 16384 < length bs → octetsIn n bs ≡ none
@@ -212,7 +209,7 @@ module _ (n : ℕ) (bs : List ℕ) where
   good g = short (leb (length bs) 16384) refl
     where
       no : false ≡ isSome (octetsIn n bs) → Good
-      no f = absurd (clash (g ∙ sym f))
+      no f = absurd (false≢true (f ∙ sym g))
 
       digits : (d : Bool) → isHex bs ≡ d → length bs ≤ 16384 → length bs % 2 ≡ 0 → length bs / 2 % n ≡ 0 → Good
       digits true d h e w = record { short = h; even = e; units = w; digits = d; octets = in-good h e w d }

@@ -7,6 +7,8 @@ use lib.Seq.{sets}
 use Rattle.jer.specs.Octets.{hex}
 use Rattle.jer.specs.Answer.{valuesOf}
 use Rattle.jer.specs.Programs.{digits8, endLine, refusalLine}
+use Rattle.jer.specs.declared.Judged.{Judged}
+use Rattle.jer.specs.declared.Judged.the-variants as judged
 use Rattle.jer.specs.declared.Reading.{Reading}
 use Rattle.jer.specs.declared.Reading.the-variants as reading
 use Rattle.jer.specs.declared.Writing.{Writing}
@@ -36,3 +38,13 @@ readingLines (reading.Read n m) rows pool = fourLines n rows ++ endLine (hex (ta
 unfoldable pub writingLines : Writing → List ℕ → List ℕ
 writingLines (writing.Refused e) text = refusalLine (valuesOf e)
 writingLines (writing.Written n) text = endLine (hex (take n text))
+
+-- ---- what judging answers, in a line: the programs that run stored cases print it
+
+unfoldable pub noLine : ℕ → ℕ → List ℕ
+noLine n p = endLine (0x4E ∷ 0x4F ∷ 0x20 ∷ (digits8 (n ∷ []) ++ (0x20 ∷ digits8 (p ∷ []))))
+
+-- OK, or NO with the number and the place or row
+unfoldable pub judgedLine : Judged → List ℕ
+judgedLine judged.Good = endLine (0x4F ∷ 0x4B ∷ [])
+judgedLine (judged.Refused e) = noLine (valuesOf e .number) (valuesOf e .first)

@@ -7,7 +7,8 @@ ghost use lib.Seq.{sets};
 ghost use Rattle.jer.specs.Octets.{hex};
 ghost use Rattle.jer.specs.Answer.{values, valuesOf};
 ghost use Rattle.jer.specs.Programs.{digits8, endLine, refusalLine};
-ghost use Rattle.lines.specs.Shown.{Shows, fourLine, fourLines, readingLines, writingLines};
+ghost use Rattle.lines.specs.Shown.{Shows, fourLine, fourLines, readingLines, writingLines, noLine, judgedLine};
+use jer::Judged;
 use jer::Reading;
 use jer::Refusal;
 use jer::Writing;
@@ -29,7 +30,7 @@ fn octets_of(x: u64) -> [u8; 4]
 }
 
 // The eight digits of a number.
-pub fn put_number(text: &mut [u8], k: usize, x: u64) -> usize
+fn put_number(text: &mut [u8], k: usize, x: u64) -> usize
     requires { ⌜ k ≤ 4294967000 ⌝ }
     ensures { λ r. ⌜ r ≡ 8 ⌝ }
     ensures { λ _. ⌜ now (text .exit) ≡ sets (now (text .entry)) k (digits8 (x ∷ [])) ⌝ }
@@ -125,5 +126,37 @@ pub fn put_writing(out: &mut [u8], w: Writing, text: &[u8]) -> usize
     match w {
         Writing::Refused(e) => put_refusal(out, 0, e),
         Writing::Written(n) => put_octets(out, 0, part(text, 0, n)),
+    }
+}
+
+// NO, a number and a place or row.
+fn put_no(text: &mut [u8], number: u64, first: u64) -> usize
+    ensures { λ n. ⌜ Shows (noLine number first) 0 (now (text .entry)) n (now (text .exit)) ⌝ }
+{
+    put(text, 0, 0x4E);
+    put(text, 1, 0x4F);
+    put(text, 2, 0x20);
+    put_number(text, 3, number);
+    put(text, 11, 0x20);
+    put_number(text, 12, first);
+    put(text, 20, 0x0A);
+    21
+}
+
+// What judging answered: OK, or the refusal's number and its place or row.
+pub fn put_judged(text: &mut [u8], j: Judged) -> usize
+    ensures { λ n. ⌜ Shows (judgedLine j) 0 (now (text .entry)) n (now (text .exit)) ⌝ }
+{
+    match j {
+        Judged::Good => {
+            put(text, 0, 0x4F);
+            put(text, 1, 0x4B);
+            put(text, 2, 0x0A);
+            3
+        }
+        Judged::Refused(e) => {
+            let r = report(e);
+            put_no(text, r.number as u64, r.first)
+        }
     }
 }

@@ -1,13 +1,13 @@
 // Reads the stored texts: five lines of hexadecimal each, type table, names, text, and the room for rows and pool.
-use hexlines::Input;
-use hexlines::Line;
-use hexlines::numbers;
-use hexlines::octets;
-use hexlines::show;
-use hexlines::single;
 use jer::Reading;
+use libc::STDOUT_FILENO;
 use lines::shown::put_reading;
 use lines::taken::first_numbers;
+use stdin::Input;
+use stdin::Line;
+use stdin::numbers;
+use stdin::octets;
+use stdin::single;
 use tokens::slices::part;
 
 // Reads into the first n numbers and m bytes of what is lent, and prints the answer.
@@ -17,7 +17,7 @@ fn answer(types: &[u32], names: &[u8], text: &[u8], n: usize, m: usize) {
     let r = read_in(types, names, text, &mut rows, &mut pool, n, m);
     let mut out = [0u8; 168000];
     let k = put_reading(&mut out, r, &rows, &pool);
-    show(&out, k);
+    io::write_all(STDOUT_FILENO, part(&out, 0, k));
 }
 
 fn read_in(

@@ -4,8 +4,7 @@ use mathlib.Core.Path.{_≡_, refl, ap, _∙_}
 use mathlib.Core.List.{List, [], _∷_, _++_}
 use mathlib.Core.Bool.{Bool, true, false, _&&_}
 use lib.Dec.{leb}
-use lib.ListN.{length, take, drop}
-use lib.Seq.{take-at}
+use lib.ListN.{length, drop}
 use Rattle.jer.specs.Octets.{hex}
 use Rattle.jer.specs.Table.{Table}
 use Rattle.jer.specs.Value.{Val}
@@ -20,6 +19,7 @@ use Rattle.jer.specs.declared.Reading.{Reading}
 use Rattle.jer.specs.declared.Reading.the-variants as reading
 use Rattle.jer.specs.declared.Writing.{Writing}
 use Rattle.jer.specs.declared.Writing.the-variants as writing
+use Rattle.promises.proofs.Buffers.{over-taken}
 use Rattle.lines.specs.Shown.{fourLine, fourLines, readingLines, writingLines}
 
 -- the lines of rows, from the numbers that begin a buffer
@@ -31,10 +31,6 @@ row-lines (w ∷ ws) rest = rw (row-lines ws rest)
 rows-shown : (t : Table) (v : Val) (rows : List ℕ) → fourLines (length (rowsOf v t 0 0)) (over (rowNumbers t v) rows) ≡ rowLines (rowsOf v t 0 0)
 unfolding over rowNumbers
 rows-shown t v rows = row-lines (rowsOf v t 0 0) (drop (length (rowNumbers t v)) rows)
-
-over-taken : (xs buffer : List ℕ) → take (length xs) (over xs buffer) ≡ xs
-unfolding over
-over-taken xs buffer = take-at xs (drop (length xs) buffer) (length xs) refl
 
 module _ (t : Table) (rows pool : List ℕ) where
   read-printed : (x : Res Val)
@@ -50,7 +46,7 @@ module _ (t : Table) (rows pool : List ℕ) where
       answer b = elim b [ true ↦ reading.Read (length ws) (length (poolOf v)) | false ↦ reading.Refused (Amounts LentRoom (length ws) (length (poolOf v))) ]
 
       go : (b : Bool) → readingLines (answer b) (elim b [ true ↦ over (rowNumbers t v) rows | false ↦ rows ]) (elim b [ true ↦ over (poolOf v) pool | false ↦ pool ]) ≡ printRead t (ok v) (answer b)
-      go true = rw (over-taken (poolOf v) pool) (ap (λ (l : List ℕ). l ++ endLine (hex (poolOf v))) (rows-shown t v rows))
+      go true = rw (over-taken (poolOf v) pool (length (poolOf v)) refl) (ap (λ (l : List ℕ). l ++ endLine (hex (poolOf v))) (rows-shown t v rows))
       go false = refl
 
   pub reading-shown : length rows ≡ 16384 → length pool ≡ 16384 → (s : List ℕ) {r : Reading} {rows′ pool′ : List ℕ} → ReadCall t s rows pool r rows′ pool′ → readingLines r rows′ pool′ ≡ readPrinted t (readText t s)
@@ -74,7 +70,7 @@ module _ (text : List ℕ) where
           ]
 
       go : (a b : Bool) → writingLines (answer a b) (elim (a && b) [ true ↦ over s text | false ↦ text ]) ≡ printWrite (ok s) (answer a b)
-      go true true = ap (λ (l : List ℕ). endLine (hex l)) (over-taken s text)
+      go true true = ap (λ (l : List ℕ). endLine (hex l)) (over-taken s text (length s) refl)
       go true false = refl
       go false b = refl
 

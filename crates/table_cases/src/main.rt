@@ -1,10 +1,11 @@
 // Judges the stored type tables: a line of rows and a line of names each, answered by OK or by the refusal's number and row.
-use hexlines::Input;
-use hexlines::Line;
-use hexlines::numbers;
-use hexlines::octets;
-use hexlines::print_judged;
+use libc::STDOUT_FILENO;
+use lines::shown::put_judged;
 use lines::taken::first_numbers;
+use stdin::Input;
+use stdin::Line;
+use stdin::numbers;
+use stdin::octets;
 use tokens::slices::part;
 
 // Judges the table in the next two lines.
@@ -17,10 +18,13 @@ fn one(buf: &mut [u8], input: Input) -> Line {
     let mut names = [0u8; 65600];
     let rest = line.input;
     let next = octets(buf, rest, &mut names);
-    print_judged(types::check(
+    let judged = types::check(
         first_numbers(&rows, line.count),
         part(&names, 0, next.count),
-    ));
+    );
+    let mut out = [0u8; 21];
+    let k = put_judged(&mut out, judged);
+    io::write_all(STDOUT_FILENO, part(&out, 0, k));
     next
 }
 

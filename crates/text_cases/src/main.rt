@@ -1,8 +1,9 @@
 // Judges the stored texts: a line of hexadecimal each, answered by OK or by the refusal's number and place.
-use hexlines::Input;
-use hexlines::Line;
-use hexlines::octets;
-use hexlines::print_judged;
+use libc::STDOUT_FILENO;
+use lines::shown::put_judged;
+use stdin::Input;
+use stdin::Line;
+use stdin::octets;
 use tokens::slices::part;
 
 // Judges the text in the next line.
@@ -10,7 +11,9 @@ fn one(buf: &mut [u8], input: Input) -> Line {
     let mut text = [0u8; 65600];
     let line = octets(buf, input, &mut text);
     if !line.over {
-        print_judged(text::check(part(&text, 0, line.count)));
+        let mut out = [0u8; 21];
+        let k = put_judged(&mut out, text::check(part(&text, 0, line.count)));
+        io::write_all(STDOUT_FILENO, part(&out, 0, k));
     }
     line
 }

@@ -1,13 +1,13 @@
 // Writes the stored value tables: five lines of hexadecimal each, type table, names, value rows, pool, and the room for text.
-use hexlines::Input;
-use hexlines::Line;
-use hexlines::numbers;
-use hexlines::octets;
-use hexlines::show;
-use hexlines::single;
 use jer::Writing;
+use libc::STDOUT_FILENO;
 use lines::shown::put_writing;
 use lines::taken::first_numbers;
+use stdin::Input;
+use stdin::Line;
+use stdin::numbers;
+use stdin::octets;
+use stdin::single;
 use tokens::slices::part;
 
 // Writes into the first n bytes of what is lent, and prints the answer.
@@ -16,7 +16,7 @@ fn answer(types: &[u32], names: &[u8], values: &[u32], pool: &[u8], n: usize) {
     let w = write_in(types, names, values, pool, &mut text, n);
     let mut out = [0u8; 131200];
     let k = put_writing(&mut out, w, &text);
-    show(&out, k);
+    io::write_all(STDOUT_FILENO, part(&out, 0, k));
 }
 
 fn write_in(

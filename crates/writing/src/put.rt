@@ -129,7 +129,7 @@ fn store(text: &mut [u8], k: usize, form: Form, s: &[u8]) -> usize
     }
 }
 
-// Where there is no room, or the string ends past the house size, it is only measured.
+// Where there is no room, or the string is sure to end past the house size, it is only measured.
 fn put_spelled(text: &mut [u8], k: usize, form: Form, s: &[u8]) -> usize
     ensures { λ e. ⌜ Puts (spelled form (now (s .entry))) k (now (text .entry)) (now (text .exit)) e ⌝ }
 {

@@ -2,8 +2,8 @@ use Prim.Native.Nat.{_≤_, _-_}
 use mathlib.Core.Path.{_≡_}
 use lib.ListN.{length}
 use borrow.Author.Needs.{needs}
-use Rattle.hexlines.proofs.number.Statement.{statement}
-use Rattle.hexlines.proofs.number.Tie as tie
+use Rattle.stdin.proofs.number.Statement.{statement}
+use Rattle.stdin.proofs.number.Tie as tie
 
 abbrev Inv-loop : tie.InvT-loop
 Inv-loop buf₀ high i₀ x₀ k₀ buf i x k = (k ≤ 8) × (length buf ≡ length buf₀)

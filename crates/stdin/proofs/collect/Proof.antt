@@ -2,8 +2,8 @@ use Prim.Native.Nat.{_≤_, _-_}
 use mathlib.Core.Path.{_≡_}
 use lib.ListN.{length}
 use borrow.Author.Needs.{needs}
-use Rattle.hexlines.proofs.collect.Statement.{statement}
-use Rattle.hexlines.proofs.collect.Tie as tie
+use Rattle.stdin.proofs.collect.Statement.{statement}
+use Rattle.stdin.proofs.collect.Tie as tie
 
 abbrev Inv-loop : tie.InvT-loop
 Inv-loop lines out₀ buf₀ input₀ left₀ digits₀ k₀ out buf input left digits k = (4096 ≡ length buf) × (length out ≡ length out₀) × (digits ≤ 16384) × (k ≤ length out₀)

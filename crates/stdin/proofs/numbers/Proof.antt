@@ -2,8 +2,8 @@ use Prim.Native.Nat.{_≤_, _-_}
 use mathlib.Core.Path.{_≡_}
 use lib.ListN.{length}
 use borrow.Author.Needs.{needs}
-use Rattle.hexlines.proofs.octets.Statement.{statement}
-use Rattle.hexlines.proofs.octets.Tie as tie
+use Rattle.stdin.proofs.numbers.Statement.{statement}
+use Rattle.stdin.proofs.numbers.Tie as tie
 
 abbrev Inv-loop : tie.InvT-loop
 Inv-loop buf₀ out₀ i₀ k₀ buf out i k = (length buf ≡ length buf₀) × (length out ≡ length out₀) × (k ≤ length out₀)
@@ -38,23 +38,11 @@ same-length-4 c = search needs
 returns-2 : tie.Need-returns-2 Inv-loop μ-loop
 returns-2 c = search needs
 
-next-byte-requires-2 : tie.Need-next-byte-requires-2 Inv-loop μ-loop
-next-byte-requires-2 c κs = search needs
-
-digit-requires : tie.Need-digit-requires Inv-loop μ-loop
-digit-requires c κs = search needs
+number-requires : tie.Need-number-requires Inv-loop μ-loop
+number-requires c κs = search needs
 
 mul-out : tie.Need-mul-out Inv-loop μ-loop
 mul-out c = search needs
-
-digit-requires-2 : tie.Need-digit-requires-2 Inv-loop μ-loop
-digit-requires-2 c κs = search needs
-
-add-out : tie.Need-add-out Inv-loop μ-loop
-add-out c = search needs
-
-cast-out : tie.Need-cast-out Inv-loop μ-loop
-cast-out c = search needs
 
 slice-write-out : tie.Need-slice-write-out Inv-loop μ-loop
 slice-write-out c = search needs
@@ -77,8 +65,8 @@ same-length-6 c = search needs
 returns-3 : tie.Need-returns-3 Inv-loop μ-loop
 returns-3 c = search needs
 
-pub octets-spec : {M : Type 1} → statement M
-octets-spec =
+pub numbers-spec : {M : Type 1} → statement M
+numbers-spec =
     tie.close
     (tie.spec
     Inv-loop
@@ -92,12 +80,8 @@ octets-spec =
     same-length-3
     same-length-4
     returns-2
-    next-byte-requires-2
-    digit-requires
+    number-requires
     mul-out
-    digit-requires-2
-    add-out
-    cast-out
     slice-write-out
     add-k
     loop-less

@@ -1,16 +1,11 @@
-// Standard input and output for the programs: lines of hexadecimal read as they come, and bytes shown.
-// What a program reads and prints through these functions is tested and not proved: they are proved safe, and that they end.
-// What stands between reading and printing, the crates `lines` and `shell`, is proved.
+// Standard input for the programs: what stands there collected, or its lines of hexadecimal read as they come.
+// Of what comes from the operating system a contract can give bounds alone: that it is what stands there is tested and not proved.
+// What is made of it and printed, the crates `lines` and `shell`, is proved.
 ghost use Prim.Native.Nat.{_≤_};
 ghost use mathlib.Core.Path.{_≡_};
 ghost use lib.ListN.{length};
-use jer::Judged;
-use jer::report;
 use libc::STDIN_FILENO;
-use libc::STDOUT_FILENO;
-use lines::shown::put_number;
 use lines::taken::DIGITS;
-use tokens::slices::part;
 
 // Where in its buffer the input stands.
 pub struct Input {
@@ -209,25 +204,4 @@ pub fn single(buf: &mut [u8], input: Input) -> Line
         over: line.over,
         input: rest,
     }
-}
-
-// Prints what judging answered: OK, or NO with the number and the place or row.
-pub fn print_judged(j: Judged) {
-    match j {
-        Judged::Good => {
-            io::write_all(STDOUT_FILENO, b"OK\n");
-        }
-        Judged::Refused(e) => {
-            let r = report(e);
-            let mut line = *b"NO 00000000 00000000\n";
-            put_number(&mut line, 3, r.number as u64);
-            put_number(&mut line, 12, r.first);
-            io::write_all(STDOUT_FILENO, &line);
-        }
-    }
-}
-
-// Prints the first n bytes of a text, or all.
-pub fn show(text: &[u8], n: usize) {
-    io::write_all(STDOUT_FILENO, part(text, 0, n));
 }
