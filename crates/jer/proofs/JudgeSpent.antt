@@ -28,10 +28,6 @@ after-if P false x q h = tt
 
 -- ---- rows of 32-bit numbers
 
-pub data Words : List ℕ → Type 0 where
-  noWord : Words []
-  word : {n : ℕ} {ns : List ℕ} → n < 2 ^ 32 → Words ns → Words (n ∷ ns)
-
 pub data WordRows : List ValueRow → Type 0 where
   noRow : WordRows []
   wordRow : {w : ValueRow} {ws : List ValueRow} → w .a < 2 ^ 32 → w .b < 2 ^ 32 → WordRows ws → WordRows (w ∷ ws)

@@ -15,11 +15,12 @@ use Rattle.jer.specs.Value.{Val}
 use Rattle.jer.specs.Answer.{Res, ok, no}
 use Rattle.jer.specs.Rows.{ValueRow, numbers, poolOf, rowsOf}
 use Rattle.jer.specs.Judge.{Took, took, wrong, takeValue, rowsIn, allTaken, judge}
-use Rattle.jer.specs.Fits.{Octets, Fits}
+use Rattle.jer.specs.Fits.{Octets, Words, word, Fits}
+use Rattle.jer.specs.Means.{TableOf}
 use Rattle.jer.proofs.Sane.{Sane}
 use Rattle.jer.proofs.ValidRows.{both}
 use Rattle.jer.proofs.JudgeRows.{takes-rows}
-use Rattle.jer.proofs.JudgeSpent.{After, Words, word, WordRows, noRow, wordRow}
+use Rattle.jer.proofs.JudgeSpent.{After, WordRows, noRow, wordRow}
 use Rattle.jer.proofs.JudgeFits.{Taken, value-sound}
 
 -- ---- the table of a value
@@ -66,12 +67,6 @@ rows-whole (k ∷ a ∷ b ∷ z ∷ ns) (suc n) e = let h = rows-whole ns n (ome
 none-left : {A : Type 0} (xs ys zs : List A) → xs ≡ ys ++ zs → length xs ≡ length ys → xs ≡ ys
 none-left xs ys [] e n = e ∙ append-nil ys
 none-left xs ys (z ∷ zs) e n = absurd (omega (arith, ap length e, length-append ys (z ∷ zs)))
-
--- ns and the pool are the value table of v
-pub record TableOf (t : Table) (v : Val) (ns pool : List ℕ) : Type 0 where
-  pub fits : Fits t 32 0 v
-  pub rows : ns ≡ numbers (rowsOf v t 0 0)
-  pub bytes : pool ≡ poolOf v
 
 -- what is judged good is the table of a well-formed value, and nothing else
 pub judge-fits : (t : Table) (ns pool : List ℕ) (v : Val) → Words ns → Octets pool → judge t ns pool ≡ ok v → TableOf t v ns pool

@@ -1,5 +1,5 @@
 -- The strings of a JSON text denote UTF-8.
-use Prim.Native.Nat.{ℕ, suc, _+_, _*_, _/_, _%_, _≤_, _<_}
+use Prim.Native.Nat.{ℕ, _+_, _*_, _/_, _%_, _≤_, _<_}
 use mathlib.Core.Path.{_≡_, refl, _∙_}
 use mathlib.Core.List.{List, [], _∷_, _++_}
 use mathlib.Core.Bool.{Bool, true, false}
@@ -8,41 +8,9 @@ use native.Mathlib.Nat.{div-add-mod', mod-lt, div-div-eq-div-mul}
 use lib.Dec.{ltb, lit<}
 use borrow.Author.Tests.{ltb-true, ltb-false}
 use Rattle.json.specs.Bytes.{In, pick}
-use Rattle.json.specs.Utf8.{Wide, two, threeE0, threeE1, threeED, threeEE, fourF0, fourF1, fourF4, encode, wideRows, Due, start, due, never, dueNext, dueStep, dueEnd, utf8From, utf8}
+use Rattle.json.specs.Utf8.{Wide, two, threeE0, threeE1, threeED, threeEE, fourF0, fourF1, fourF4, encode, dueStep, dueEnd, utf8From, utf8}
 use Rattle.json.specs.Grammar.{Hex, digit, upper, lower, Four, four, quote, backslash, slash, backspace, formFeed, lineFeed, carriageReturn, tabulation, paired, Char, plain, wide, escape, unit, pair, Chars, noChar, char, Quoted, quoted}
-use Rattle.json.proofs.Feed.{pick-row}
-
--- the bytes c are whole characters
-abbrev Whole : List ℕ → Type 0
-Whole c = (s : List ℕ) → utf8From start (c ++ s) ≡ utf8From start s
-
-after-byte : (d e : Due) (b : ℕ) → dueStep d b ≡ e → (s : List ℕ) → utf8From d (b ∷ s) ≡ utf8From e s
-unfolding utf8From
-after-byte d e b h s = rw h
-
-whole-plain : {b : ℕ} → b ≤ 0x7F → Whole (b ∷ [])
-unfolding dueStep
-whole-plain {b} l s = after-byte start start b (pick-row 0 b _ never (omega arith)) s
-
--- a first byte that leaves others due, and the next of them
-first-two : (n b lo hi x : ℕ) → dueStep start b ≡ due lo hi n → In lo hi x → (s : List ℕ) → utf8From start (b ∷ x ∷ s) ≡ utf8From (dueNext n) s
-unfolding dueStep
-first-two n b lo hi x e i s = after-byte start (due lo hi n) b e (x ∷ s) ∙ after-byte (due lo hi n) (dueNext n) x (pick-row 0 x _ never i) s
-
-later : (n : ℕ) {x : ℕ} → In 0x80 0xBF x → (s : List ℕ) → utf8From (dueNext (suc n)) (x ∷ s) ≡ utf8From (dueNext n) s
-unfolding dueStep dueNext
-later n {x} i s = after-byte (due 0x80 0xBF n) (dueNext n) x (pick-row 0 x _ never i) s
-
-pub whole-wide : {c : List ℕ} → Wide c → Whole c
-unfolding dueStep dueNext wideRows
-whole-wide (two {a} i j) s = first-two 0 a _ _ _ (pick-row 1 a _ never (omega arith)) j s
-whole-wide (threeE0 i j) s = first-two 1 0xE0 _ _ _ (pick-row 2 0xE0 _ never (omega arith)) i _ ∙ later 0 j s
-whole-wide (threeE1 {a} i j k) s = first-two 1 a _ _ _ (pick-row 3 a _ never (omega arith)) j _ ∙ later 0 k s
-whole-wide (threeED i j) s = first-two 1 0xED _ _ _ (pick-row 4 0xED _ never (omega arith)) i _ ∙ later 0 j s
-whole-wide (threeEE {a} i j k) s = first-two 1 a _ _ _ (pick-row 5 a _ never (omega arith)) j _ ∙ later 0 k s
-whole-wide (fourF0 i j k) s = first-two 2 0xF0 _ _ _ (pick-row 6 0xF0 _ never (omega arith)) i _ ∙ later 1 j _ ∙ later 0 k s
-whole-wide (fourF1 {a} i j k l) s = first-two 2 a _ _ _ (pick-row 7 a _ never (omega arith)) j _ ∙ later 1 k _ ∙ later 0 l s
-whole-wide (fourF4 i j k) s = first-two 2 0xF4 _ _ _ (pick-row 8 0xF4 _ never (omega arith)) i _ ∙ later 1 j _ ∙ later 0 k s
+use Rattle.json.proofs.Utf8Ranges.{Whole, whole-plain, whole-wide}
 
 -- ---- the bytes of a character by its number
 

@@ -61,3 +61,5 @@ pub mod AlikeOnlyArray
 pub mod AlikeOnlyObject
 pub mod AlikeExactly
 pub mod MeansCalls
+pub mod ReadPlaces
+pub mod MeansReads

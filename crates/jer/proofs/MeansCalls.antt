@@ -1,6 +1,6 @@
 -- What a successful reading or writing rests on: a good table, a JSON text, a well-formed value.
 use Prim.Native.Nat.{ℕ, _≤_}
-use mathlib.Core.Path.{_≡_, refl}
+use mathlib.Core.Path.{_≡_, refl, _∙_}
 use mathlib.Core.List.{List}
 use mathlib.Core.Bool.{Bool, true, false}
 use mathlib.Core.Option.{Option, none, some}
@@ -16,14 +16,15 @@ use Rattle.jer.specs.Table.{Table}
 use Rattle.jer.specs.Valid.{firstBad}
 use Rattle.jer.specs.Value.{Val}
 use Rattle.jer.specs.Answer.{ok, bind}
-use Rattle.jer.specs.Read.{read}
 use Rattle.jer.specs.Judge.{judge}
 use Rattle.jer.specs.Write.{write}
 use Rattle.jer.specs.Fits.{Fits}
+use Rattle.jer.specs.Means.{Means}
 use Rattle.jer.specs.Calls.{tableOf, goodTable, treeOf, goodText, readText, writeText}
 use Rattle.jer.proofs.ValidSane.{valid-sane}
 use Rattle.jer.proofs.WeightGot.{steps}
 use Rattle.jer.proofs.JudgeRead.{text-fits}
+use Rattle.jer.proofs.SpellCalls.{read-text}
 
 pub never : {A : Type 0} → _≡_ {A = ℕ} 0 1 → A
 never z = absurd (omega arith)
@@ -37,11 +38,11 @@ good-table t u h = go (firstBad t) refl h
     go (some r) e w = never (cc)
 
 -- a text that is judged good is a JSON text of the house size
-pub record GoodText (s : List ℕ) (j : Json) : Type 0 where
-  pub text : Text 32 j s
-  pub size : length s ≤ 65536
+record GoodText (s : List ℕ) (j : Json) : Type 0 where
+  text : Text 32 j s
+  size : length s ≤ 65536
 
-pub good-text : (s : List ℕ) (j : Json) → goodText s ≡ ok j → GoodText s j
+good-text : (s : List ℕ) (j : Json) → goodText s ≡ ok j → GoodText s j
 unfolding goodText treeOf parse
 good-text s j h = size (leb (length s) 65536) refl
   where
@@ -54,23 +55,22 @@ good-text s j h = size (leb (length s) 65536) refl
     size false e = let w = rw (e, goodText) at h in never (cc)
     size true e = let w = rw (e, goodText) at h in record { text = text-taken 32 j s (is-tree (parseWithin 32 s) w); size = leb-true _ _ e }
 
--- what a text that is read has: a good table, a tree, and its meaning
-pub record Means (t : Table) (s : List ℕ) (v : Val) : Type 0 where
-  pub good : firstBad t ≡ none
-  pub json : Json
-  pub is : GoodText s json
-  pub value : read json t 0 ≡ ok v
-
+-- what is read is what the text means
 pub means : (t : Table) (s : List ℕ) (v : Val) → readText t s ≡ ok v → Means t s v
 unfolding readText bind
 means t s v e =
     let a = steps (goodTable t) _ v e in
     let b = steps (goodText s) _ v (a .then) in
-    record { good = good-table t (a .val) (a .first); json = b .val; is = good-text s (b .val) (b .first); value = b .then }
+    let g = good-text s (b .val) (b .first) in
+    record { good = good-table t (a .val) (a .first); json = b .val; text = g .text; size = g .size; value = b .then }
+
+-- what a text means is read
+pub means-read : (t : Table) (s : List ℕ) (v : Val) → Means t s v → readText t s ≡ ok v
+means-read t s v m = read-text t s (m .good) (m .text) (m .size) ∙ m .value
 
 -- a value that was read is well formed
 pub means-fits : (t : Table) (s : List ℕ) (v : Val) → Means t s v → Fits t 32 0 v
-means-fits t s v m = text-fits t (valid-sane t (m .good)) (m .is .text) 0 v (m .value)
+means-fits t s v m = text-fits t (valid-sane t (m .good)) (m .text) 0 v (m .value)
 
 -- what a table that is written has: a good type table, a value, and its text
 pub record Says (t : Table) (ns pool bs : List ℕ) : Type 0 where

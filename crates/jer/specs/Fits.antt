@@ -12,6 +12,11 @@ pub data Octets : List ℕ → Type 0 where
   noOctets : Octets []
   octet : {b : ℕ} {s : List ℕ} → b < 256 → Octets s → Octets (b ∷ s)
 
+-- and rows are numbers below 2^32
+pub data Words : List ℕ → Type 0 where
+  noWord : Words []
+  word : {n : ℕ} {ns : List ℕ} → n < 2 ^ 32 → Words ns → Words (n ∷ ns)
+
 mutual
   pub data Fits (t : Table) : ℕ → ℕ → Val → Type 0 where
     fBool : {d r : ℕ} {b : Bool} → kindOf t r ≡ BOOLEAN → Fits t d r (vBool b)

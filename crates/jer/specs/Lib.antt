@@ -9,6 +9,7 @@ pub mod Rows
 pub mod Judge
 pub mod Fits
 pub mod Write
+pub mod Means
 pub mod Cut
 pub mod Calls
 pub mod Contracts

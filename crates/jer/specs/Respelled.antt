@@ -1,7 +1,7 @@
 -- The options of a sender: trees that say the same at a type.
 -- Demand 2: "A text is read as the value that X.697 gives it, whatever options its sender chose"
 -- Where one of two respelled texts is read, the other is read as the same value (`respelled-texts`), and no other text is (`only-respelled-texts`).
--- Where both are refused the numbers may differ, since 8 and 9 go by the order of the names in the text.
+-- Where both are refused the numbers may differ: at an ARRAY of two INTEGERs, [1] is 10 for the missing element and [1,null] is 5 at the null.
 use Prim.Native.Nat.{ℕ, suc, _≤_, _<_}
 use mathlib.Core.Path.{_≡_}
 use mathlib.Core.List.{List}

@@ -15,3 +15,4 @@ pub mod SoundNumber
 pub mod SoundRest
 pub mod SoundSpace
 pub mod Sound
+pub mod Utf8Ranges

@@ -1,6 +1,7 @@
 -- UTF-8, RFC 3629.
 use Prim.Native.Nat.{ℕ, zero, suc, _+_, _/_, _%_}
-use mathlib.Core.List.{List, [], _∷_}
+use mathlib.Core.Path.{_≡_}
+use mathlib.Core.List.{List, [], _∷_, _++_}
 use mathlib.Core.Bool.{Bool, true, false}
 use lib.Dec.{ltb}
 use Rattle.json.specs.Bytes.{In, Row, on, pick}
@@ -19,6 +20,12 @@ pub data Wide : List ℕ → Type 0 where
   fourF0 : {b c d : ℕ} → In 0x90 0xBF b → In 0x80 0xBF c → In 0x80 0xBF d → Wide (0xF0 ∷ b ∷ c ∷ d ∷ [])
   fourF1 : {a b c d : ℕ} → In 0xF1 0xF3 a → In 0x80 0xBF b → In 0x80 0xBF c → In 0x80 0xBF d → Wide (a ∷ b ∷ c ∷ d ∷ [])
   fourF4 : {b c d : ℕ} → In 0x80 0x8F b → In 0x80 0xBF c → In 0x80 0xBF d → Wide (0xF4 ∷ b ∷ c ∷ d ∷ [])
+
+-- RFC 3629 section 4: UTF8-octets = *( UTF8-char ), UTF8-char = UTF8-1 / UTF8-2 / UTF8-3 / UTF8-4, UTF8-1 = %x00-7F
+pub data Utf8 : List ℕ → Type 0 where
+  noChar : Utf8 []
+  one : {b : ℕ} {bs : List ℕ} → In 0x00 0x7F b → Utf8 bs → Utf8 (b ∷ bs)
+  more : {c bs ds : List ℕ} → Wide c → Utf8 bs → ds ≡ c ++ bs → Utf8 ds
 
 -- RFC 3629 section 3: the bytes of a character, by its number
 unfoldable pub encode : ℕ → List ℕ
@@ -71,6 +78,6 @@ unfoldable pub utf8From : Due → List ℕ → Bool
 utf8From d [] = dueEnd d
 utf8From d (b ∷ bs) = utf8From (dueStep d b) bs
 
--- are these bytes UTF-8?
+-- are these bytes UTF-8? Exactly those of `Utf8` are (`utf8-exactly`).
 unfoldable pub utf8 : List ℕ → Bool
 utf8 bs = utf8From start bs
