@@ -63,3 +63,4 @@ pub mod AlikeExactly
 pub mod MeansCalls
 pub mod ReadPlaces
 pub mod MeansReads
+pub mod CutTested

@@ -65,14 +65,15 @@ module _ {s : List ℕ} {r : Judged} (size : length s ≤ 65536) (c : TextCall s
 
 -- the answer and both buffers are those that the grammar and `read` give
 pub read-exactly : {t : Table} {s rows pool : List ℕ} {r : Reading} {rows′ pool′ : List ℕ} → Exactly (ReadCall t s rows pool r rows′ pool′) (ReadsBy t s rows pool r rows′ pool′)
-read-exactly {t} {s} {rows} {pool} =
-    (λ c. record { says = readText t s; reads = text-reads t s; answer = c .answer; rowsLeft = c .rowsLeft; poolLeft = c .poolLeft },
-    λ b. let e = reads-text (b .reads) in
-    record {
-      answer = b .answer ∙ ap (readAnswer t (length rows) (length pool)) e;
-      rowsLeft = b .rowsLeft ∙ ap (rowsAfter t rows (length pool)) e;
-      poolLeft = b .poolLeft ∙ ap (poolAfter t (length rows) pool) e;
-    })
+read-exactly {t} {s} {rows} {pool} = (
+  λ c. record { says = readText t s; reads = text-reads t s; answer = c .answer; rowsLeft = c .rowsLeft; poolLeft = c .poolLeft },
+  λ b. let e = reads-text (b .reads) in
+      record {
+        answer = b .answer ∙ ap (readAnswer t (length rows) (length pool)) e;
+        rowsLeft = b .rowsLeft ∙ ap (rowsAfter t rows (length pool)) e;
+        poolLeft = b .poolLeft ∙ ap (poolAfter t (length rows) pool) e;
+      },
+)
 
 -- given a tree of the grammar for the text, they are those of `read` of that tree
 pub read-by-tree : {t : Table} {j : Json} {s rows pool : List ℕ} {r : Reading} {rows′ pool′ : List ℕ} → firstBad t ≡ none → Text 32 j s → length s ≤ 65536 → ReadCall t s rows pool r rows′ pool′

@@ -4,4 +4,6 @@ pub mod Judging
 pub mod Demand1
 pub mod Demand2
 pub mod Demand3
+pub mod BookingTables
+pub mod Booking
 pub mod Options

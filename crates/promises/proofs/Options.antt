@@ -75,9 +75,10 @@ module _ {t : Table} {j k : Json} (s u : List ℕ) (js : Text 32 j s) (ku : Text
       let w = stored t s rows pool n m a b x in
       let z = stored t u rows₂ pool₂ n₂ m₂ c d y in
       let e = means t s (w .value) (w .means) in
-      let f = means t u (z .value) (z .means) in
-      (λ h. only-respelled-texts s u (e .good) js ku (e .size) (f .size) (w .means) (z .means ∙ ap ok (sym (one-value w z h))),
-      λ h. same-stored w z (got (sym (respelled-texts s u (e .good) js ku (e .size) (f .size) h (w .means)) ∙ z .means)))
+      let f = means t u (z .value) (z .means) in (
+        λ h. only-respelled-texts s u (e .good) js ku (e .size) (f .size) (w .means) (z .means ∙ ap ok (sym (one-value w z h))),
+        λ h. same-stored w z (got (sym (respelled-texts s u (e .good) js ku (e .size) (f .size) h (w .means)) ∙ z .means)),
+      )
 
   -- "Two texts that differ only inside the values of skipped members, both JSON within the sizes, get the same rows and pool, or the same
   -- refusal number."
