@@ -1,12 +1,13 @@
 -- Demand 2, the sender's options; the mapper's question; and skipped values: of two calls, whatever their buffers hold.
 use Prim.Native.Nat.{ℕ, _*_, _≤_}
 use mathlib.Core.Path.{_≡_, refl, sym, ap, _∙_}
-use mathlib.Core.List.{List}
-use mathlib.Core.Bool.{true}
+use mathlib.Core.List.{List, [], _∷_}
+use mathlib.Core.Bool.{true, false}
 use mathlib.Core.Option.{none}
 use native.Mathlib.Omega.{arith}
+use lib.Dec.{lit<}
 use lib.ListN.{length, take}
-use Rattle.json.specs.Tree.{Json}
+use Rattle.json.specs.Tree.{Json, jnull, jint, jarr, inil, icons}
 use Rattle.json.specs.Grammar.{Text}
 use Rattle.jer.specs.declared.Reading.{Reading}
 use Rattle.jer.specs.declared.Reading.the-variants as reading
@@ -17,7 +18,9 @@ use Rattle.jer.specs.Answer.{Res, ok, no}
 use Rattle.jer.specs.Rows.{rowsOf, poolOf}
 use Rattle.jer.specs.Judge.{judge}
 use Rattle.jer.specs.Calls.{rowNumbers, roomy, readText, readAnswer}
-use Rattle.jer.specs.Respelled.{Respelled}
+use Rattle.jer.specs.Moved.{number}
+use Rattle.jer.specs.Respelled.{Respelled, moved, elements, noElement, element, nullAdded}
+use Rattle.jer.specs.Samples.{ascii, refusal, outcome}
 use Rattle.jer.specs.Skipped.{SameAnswer, sameValue, sameNumber, SkipAlike, SameReading, sameReading, sameRefusal}
 use Rattle.jer.specs.Contracts.{ReadCall}
 use Rattle.jer.proofs.ValidSane.{valid-sane}
@@ -102,3 +105,20 @@ module _ {t : Table} {j k : Json} (s u : List ℕ) (js : Text 32 j s) (ku : Text
       table n m e =
           let v = stored t s rows pool n m a b (rw e at x) in
           same-room-stores same v (value (readText t s) (readText t u) alike (v .means)) y .1
+
+-- ---- refused texts
+
+-- an ARRAY of two INTEGERs
+unfoldable pub two : Table
+two =
+    record {
+      rows = 6 ∷ 1 ∷ 1 ∷ 2 ∷ 2 ∷ 0 ∷ 0 ∷ 0 ∷ 9 ∷ 0 ∷ 3 ∷ 0 ∷ 1 ∷ 0 ∷ 0 ∷ 0 ∷ 9 ∷ 0 ∷ 3 ∷ 1 ∷ 1 ∷ 0 ∷ 0 ∷ 0 ∷ 1 ∷ 0 ∷ 0 ∷ 0 ∷ 0 ∷ 0 ∷ 0 ∷ 0 ∷ [];
+      names = 0x61 ∷ 0x62 ∷ [];
+    }
+
+-- Where one of two respelled texts is refused the other is, and their numbers may differ: [1] is 10 for the missing element, and [1,null],
+-- which says the same, is 5 at the null.
+pub numbers-may-differ : (outcome two (ascii "[1]") ≡ refusal 10 0 0) × (outcome two (ascii "[1,null]") ≡ refusal 5 3 0)
+    × Respelled two 0 (jarr 0 (icons (jint 1 false 1) inil)) (jarr 0 (icons (jint 1 false 1) (icons (jnull 3) inil)))
+unfolding outcome two ascii
+numbers-may-differ = (refl, refl, elements refl (element (moved number) (nullAdded {r = 0} {i = 1} (lit< tt) noElement)))

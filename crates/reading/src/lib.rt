@@ -3,9 +3,8 @@ use jer::Judged;
 use jer::Limit;
 use jer::Reading;
 use jer::Refusal;
+use held::outermost;
 use leaf::Step;
-use tokens::cursor::Class;
-use tokens::cursor::run;
 use typed::cycle::value;
 ghost use mathlib.Core.Path.{_≡_};
 ghost use Rattle.jer.specs.declared.Judged.the-variants as judged;
@@ -33,7 +32,7 @@ fn measured(types: &[u32], names: &[u8], s: &[u8], rows: &mut [u32], pool: &mut 
     requires { ⌜ TableCall (table (now types) (now names)) judged.Good × TextCall (now s) judged.Good ⌝ }
     ensures { λ r. ⌜ ReadCall (table (now (types .entry)) (now (names .entry))) (now (s .entry)) (now (rows .entry)) (now (pool .entry)) r (now (rows .exit)) (now (pool .exit)) ⌝ }
 {
-    let p = run(s, 0, Class::Space);
+    let p = outermost(s);
     let mut no_rows = [0u32; 1];
     let mut no_pool = [0u8; 1];
     match value(

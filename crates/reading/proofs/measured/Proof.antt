@@ -3,14 +3,14 @@ use native.Mathlib.Omega.{arith}
 use Rattle.types.specs.Rows.{table}
 use Rattle.places.specs.ByPlaces.{readAt}
 use Rattle.typed.proofs.CycleLaws.{passed, failed, at-place}
-use Rattle.reading.proofs.ReadLaws.{given, means-no, means-ok, refuses, few-rows, few-bytes, stored, whole-rows, whole-pool, space-is, tell}
+use Rattle.reading.proofs.ReadLaws.{given, means-no, means-ok, refuses, few-rows, few-bytes, stored, whole-rows, whole-pool, tell}
 use borrow.Author.Needs.{needs}
 use Rattle.reading.proofs.measured.Statement.{statement}
 use Rattle.reading.proofs.measured.Tie as tie
 
 -- src/lib.rt:48:9
-run-requires : tie.Need-run-requires
-run-requires c κs = search needs
+outermost-requires : tie.Need-outermost-requires
+outermost-requires c κs = search needs
 
 -- src/lib.rt:51:34
 slice-aggregate-value : tie.Need-slice-aggregate-value
@@ -26,7 +26,7 @@ value-requires c κs =
     let c₅ = c .before .before .before .before .before in
     let entry = c₅ .before .before .before in
     let s = entry .args .s .now in
-    given (table (entry .args .types .now) (entry .args .names .now)) s (entry .pre .0) (entry .pre .1) (c .before .before .run .ensures ∙ space-is s 0)
+    given (table (entry .args .types .now) (entry .args .names .now)) s (entry .pre .0) (entry .pre .1) (c .before .before .outermost .ensures)
 
 -- src/lib.rt:52:23
 enum-known-e : tie.Need-enum-known-e
@@ -43,7 +43,7 @@ mul-if1 c =
     let c₁₀ = c₅ .before .before .before .before .before in
     let entry = c₁₀ .before .before .before .before in
     let s = entry .args .s .now in
-    omega (arith, (passed (at-place (λ q u. readAt 32 (table (entry .args .types .now) (entry .args .names .now)) s q u) refl (c₅ .before .before .before .run .ensures ∙ space-is s 0) (c₅ .value .ensures)) (c .before .n .given .1)) .fewRows)
+    omega (arith, (passed (at-place (λ q u. readAt 32 (table (entry .args .types .now) (entry .args .names .now)) s q u) refl (c₅ .before .before .before .outermost .ensures) (c₅ .value .ensures)) (c .before .n .given .1)) .fewRows)
 
 -- src/lib.rt:59:17
 needed-requires : tie.Need-needed-requires
@@ -58,7 +58,7 @@ returns c =
     let entry = c₁₅ .before in
     let tab = table (entry .args .types .now) (entry .args .names .now) in
     let s = entry .args .s .now in
-    let went = passed (at-place (λ q u. readAt 32 tab s q u) refl (c₁₀ .run .ensures ∙ space-is s 0) (c₅ .before .before .value .ensures)) (c .before .before .before .n .given .1) in
+    let went = passed (at-place (λ q u. readAt 32 tab s q u) refl (c₁₀ .outermost .ensures) (c₅ .before .before .value .ensures)) (c .before .before .before .n .given .1) in
     tell (few-rows tab (means-ok tab s (entry .pre .0) (entry .pre .1) (went .took .is)) (went .took .many) (went .took .long) (entry .args .rows .now) (entry .args .pool .now) (c .needed .ensures) (c .before .if1 .taken))
 
 -- src/lib.rt:62:17
@@ -74,7 +74,7 @@ returns-2 c =
     let entry = c₁₅ .before .before in
     let tab = table (entry .args .types .now) (entry .args .names .now) in
     let s = entry .args .s .now in
-    let went = passed (at-place (λ q u. readAt 32 tab s q u) refl (c₁₀ .before .run .ensures ∙ space-is s 0) (c₅ .before .before .before .value .ensures)) (c .before .before .before .before .n .given .1) in
+    let went = passed (at-place (λ q u. readAt 32 tab s q u) refl (c₁₀ .before .outermost .ensures) (c₅ .before .before .before .value .ensures)) (c .before .before .before .before .n .given .1) in
     tell (few-bytes tab (means-ok tab s (entry .pre .0) (entry .pre .1) (went .took .is)) (went .took .many) (went .took .long) (entry .args .rows .now) (entry .args .pool .now) (c .needed2 .ensures) (c .before .before .if1 .left) (c .before .if2 .taken))
 
 -- src/lib.rt:64:13
@@ -85,7 +85,7 @@ value-requires-2 c κs =
     let c₁₅ = c₁₀ .before .before .before .before .before in
     let entry = c₁₅ .before .before .before in
     let s = entry .args .s .now in
-    given (table (entry .args .types .now) (entry .args .names .now)) s (entry .pre .0) (entry .pre .1) (c₁₀ .before .before .run .ensures ∙ space-is s 0)
+    given (table (entry .args .types .now) (entry .args .names .now)) s (entry .pre .0) (entry .pre .1) (c₁₀ .before .before .outermost .ensures)
 
 -- src/lib.rt:42:1
 returns-3 : tie.Need-returns-3
@@ -95,7 +95,7 @@ returns-3 c =
     let entry = c₁₀ .before .before .before .before in
     let tab = table (entry .args .types .now) (entry .args .names .now) in
     let s = entry .args .s .now in
-    tell (refuses tab (entry .args .rows .now) (entry .args .pool .now) (means-no tab s (entry .pre .0) (entry .pre .1) (failed (at-place (λ q u. readAt 32 tab s q u) refl (c₅ .before .before .before .run .ensures ∙ space-is s 0) (c₅ .value .ensures)) (c .before .e .given .1))))
+    tell (refuses tab (entry .args .rows .now) (entry .args .pool .now) (means-no tab s (entry .pre .0) (entry .pre .1) (failed (at-place (λ q u. readAt 32 tab s q u) refl (c₅ .before .before .before .outermost .ensures) (c₅ .value .ensures)) (c .before .e .given .1))))
 
 -- src/lib.rt:42:1
 same-length : tie.Need-same-length
@@ -115,17 +115,17 @@ returns-4 c =
     let entry = c₂₀ .before .before .before in
     let tab = table (entry .args .types .now) (entry .args .names .now) in
     let s = entry .args .s .now in
-    let went = passed (at-place (λ q u. readAt 32 tab s q u) refl (c₁₅ .before .before .run .ensures ∙ space-is s 0) (c₁₀ .before .before .before .before .value .ensures)) (c₁₀ .n .given .1) in
+    let went = passed (at-place (λ q u. readAt 32 tab s q u) refl (c₁₅ .before .before .outermost .ensures) (c₁₀ .before .before .before .before .value .ensures)) (c₁₀ .n .given .1) in
     let it = went .took in
     let it′ = went .fewBytes in
-    let it′₂ = (at-place (λ q u. readAt 32 tab s q u) refl (c₁₅ .before .before .run .ensures ∙ space-is s 0) (c .before .before .before .before .value2 .ensures)) .stepped in
+    let it′₂ = (at-place (λ q u. readAt 32 tab s q u) refl (c₁₅ .before .before .outermost .ensures) (c .before .before .before .before .value2 .ensures)) .stepped in
     tell (stored tab (means-ok tab s (entry .pre .0) (entry .pre .1) (went .took .is)) (went .took .many) (went .took .long) (entry .args .rows .now) (entry .args .pool .now) (c₅ .before .before .before .if1 .left) (c₅ .before .before .if2 .left) (whole-rows it it′ it′₂) (whole-pool it it′ it′₂))
 
 pub measured-spec : {M : Type 1} → statement M
 measured-spec =
     tie.close
     (tie.spec
-    run-requires
+    outermost-requires
     slice-aggregate-value
     slice-aggregate-value-2
     value-requires
