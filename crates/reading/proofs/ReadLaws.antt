@@ -28,7 +28,7 @@ use Rattle.jer.specs.Calls.{tableOf, goodTable, treeOf, goodText, judgedBy, tab
 use Rattle.jer.specs.Contracts.{ReadCall}
 use Rattle.jer.proofs.Sane.{Sane}
 use Rattle.jer.proofs.ValidSane.{valid-sane}
-use Rattle.tokens.specs.Places.{isSpace, runFrom, pastSpace}
+use Rattle.tokens.specs.Places.{pastSpace}
 use Rattle.places.specs.ByPlaces.{Got, readAt}
 use Rattle.places.proofs.MeaningAt.{reads-text}
 use Rattle.scan.proofs.WithinLaws.{space-within}
@@ -153,10 +153,6 @@ module _ (t : Table) {v : Val} {n m : ℕ} {x : Res Val} (e : ok v ≡ x) (f : l
         rows = rw (← e, h, rowsAfter) (c ∙ over-sets (numbers (rowsOf v t 0 0)) rows₀ (omega (arith, numbers-are)));
         pool = rw (← e, h, poolAfter) (d ∙ over-sets (poolOf v) pool₀ (omega arith));
       }
-
-pub space-is : (s : List ℕ) (p : ℕ) → runFrom isSpace s p ≡ pastSpace s p
-unfolding pastSpace
-space-is s p = refl
 
 pub tell : {t : Table} {s : List ℕ} {r : Reading} {rows₁ rows₀ pool₁ pool₀ : List ℕ} → Outcome t (readText t s) r rows₁ rows₀ pool₁ pool₀
     → ReadCall t s rows₀ pool₀ r rows₁ pool₁
