@@ -16,7 +16,7 @@ double quotes is document 01's, verbatim but for white space; `(..)` stands for 
     01, Refusal numbers, 7: "..."     the row of the table that has it; first in a comment or after a semicolon, `7: "..."`
     X.697 27.3.4: "..."               another source (also ECMA-404, RFC, Demand): then it is not document 01's and is not looked at
 
-A quotation's first words must stand once only in the part named, or in all sections together if none is. Between backticks, and after a
+The words up to `(..)` must stand once only in the part named, or in all sections together if none is. Between backticks, and after a
 backslash, a quotation mark does not end the quotation. Each quotation must have a word that no other one has, so none can go unnoticed.
 In the other comments of crates/ a quotation that names document 01 must be in it, and counts for nothing.
 """
@@ -44,15 +44,15 @@ OTHER_SOURCE = re.compile(r'(?:X\.697|ECMA-404|RFC|Demand)\b[^":]*: $')
 class Document:
     """A document as one line of text, with the places of its sections, table rows, paragraphs and sentences in it."""
 
-    def __init__(self, name, path, sections, left_out):
-        self.name = name
+    def __init__(self, name, path, sections, forms):
+        self.name, self.forms = name, forms
         self.text = ""
         self.parts = {}  # a section's name, or a row's ("Refusal numbers, 7"): from where to where
         self.paragraphs = []
         self.whole = re.sub(r"^```$", "", (ROOT / path).read_text(), flags=re.M)
-        for name in sections:
-            self.take_section(name)
-        self.sentences = [s for p in self.paragraphs for s in self.split(*p) if self.text[slice(*s)] not in left_out]
+        for section in sections:
+            self.take_section(section)
+        self.sentences = [s for p in self.paragraphs for s in self.split(*p) if self.text[slice(*s)] not in forms]
 
     def section(self, name):
         return self.whole.split("\n## " + name + "\n", 1)[1].split("\n## ", 1)[0]
@@ -199,7 +199,7 @@ def needless(document, good):
 def forms_unnamed(document):
     """The sentences left out of which "How each place should look" quotes nothing."""
     shapes = re.findall(r'^- "(.*?)":', document.section("How each place should look"), re.M)
-    return [f"left out, but no form is named: {f}" for f in FORMS if f not in document.text or not any(s in f for s in shapes)]
+    return [f"left out, but no form is named: {f}" for f in document.forms if f not in document.text or not any(s in f for s in shapes)]
 
 
 def faults(document, good, wrong):
@@ -220,18 +220,23 @@ def listed(document, good):
         yield f"{document.text[slice(*sentence)]}\n    {', '.join(sorted({f for f, _, w in good if w & words}))}"
 
 
-def main():
-    document = Document("01", "docs/document-01.md", SECTIONS, FORMS)
+def check(document):
+    """Prints what is wrong, or could go unnoticed; how many there are."""
     good, wrong = covers(document, counted())
     if "--all" in sys.argv:
         print("\n".join(listed(document, good)))
     bad = faults(document, good, wrong)
-    said = f"{len(document.sentences)} sentences of document 01 in {len(good)} quotations; faults: {len(bad)}"
+    said = f"{len(document.sentences)} sentences of document {document.name} in {len(good)} quotations; faults: {len(bad)}"
     if "--demonstrate" in sys.argv and not bad:
         bad = list(unnoticed(document, good))
         said = f"{len(good)} quotations; " + (f"{len(bad)} could go unnoticed" if bad else "taking out any one fails the check")
     print("\n".join(bad + [said]))
-    return 1 if bad else 0
+    return len(bad)
+
+
+def main():
+    documents = [Document("01", "docs/document-01.md", SECTIONS, FORMS)]
+    return 1 if sum([check(document) for document in documents]) else 0
 
 
 if __name__ == "__main__":
