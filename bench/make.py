@@ -78,18 +78,16 @@ def cases():
         yield 'list-%d' % size, LIST, joined(passengers(Draw(1, 'list')), size)
 
 
-def main():
-    folder = pathlib.Path(sys.argv[1])
+def make(folder, made):
     folder.mkdir(parents=True, exist_ok=True)
-    for name, description, text in cases():
+    for name, description, text in made:
         numbers, names = table(description)
         rows, pool = calls.read(numbers, names, text, ROOM_ROWS, ROOM_POOL)
         values = [number for row in rows for number in row]
         written = calls.write(numbers, names, values, pool, ROOM_TEXT)
         lines = [text.hex(), ''.join('%08x' % value for value in values), pool.hex(), written.hex()]
-        made = hexadecimal(numbers, names) + '\n'.join(lines).upper() + '\n'
-        (folder / (name + '.case')).write_text(made)
+        (folder / (name + '.case')).write_text(hexadecimal(numbers, names) + '\n'.join(lines).upper() + '\n')
 
 
 if __name__ == '__main__':
-    sys.exit(main())
+    make(pathlib.Path(sys.argv[1]), cases())

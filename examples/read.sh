@@ -4,12 +4,27 @@
 # makes the program. It is x86-64 code, which runs with the toolchain's C library and, on Arm, its emulator, as `rt` runs it.
 set -euo pipefail
 root=$(cd "$(dirname "$0")/.." && pwd)
-[ $# -ge 1 ] || { sed -n 's/^# //p' "$0" >&2; exit 2; }
+[ $# -ge 1 ] || { sed -n '2,4s/^# //p' "$0" >&2; exit 2; }
+text=$1
 table=${2:-$root/examples/booking/spring.hex}
-[ -f "$root/target/bin/jerread" ] || (cd "$root" && rt check jerread >&2)
 
+fail() { echo "examples/read.sh: $1" >&2; exit 1; }
+
+for file in "$text" "$table"; do
+    [ -e "$file" ] || fail "there is no file $file"
+    [ ! -d "$file" ] || fail "$file is a folder"
+    [ -r "$file" ] || fail "$file cannot be read"
+done
+
+mapfile -t -n 2 lines <"$table"
+[ ${#lines[@]} -eq 2 ] || fail "$table does not have the two lines of a type table and its names"
+# A line of jerread's has at most 16,384 digits, which is 8,192 bytes.
+digits=$(od -An -v -tx1 -N 8193 <"$text" | tr -d ' \n')
+[ ${#digits} -le 16384 ] || fail "$text has over 8,192 bytes, all that jerread takes; the library's calls take 65,536: see examples/c and examples/rust"
+
+[ -f "$root/target/bin/jerread" ] || (cd "$root" && rt check jerread >&2)
 tools=$(dirname "$(dirname "$(rt doc)")")/on/$(uname -m)/toolchain
 emulator=$tools/bin/qemu-x86_64
 [ -x "$emulator" ] || emulator=
-{ cat "$table"; od -An -v -tx1 "$1" | tr -d ' \n'; } |
+printf '%s\n' "${lines[@]}" "$digits" |
     $emulator "$tools/lib/ld-linux-x86-64.so.2" --library-path "$tools/lib" "$root/target/bin/jerread"

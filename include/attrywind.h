@@ -4,14 +4,16 @@
    Each returns 0, or the number of document 01's refusal.
 
    What is lent. Every pointer comes with its length and is lent for the call alone; nothing is kept or allocated.
-   Lengths of types, rows and values count 32-bit numbers, the others bytes. The caller owes what a slice in Rust owes:
+   A length counts elements of the pointer's type: for types, rows and values 32-bit numbers, for amounts 64-bit numbers,
+   for names, text and pool bytes. The caller owes what a slice in Rust owes:
    - no pointer is null, also where its length is 0, and each is aligned for its type;
    - the memory is readable, and writable where the pointer is not const;
    - a buffer that is not const overlaps no other.
    examples/c/safe.c tests these before it calls.
 
    What is written. Success changes only the rows, pool bytes or text bytes used. A refusal writes in no lent buffer but
-   `amounts`, which has room for two numbers; with less room nothing is stored there:
+   `amounts`, which has room for two numbers (`amounts_len` is 2); with less room nothing is stored there, and behind the
+   first two never:
 
      success of    first              second
      check_table   0                  0

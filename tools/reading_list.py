@@ -1,7 +1,8 @@
 #!/usr/bin/env python3
 """Checks the reading list of docs/PROMISES.md: the files that have to be believed.
 
-    python3 tools/reading_list.py
+    python3 tools/reading_list.py            checks
+    python3 tools/reading_list.py --count    puts the numbers of lines right, then checks
 
 The page names calls and theorems, each as `name` (`path`). What they cite has to be believed: the definitions in specs/ and the types
 declared in src/ that their contracts and statements name, and what those files import, and so on. The list of the page must have
@@ -85,7 +86,16 @@ def lines(path):
     return sum(bool(t) and not t.startswith(("--", "//", "use ")) for t in told)
 
 
+def counted(page):
+    """The page with the lines of each listed file, and their sum, as they are."""
+    page = re.sub(r"^(\| \d+ \| `(crates/[^`]+)` \|) \d+ \|", lambda m: f"{m.group(1)} {lines(m.group(2))} |", page, flags=re.M)
+    total = sum(map(int, re.findall(r"^\| \d+ \| `crates/[^`]+` \| (\d+) \|", page, re.M)))
+    return re.sub(r"\*\*[\d,]+ lines\*\*", f"**{total:,} lines**", page)
+
+
 def main():
+    if "--count" in sys.argv:
+        PAGE.write_text(counted(PAGE.read_text()))
     page = PAGE.read_text()
     named = set(re.findall(r"`([^`\s]+)`\s+\(`(crates/[^`]+\.(?:rt|antt))`\)", page))
     listed = dict(re.findall(r"^\| \d+ \| `(crates/[^`]+)` \| (\d+) \|", page, re.M))

@@ -122,6 +122,65 @@ static void refuse_calls(struct table spring, struct value house)
     report("room for 100 bytes of text", write_value(spring, rows, pool, (struct room_bytes){ out, 100 }), none);
 }
 
+/* Room is painted before a call: where the paint still is, nothing was written. */
+enum { PAINT = 0xA5 };
+
+static bool painted(const void *start, size_t length)
+{
+    const uint8_t *byte = start;
+    while (length > 0 && byte[length - 1] == PAINT)
+        length--;
+    return length == 0;
+}
+
+/* Four amounts, of which none, one and two are lent: the length counts numbers, and less than two are not stored. */
+static void show_amounts(struct table spring, struct bytes text)
+{
+    uint32_t row = 0;
+    uint8_t byte = 0;
+    printf("\namounts lent and stored; - is as it was\n");
+    for (size_t lent = 0; lent <= 2; lent++) {
+        uint64_t amounts[4];
+        memset(amounts, PAINT, sizeof amounts);
+        attrywind_read(spring.types.start, spring.types.length, spring.names.start, spring.names.length, text.start,
+                       text.length, &row, 0, &byte, 0, amounts, lent);
+        printf("%zu lent:", lent);
+        for (size_t i = 0; i < COUNT(amounts); i++)
+            if (painted(&amounts[i], sizeof amounts[i]))
+                printf(" -");
+            else
+                printf(" %" PRIu64, amounts[i]);
+        printf("\n");
+    }
+}
+
+/* Refused calls, with room that is painted: enough of it, and too little. */
+static void leave_room(const char *folder, struct table spring, struct value house, struct bytes text)
+{
+    static uint32_t rows[400];
+    static uint8_t pool[400], out[400];
+    struct room_numbers all_rows = { rows, COUNT(rows) }, few_rows = { rows, house.numbers - 1 };
+    struct room_bytes all_pool = { pool, sizeof pool }, few_pool = { pool, house.pool_bytes - 1 };
+    struct bytes strings = { house.pool, house.pool_bytes };
+    memset(rows, PAINT, sizeof rows);
+    memset(pool, PAINT, sizeof pool);
+    memset(out, PAINT, sizeof out);
+    bool refusing = read_text(spring, text, few_rows, all_pool).number != 0 &&
+                    read_text(spring, text, all_rows, few_pool).number != 0 &&
+                    write_value(spring, (struct numbers){ house.rows, house.numbers - 1 }, strings,
+                                (struct room_bytes){ out, sizeof out }).number != 0 &&
+                    write_value(spring, (struct numbers){ house.rows, house.numbers }, strings,
+                                (struct room_bytes){ out, 100 }).number != 0;
+    for (size_t i = 0; i < COUNT(refused); i++) {
+        struct bytes bad = load_file(folder, refused[i]);
+        refusing = refusing && read_text(spring, bad, all_rows, all_pool).number != 0;
+        free((void *)bad.start);
+    }
+    printf("%zu refused calls: %s\n", COUNT(refused) + 4,
+           refusing && painted(rows, sizeof rows) && painted(pool, sizeof pool) && painted(out, sizeof out)
+               ? "rows, pool and text as they were" : "ONE WAS TAKEN OR WROTE");
+}
+
 /* Calls that the wrappers must not make: overlapping, misaligned and null room. */
 static void test_wrappers(struct table spring, struct value house)
 {
@@ -152,6 +211,10 @@ int main(int argc, char **argv)
     write_house(spring, house);
     refuse_texts(argv[1], spring);
     refuse_calls(spring, house);
+    struct bytes text = load_file(argv[1], "texts/house.json");
+    show_amounts(spring, text);
+    leave_room(argv[1], spring, house, text);
+    free((void *)text.start);
     test_wrappers(spring, house);
     free_value(&house);
     free((void *)spring.types.start);

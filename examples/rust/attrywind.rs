@@ -106,6 +106,22 @@ impl Table {
         answer(number, amounts).map(|(bytes, _)| bytes)
     }
 
+    /// Four amounts after a reading without room for rows, of which only the first `lent` are lent: for trying what
+    /// their length counts. `amounts` says what they were before.
+    pub fn read_amounts(&self, text: &[u8], mut amounts: [u64; 4], lent: usize) -> [u64; 4] {
+        let (rows, pool): (&mut [u32], &mut [u8]) = (&mut [], &mut []);
+        let room = &mut amounts[..lent];
+        // SAFETY: as in `read_into`.
+        unsafe {
+            attrywind_read(
+                self.types.as_ptr(), self.types.len(), self.names.as_ptr(), self.names.len(),
+                text.as_ptr(), text.len(), rows.as_mut_ptr(), rows.len(), pool.as_mut_ptr(), pool.len(),
+                room.as_mut_ptr(), room.len(),
+            )
+        };
+        amounts
+    }
+
     /// Asks how much room is needed, makes it, and reads.
     pub fn read(&self, text: &[u8]) -> Result<Value, Refusal> {
         let needed = match self.read_into(text, &mut [], &mut []) {

@@ -91,6 +91,39 @@ fn refuse_calls(spring: &Table, house: &Value) {
     report("room for 100 bytes of text", spring.write_into(house, &mut [0; 100]), b"");
 }
 
+/// Room is painted before a call: where the paint still is, nothing was written.
+const PAINT: u8 = 0xA5;
+
+/// Four amounts, of which none, one and two are lent: the length counts numbers, and less than two are not stored.
+fn show_amounts(spring: &Table, text: &[u8]) {
+    let paint = u64::from_ne_bytes([PAINT; 8]);
+    println!("\namounts lent and stored; - is as it was");
+    for lent in 0..=2 {
+        let after = spring.read_amounts(text, [paint; 4], lent);
+        let shown = after.map(|a| if a == paint { "-".to_string() } else { a.to_string() });
+        println!("{lent} lent: {}", shown.join(" "));
+    }
+}
+
+/// Refused calls, with room that is painted: enough of it, and too little.
+fn leave_room(folder: &Path, spring: &Table, house: &Value, text: &[u8]) -> Result<(), Fault> {
+    let painted_row = u32::from_ne_bytes([PAINT; 4]);
+    let (mut rows, mut pool, mut out) = ([painted_row; 400], [PAINT; 400], [PAINT; 400]);
+    let mut cut = house.clone();
+    cut.rows.pop();
+    let mut refusing = spring.read_into(text, &mut rows[..house.rows.len() - 1], &mut pool).is_err()
+        && spring.read_into(text, &mut rows, &mut pool[..house.pool.len() - 1]).is_err()
+        && spring.write_into(&cut, &mut out).is_err()
+        && spring.write_into(house, &mut out[..100]).is_err();
+    for name in REFUSED {
+        refusing = refusing && spring.read_into(&load::file(folder, name)?, &mut rows, &mut pool).is_err();
+    }
+    let as_it_was = rows == [painted_row; 400] && pool == [PAINT; 400] && out == [PAINT; 400];
+    let words = if refusing && as_it_was { "rows, pool and text as they were" } else { "ONE WAS TAKEN OR WROTE" };
+    println!("{} refused calls: {words}", REFUSED.len() + 4);
+    Ok(())
+}
+
 fn main() -> Result<(), Fault> {
     let folder = std::env::args_os().nth(1).ok_or("booking FOLDER")?;
     let folder = Path::new(&folder);
@@ -102,5 +135,7 @@ fn main() -> Result<(), Fault> {
     write_house(&spring, &house)?;
     refuse_texts(folder, &spring)?;
     refuse_calls(&spring, &house);
-    Ok(())
+    let text = load::file(folder, "texts/house.json")?;
+    show_amounts(&spring, &text);
+    leave_room(folder, &spring, &house, &text)
 }

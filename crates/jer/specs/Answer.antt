@@ -22,7 +22,7 @@ bind (no e) f = no e
 abbrev pub at : {A : Type 0} → Cause → ℕ → Res A
 at c p = no (AtByte c p)
 
--- 01, Refusal numbers: the column "No."; 2 to 11
+-- the numbers of 01's table of refusals: 2 to 11
 abbrev pub causeNumber : Cause → ℕ
 causeNumber TooLong = 2
 causeNumber NotJson = 3

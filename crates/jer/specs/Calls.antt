@@ -42,7 +42,7 @@ treeOf (tree j) = ok j
 treeOf (refused notJson p) = at NotJson p
 treeOf (refused tooDeep p) = at TooDeep p
 
--- 2: "text over 65,536 bytes"
+-- 2: "text over 65,536 bytes | 65,536"; 01, What the library handles: "and of text"
 unfoldable pub goodText : List ℕ → Res Json
 goodText s = elim (leb (length s) 65536) [ true ↦ treeOf (parse s) | false ↦ at TooLong 65536 ]
 
@@ -65,7 +65,7 @@ unfoldable pub readText : Table → List ℕ → Res Val
 readText t s = bind (goodTable t) (λ u. bind (goodText s) (λ j. read j t 0))
 
 -- a buffer of which the first numbers are written over
--- "All leave every buffer untouched." "Success changes only the rows, pool bytes or text bytes used."
+-- 01, Refusal numbers: "Success changes only the rows, pool bytes or text bytes used."
 unfoldable pub over : List ℕ → List ℕ → List ℕ
 over xs buffer = xs ++ drop (length xs) buffer
 
@@ -85,7 +85,7 @@ readAnswer t n m (ok v) =
       | false ↦ reading.Refused (Amounts LentRoom (length (rowsOf v t 0 0)) (length (poolOf v)))
     ]
 
--- the buffers afterwards
+-- the buffers afterwards; refusals: "All leave every buffer untouched."
 unfoldable pub rowsAfter : Table → List ℕ → ℕ → Res Val → List ℕ
 rowsAfter t rows m (no e) = rows
 rowsAfter t rows m (ok v) = elim (roomy t v (length rows) m) [ true ↦ over (rowNumbers t v) rows | false ↦ rows ]
@@ -104,7 +104,7 @@ writeText t ns pool = bind (goodTable t) (λ u. bind (judge t ns pool) (λ v. ok
 unfoldable pub amount : ℕ → ℕ
 amount n = elim (leb n (2 ^ 64 - 1)) [ true ↦ n | false ↦ 2 ^ 64 - 1 ]
 
--- 13: "written text over 65,536 bytes | bytes needed"; 14: "lent room too small | (..) text bytes, needed"
+-- 13: "written text over 65,536 bytes | bytes needed"; 14: "or text bytes"
 unfoldable pub writeAnswer : ℕ → Res (List ℕ) → Writing
 writeAnswer n (no e) = writing.Refused e
 writeAnswer n (ok s) =

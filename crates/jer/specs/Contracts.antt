@@ -19,12 +19,14 @@ abbrev pub TextCall : List ℕ → Judged → Type 0
 TextCall s r = r ≡ textJudged s
 
 -- `reading::read` of the text s, with these buffers lent, answers r and leaves the buffers rows′ and pool′
+-- 01, What the library handles: "A type table, a text and room for a value table: reading."
 pub record ReadCall (t : Table) (s rows pool : List ℕ) (r : Reading) (rows′ pool′ : List ℕ) : Type 0 where
   pub answer : r ≡ readAnswer t (length rows) (length pool) (readText t s)
   pub rowsLeft : rows′ ≡ rowsAfter t rows (length pool) (readText t s)
   pub poolLeft : pool′ ≡ poolAfter t (length rows) pool (readText t s)
 
 -- `writing::write` of the value table ns with its pool, with this room for text lent, answers r and leaves text′
+-- 01, What the library handles: "A type table and a value table: writing."
 pub record WriteCall (t : Table) (ns pool text : List ℕ) (r : Writing) (text′ : List ℕ) : Type 0 where
   pub answer : r ≡ writeAnswer (length text) (writeText t ns pool)
   pub textLeft : text′ ≡ textAfter text (writeText t ns pool)

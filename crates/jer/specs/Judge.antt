@@ -1,7 +1,4 @@
 -- Which value tables are a value of a type, and the first bad row.
--- 01, Refusal numbers: "For 12, rows are taken in order; a wrong size or number present is bad at its own row once the parts are right.
--- A row short of the table's end, or pool bytes left over, count as the row after the last; rows left over, a broken one too, as the
--- first of them."
 use Prim.Native.Nat.{ℕ, zero, suc, _+_, _-_, _*_, _^_}
 use mathlib.Core.List.{List, [], _∷_}
 use mathlib.Core.Bool.{Bool, true, false, _&&_, _||_, not}
@@ -69,7 +66,8 @@ stringRow text pool w ws q o =
       | true ↦ elim (not text || utf8 (take (w .b) (drop o pool))) [ true ↦ took (vBytes (take (w .b) (drop o pool))) ws (suc q) (o + w .b) | false ↦ wrong q ]
     ]
 
--- a size that is not the number of rows taken is bad at its own row
+-- a size that is not the number of rows taken, as a wrong number present below
+-- 01, Refusal numbers: "a wrong size or number present is bad at its own row once the parts are right."
 unfoldable pub sized : ValueRow → ℕ → Bool → Took Val → Took Val
 sized w q good x = andThen x (λ v ws′ q′ o′. elim (good && eqb (w .size) (q′ - q)) [ true ↦ took v ws′ q′ o′ | false ↦ wrong q ])
 
@@ -109,7 +107,8 @@ takeRow inner t pool r w ws q o =
           (wrong q)
     ]
 
--- a row that is wanted: there may be none
+-- a row that is wanted: there may be none, and then its number is the row after the last
+-- 01, Refusal numbers: "A row short of the table's end"
 unfoldable pub onRow : (ValueRow → List ValueRow → Took Val) → List ValueRow → ℕ → Took Val
 onRow f [] q = wrong q
 onRow f (w ∷ ws) q = f w ws
@@ -127,6 +126,7 @@ takeWith inner t pool r ws q o =
     onRow (λ w us. elim (isUnwrapped t r) [ true ↦ takeUnwrapped inner t pool r w us q o | false ↦ takeRow inner t pool r w us q o ]) ws q
 
 -- a value with at most d brackets open at one time
+-- 01, Refusal numbers: "For 12, rows are taken in order"
 unfoldable pub takeValue : ℕ → Table → List ℕ → Taker
 takeValue zero t pool r ws q o = takeWith none t pool r ws q o
 takeValue (suc d) t pool r ws q o = takeWith (some (λ e us p u. takeValue d t pool e us p u)) t pool r ws q o
@@ -141,10 +141,13 @@ rowsIn (k ∷ a ∷ []) = []
 rowsIn (k ∷ a ∷ b ∷ []) = []
 rowsIn (k ∷ a ∷ b ∷ n ∷ ns) = row k a b n ∷ rowsIn ns
 
+-- q whole rows were taken, and the pool up to o
+-- 01, Refusal numbers: "or pool bytes left over, count as the row after the last; rows left over, a broken one too, as the first of them."
 unfoldable pub allTaken : ℕ → ℕ → Took Val → Res Val
 allTaken ns pool (took v ws q o) = elim (eqb ns (q * 4) && eqb pool o) [ true ↦ ok v | false ↦ no (AtRow ValueTable q) ]
 allTaken ns pool (wrong q) = no (AtRow ValueTable q)
 
 -- the value of a table of numbers and its pool, at the type of the whole message
+-- 01, Refusal numbers, 12: "value table breaks a rule for this type (..) first bad row"
 unfoldable pub judge : Table → List ℕ → List ℕ → Res Val
 judge t ns pool = allTaken (length ns) (length pool) (takeValue 32 t pool 0 (rowsIn ns) 0 0)

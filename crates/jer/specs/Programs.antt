@@ -1,6 +1,4 @@
 -- The programs `jerread` and `jerwrite`: what they print for what stands on standard input.
--- 01: "The program `jerread` takes three lines of hexadecimal, either letter case, on standard input: type table (eight digits a number),
--- names, text; each line at most 16,384 digits."
 use Prim.Native.Nat.{ℕ, _+_, _*_, _/_, _%_, _^_}
 use mathlib.Core.List.{List, [], _∷_, _++_}
 use mathlib.Core.Bool.{true, false}
@@ -33,17 +31,17 @@ lineFrom (b ∷ s) =
       | false ↦ record { bytes = b ∷ (lineFrom s) .bytes; rest = (lineFrom s) .rest }
     ]
 
--- "The first line that is missing (no byte left), odd, not hexadecimal or, for line one, not whole eights is 15"
 -- a line of octets: hexadecimal of at most 16,384 digits, a whole number of units of n octets
+-- 01, Sample texts on both sides: "either letter case (..) each line at most 16,384 digits."
 unfoldable pub octetsIn : ℕ → List ℕ → Option (List ℕ)
 octetsIn n bs = elim (leb (length bs) 16384) [ true ↦ also (unhex bs) (λ os. onlyIf (eqb (length os % n) 0) os) | false ↦ none ]
 
--- the octets of the next line
+-- the octets of the next line: "The first line that is missing (no byte left), odd, not hexadecimal or, for line one, not whole eights is 15"
 unfoldable pub lineAt : ℕ → List ℕ → Option (List ℕ)
 lineAt n [] = none
 lineAt n (b ∷ s) = octetsIn n ((lineFrom (b ∷ s)) .bytes)
 
--- octets as numbers of eight digits
+-- octets as numbers: "(eight digits a number)"
 unfoldable pub numbersIn : List ℕ → List ℕ
 numbersIn [] = []
 numbersIn (a ∷ []) = []
@@ -65,7 +63,7 @@ endLine s = s ++ (0x0A ∷ [])
 unfoldable pub refusalLine : Values → List ℕ
 refusalLine v = endLine (digits8 (0xFFFFFFFF ∷ v .number ∷ v .first ∷ v .second ∷ []))
 
--- "It prints one value row a line (kind, a, b, size (..)), then the pool as one line"
+-- "It prints one value row a line (kind, a, b, size (..))"
 unfoldable pub rowLines : List ValueRow → List ℕ
 rowLines [] = []
 rowLines (w ∷ ws) = endLine (digits8 (w .kind ∷ w .a ∷ w .b ∷ w .size ∷ [])) ++ rowLines ws
@@ -77,12 +75,13 @@ withLine i n s f = elim (lineAt n s) [ none ↦ refusalLine (values 15 i 0) | so
 
 -- ---- jerread
 
--- "It lends 4,096 rows and 16,384 pool bytes."
+-- after the rows "then the pool as one line"
 unfoldable pub printRead : Table → Res Val → Reading → List ℕ
 printRead t (no e) x = refusalLine (valuesOf e)
 printRead t (ok v) (reading.Refused e) = refusalLine (valuesOf e)
 printRead t (ok v) (reading.Read n m) = rowLines (rowsOf v t 0 0) ++ endLine (hex (poolOf v))
 
+-- "It lends 4,096 rows and 16,384 pool bytes.": a row is four numbers
 unfoldable pub readPrinted : Table → Res Val → List ℕ
 readPrinted t x = printRead t x (readAnswer t 16384 16384 x)
 
@@ -90,13 +89,14 @@ readPrinted t x = printRead t x (readAnswer t 16384 16384 x)
 unfoldable pub readShown : List ℕ → List ℕ → List ℕ → List ℕ
 readShown types names text = readPrinted (record { rows = types; names = names }) (readText (record { rows = types; names = names }) text)
 
--- "type table (eight digits a number), names, text"; "input after line three is not read"
+-- "input after line three is not read"
 unfoldable pub readThird : List ℕ → List ℕ → List ℕ → List ℕ
 readThird types names s = withLine 3 1 s (λ text rest. readShown types names text)
 
 unfoldable pub readSecond : List ℕ → List ℕ → List ℕ
 readSecond types s = withLine 2 1 s (λ names rest. readThird types names rest)
 
+-- "The program `jerread` takes three lines of hexadecimal (..) on standard input: type table (..) names, text"
 unfoldable pub jerread : List ℕ → List ℕ
 jerread s = withLine 1 4 s (λ types rest. readSecond (numbersIn types) rest)
 

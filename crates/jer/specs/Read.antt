@@ -32,18 +32,19 @@ pub record Entry : Type 0 where
 -- ---- leaves
 
 -- 01, Reading: "INTEGER: a number without fraction or exponent, from -2^63 to 2^63-1; -0 is 0."
--- 01, Value table: "a the low and b the high half of its 64-bit two's complement"
+-- The value has its 64-bit two's complement. 01, Refusal numbers, 6: "or outside the range | its place"
 unfoldable pub readInt : ℕ → Bool → ℕ → Res Val
 readInt p false n = elim (ltb n (2 ^ 63)) [ true ↦ ok (vInt n) | false ↦ at BadNumber p ]
 readInt p true zero = ok (vInt 0)
 readInt p true (suc n) = elim (leb (suc n) (2 ^ 63)) [ true ↦ ok (vInt (2 ^ 64 - suc n)) | false ↦ at BadNumber p ]
 
--- "ENUMERATED: a string."
--- 01, Refusal numbers, 7: "no such item and not extensible"; 11: "item or alternative unknown, extensible"
+-- 01, Reading: "ENUMERATED: a string."
+-- 01, Refusal numbers, 7: "or no such item and not extensible | the string"; 11: "item (..) unknown, extensible | the string"
 unfoldable pub readItem : Table → ℕ → ℕ → Option ℕ → Res Val
 readItem t r p none = elim (extensible t r) [ true ↦ at Unknown p | false ↦ at BadString p ]
 readItem t r p (some i) = ok (vEnum i)
 
+-- 01, Refusal numbers, 7: "bad octets"
 unfoldable pub readOctets : ℕ → Option (List ℕ) → Res Val
 readOctets p none = at BadString p
 readOctets p (some os) = ok (vBytes os)
@@ -61,12 +62,13 @@ readString t p s r =
     (at OtherKind p)
 
 -- the value where the row has the kind k, else 5 at the token
+-- 01, Refusal numbers, 5: "token of another kind | its place"
 unfoldable pub atKind : Table → ℕ → ℕ → ℕ → Res Val → Res Val
 atKind t r k p v = elim (eqb (kindOf t r) k) [ true ↦ v | false ↦ at OtherKind p ]
 
 -- ---- UNWRAPPED choices
 
--- 01, Reading: "UNWRAPPED: the token's kind picks the alternative."; with none, 11 at the token if extensible, else 5
+-- The token has picked an alternative; with none, 11 at the token if extensible, else 5. 01, Refusal numbers, 11: "or alternative (..) token"
 unfoldable pub picked : Table → ℕ → ℕ → Meaning → Option ℕ → Res Val
 picked t r p plain none = elim (extensible t r) [ true ↦ at Unknown p | false ↦ at OtherKind p ]
 picked t r p plain (some i) = bind (plain (typeAt t r i)) (λ v. ok (vChoice i v))
@@ -81,8 +83,8 @@ unfoldable pub lookup : List ℕ → List Entry → Option Entry
 lookup s [] = none
 lookup s (e ∷ es) = elim (sameBytes (e .name) s) [ true ↦ some e | false ↦ lookup s es ]
 
--- 01, Refusal numbers: "The typed reading of an object sequence: 5; names in text order, 8 or 9"; 8: "unknown name, not extensible";
--- 9: "known name repeated"
+-- 01, Refusal numbers: "The typed reading of an object sequence: 5; names in text order, 8 or 9";
+-- 8: "unknown name, not extensible | the name"; 9: "known name repeated | the second"
 -- 01, Reading: "A member that the table does not know is skipped, value and all its nesting, if the sequence is extensible."
 unfoldable pub namesGood : Table → ℕ → List Entry → List Entry → Res (List Entry)
 namesGood t r met [] = ok met
@@ -105,6 +107,7 @@ withPresent v rest = bind v (λ w. bind rest (λ ps. ok (present w ps)))
 
 -- the member i of the object at o, and the members after it
 -- 01, Reading: "An addition may be absent, whichever others are present; if not OPTIONAL, its null is read as a value."
+-- 01, Refusal numbers, 10: "member missing (..) | opening bracket"
 unfoldable pub readMember : Table → ℕ → ℕ → ℕ → Option Entry → Res Parts → Res Parts
 readMember t r o i none rest = elim (mayMiss t r i) [ true ↦ withAbsent rest | false ↦ at (Missing i) o ]
 readMember t r o i (some e) rest =
@@ -120,9 +123,7 @@ readObject t o es r = bind (namesGood t r [] es) (λ met. bind (readMembers t r 
 
 -- ---- sequences as arrays
 
--- 01, Reading: "An element missing at the end counts as null (27.2.2): absent for those, the null value where the type can be null,
--- 11 where it is an extensible UNWRAPPED choice without NULL, else 10."
--- the null value of a type
+-- the null value of a type: "the null value where the type can be null"
 unfoldable pub nullValue : Table → ℕ → Option Val
 nullValue t r =
     elim (isUnwrapped t r) [
@@ -130,6 +131,9 @@ nullValue t r =
       | false ↦ elim (eqb (kindOf t r) NULL) [ true ↦ some vNull | false ↦ none ]
     ]
 
+-- a member of the array at o that has no element, and may not be absent
+-- 01, Reading: "11 where it is an extensible UNWRAPPED choice without NULL, else 10."
+-- 01, Refusal numbers, 11: "the array's bracket for a missing element"
 unfoldable pub missingElement : Table → ℕ → ℕ → ℕ → Res Val
 missingElement t r o i =
     elim (nullValue t (typeAt t r i)) [
@@ -138,12 +142,13 @@ missingElement t r o i =
     ]
 
 -- the member i of the array at o: its element, if there is one
--- "Null is absent for an OPTIONAL member or an addition."
+-- 01, Reading: "Null is absent for an OPTIONAL member or an addition. An element missing at the end counts as null (27.2.2): absent for
+-- those"
 unfoldable pub readElement : Table → ℕ → ℕ → ℕ → Option Element → Res Parts → Res Parts
 readElement t r o i none rest = elim (mayMiss t r i) [ true ↦ withAbsent rest | false ↦ withPresent (missingElement t r o i) rest ]
 readElement t r o i (some e) rest = elim (e .isNull && mayMiss t r i) [ true ↦ withAbsent rest | false ↦ withPresent (e .means (typeAt t r i)) rest ]
 
--- "Surplus elements are skipped if extensible."; 01, Refusal numbers, 10: "surplus element"
+-- "Surplus elements are skipped if extensible."; 01, Refusal numbers, 10: "surplus element (..) the element"
 unfoldable pub surplus : Table → ℕ → List Element → Res Parts
 surplus t r [] = ok pnil
 surplus t r (e ∷ es) = elim (extensible t r) [ true ↦ ok pnil | false ↦ at Surplus (e .place) ]
@@ -172,12 +177,13 @@ readArray t o es r =
       ]
     ]
 
--- 01, Refusal numbers: "A wrapped choice: 5, 10, name (8 or 11), value."
+-- 01, Refusal numbers: "A wrapped choice: 5, 10, name (8 or 11), value."; 11: "or choice's bracket"
 unfoldable pub readChosen : Table → ℕ → ℕ → Entry → Option ℕ → Res Val
 readChosen t r o e none = elim (extensible t r) [ true ↦ at Unknown o | false ↦ at UnknownName (e .place) ]
 readChosen t r o e (some i) = bind (e .means (typeAt t r i)) (λ v. ok (vChoice i v))
 
 -- 01, Reading: "Wrapped CHOICE: an object of exactly one member."
+-- 01, Refusal numbers, 10: "choice object without exactly one member (..) the element; opening bracket"
 unfoldable pub readChoice : Table → ℕ → ℕ → List Entry → Res Val
 readChoice t r o [] = at NotOne o
 readChoice t r o (e ∷ []) = readChosen t r o e (position t r (e .name))
@@ -202,7 +208,8 @@ null? (jstr p s) = false
 null? (jarr p is) = false
 null? (jobj p ms) = false
 
--- 01, Refusal numbers, 5: "token of another kind"; 6: "number with fraction or exponent, or outside the range"
+-- 01, Reading: "A value may hold a sequence whose members again hold values, so these rules call one another; the depth of brackets
+-- bounds them." 01, Refusal numbers, 6: "number with fraction or exponent"
 unfoldable mutual
   pub read : Json → Table → Meaning
   read (jnull p) t r = unwrapping t tNull p (λ q. atKind t q NULL p (ok vNull)) r

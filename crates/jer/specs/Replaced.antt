@@ -1,6 +1,5 @@
 -- A text in which a value is skipped, and what it is with another value in its place.
--- 01, Refusal numbers: "Two texts that differ only inside the values of skipped members, both JSON within the sizes, get the same rows
--- and pool, or the same refusal number."
+-- 01's promise on the values of skipped members, on the bytes themselves.
 use Prim.Native.Nat.{ℕ, suc, _≤_}
 use mathlib.Core.Path.{_≡_}
 use mathlib.Core.List.{List, _++_}
@@ -34,13 +33,13 @@ mutual
   pub data SkipsElements (t : Table) (i : Json) : ℕ → ℕ → Items → Type 0 where
     inElement : {r n : ℕ} {j : Json} {is : Items} → Skips t i (typeAt t r n) j → SkipsElements t i r n (icons j is)
     laterElement : {r n : ℕ} {j : Json} {is : Items} → SkipsElements t i r (suc n) is → SkipsElements t i r n (icons j is)
-    -- "Surplus elements are skipped if extensible."
+    -- a surplus element is skipped if extensible
     surplusElement : {r n : ℕ} {j : Json} {is : Items} → countOf t r ≤ n → extensible t r ≡ true → j ≡ i → SkipsElements t i r n (icons j is)
 
   pub data SkipsMembers (t : Table) (i : Json) : ℕ → Members → Type 0 where
     inMember : {r p n : ℕ} {s : List ℕ} {j : Json} {ms : Members} → position t r s ≡ some n → Skips t i (typeAt t r n) j → SkipsMembers t i r (mcons p s j ms)
     laterMember : {r p : ℕ} {s : List ℕ} {j : Json} {ms : Members} → SkipsMembers t i r ms → SkipsMembers t i r (mcons p s j ms)
-    -- "A member that the table does not know is skipped, value and all its nesting, if the sequence is extensible."
+    -- a member that the table does not know is skipped if the sequence is extensible
     unknownMember : {r p : ℕ} {s : List ℕ} {j : Json} {ms : Members} → position t r s ≡ none → extensible t r ≡ true → j ≡ i → SkipsMembers t i r (mcons p s j ms)
 
 -- The bytes of the value i in the text s can be replaced: with any other value in their place the text gets the same answer, if it still is

@@ -22,7 +22,7 @@ pub data NamesTaken (t : Table) (r : ℕ) : Members → Type 0 where
   noName : NamesTaken t r mnil
   -- a known name, which is not held again
   known : {p i : ℕ} {s : List ℕ} {j : Json} {ms : Members} → position t r s ≡ some i → held ms s ≡ none → NamesTaken t r ms → NamesTaken t r (mcons p s j ms)
-  -- "A member that the table does not know is skipped, value and all its nesting, if the sequence is extensible."
+  -- an unknown one, which is skipped with its value if the sequence is extensible
   unknown : {p : ℕ} {s : List ℕ} {j : Json} {ms : Members} → position t r s ≡ none → extensible t r ≡ true → NamesTaken t r ms → NamesTaken t r (mcons p s j ms)
 
 -- The trees j and k say the same at the row r, spelled with other options.
@@ -30,15 +30,15 @@ mutual
   pub data Respelled (t : Table) : ℕ → Json → Json → Type 0 where
     -- other white space, other escapes: equal but for places
     moved : {r : ℕ} {j k : Json} → Moved j k → Respelled t r j k
-    -- "-0 is 0"
+    -- -0 is 0
     minusZero : {r p q : ℕ} {m n : Bool} → Respelled t r (jint p m 0) (jint q n 0)
-    -- "hexadecimal of either letter case": strings that spell the same octets
+    -- hexadecimal of either letter case: strings that spell the same octets
     letterCase : {r p q : ℕ} {s u : List ℕ} → kindOf t r ≡ OCTET-STRING → octetsOf t r s ≡ octetsOf t r u → Respelled t r (jstr p s) (jstr q u)
     -- a SEQUENCE OF: item by item
     items : {r p q : ℕ} {is js : Items} → kindOf t r ≡ SEQUENCE-OF → RespelledItems t (elementOf t r) is js → Respelled t r (jarr p is) (jarr q js)
     -- an ARRAY sequence: element by element
     elements : {r p q : ℕ} {is js : Items} → isArray t r ≡ true → RespelledElements t r 0 is js → Respelled t r (jarr p is) (jarr q js)
-    -- another sequence, "members in any order": what the two objects hold for each member of the type
+    -- another sequence, members in any order: what the two objects hold for each member of the type
     members : {r p q : ℕ} {ms ns : Members} → kindOf t r ≡ SEQUENCE → isArray t r ≡ false → NamesTaken t r ms → NamesTaken t r ns → RespelledMembers t r 0 ms ns
         → Respelled t r (jobj p ms) (jobj q ns)
     -- a wrapped choice: the same alternative
@@ -56,10 +56,10 @@ mutual
     noElement : {r i : ℕ} → RespelledElements t r i inil inil
     -- the element of the member i
     element : {r i : ℕ} {j k : Json} {is js : Items} → Respelled t (typeAt t r i) j k → RespelledElements t r (suc i) is js → RespelledElements t r i (icons j is) (icons k js)
-    -- "An element missing at the end counts as null": a null at the end is dropped, or put there
+    -- an element missing at the end counts as null: a null at the end is dropped, or put there
     nullDropped : {r i p : ℕ} {is : Items} → i < countOf t r → RespelledElements t r (suc i) is inil → RespelledElements t r i (icons (jnull p) is) inil
     nullAdded : {r i q : ℕ} {js : Items} → i < countOf t r → RespelledElements t r (suc i) inil js → RespelledElements t r i inil (icons (jnull q) js)
-    -- "Surplus elements are skipped if extensible."
+    -- surplus elements are skipped if extensible
     surplus : {r i : ℕ} {is js : Items} → countOf t r ≤ i → extensible t r ≡ true → RespelledElements t r i is js
 
   -- the members of the type from the position i on
@@ -72,6 +72,6 @@ mutual
     -- both hold the same, or neither holds anything
     present : {r i : ℕ} {j k : Json} → Respelled t (typeAt t r i) j k → RespelledMember t r i (some j) (some k)
     absent : {r i : ℕ} → RespelledMember t r i none none
-    -- "Null means absent where the member is OPTIONAL (..)": one holds null, the other nothing
+    -- null means absent here: one holds null, the other nothing
     nullLeft : {r i p : ℕ} → nullAbsent t r i ≡ true → RespelledMember t r i (some (jnull p)) none
     nullRight : {r i q : ℕ} → nullAbsent t r i ≡ true → RespelledMember t r i none (some (jnull q))

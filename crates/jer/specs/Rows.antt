@@ -16,7 +16,7 @@ pub record ValueRow : Type 0 where
 abbrev pub row : ℕ → ℕ → ℕ → ℕ → ValueRow
 row k a b n = record { kind = k; a = a; b = b; size = n }
 
--- "an absent one, OPTIONAL or an addition, is the row (15, 0, 0, 1)"
+-- an absent member "is the row (15, 0, 0, 1)"
 abbrev pub absentRow : ValueRow
 absentRow = row 15 0 0 1
 
@@ -55,9 +55,9 @@ unfoldable pub above : ℕ → ℕ → List ValueRow → List ValueRow
 above k a ws = row k a 0 (suc (length ws)) ∷ ws
 
 -- the rows of a value of the type at r, whose strings stand in the pool from o on
--- "BOOLEAN: a 0 or 1. INTEGER: a the low and b the high half of its 64-bit two's complement. ENUMERATED: a the item's position from 0. OCTET STRING and UTF8String: a start, b length in the pool.
--- SEQUENCE: a the number present, then one value for each member in table order (..). SEQUENCE OF: a the count, then the items.
--- CHOICE: a the position, then the chosen value. Other numbers are 0."
+-- "BOOLEAN: a 0 or 1. INTEGER: a the low and b the high half of its 64-bit two's complement. ENUMERATED: a the item's position from 0.
+-- OCTET STRING and UTF8String: a start, b length in the pool. SEQUENCE: a the number present, then one value for each member in table
+-- order (..) SEQUENCE OF: a the count, then the items. CHOICE: a the position, then the chosen value. Other numbers are 0."
 unfoldable mutual
   pub rowsOf : Val → Table → ℕ → ℕ → List ValueRow
   rowsOf (vBool b) t r o = row (kindOf t r) (bit b) 0 1 ∷ []

@@ -1,4 +1,4 @@
--- 01, "Sample texts on both sides": one table of cases under one theorem.
+-- The sample texts of 01: one table of cases under one theorem.
 use Prim.Native.Nat.{ℕ, zero, suc}
 use Prim.Native.Char.{code}
 use Prim.Native.String.{String}
@@ -46,7 +46,9 @@ outcome t s = outcomeOf t (readText t s)
 abbrev row8 : ℕ → ℕ → ℕ → ℕ → ℕ → List ℕ → List ℕ
 row8 k m a b c rows = k ∷ m ∷ a ∷ b ∷ c ∷ 0 ∷ 0 ∷ 0 ∷ rows
 
--- "T is an extensible SEQUENCE of a INTEGER, b BOOLEAN OPTIONAL."
+-- 01, Sample texts on both sides: "T is an extensible SEQUENCE of a INTEGER, b BOOLEAN OPTIONAL."
+-- "T's rows: (6 2 1 2 2 0 0 0), (9 0 3 0 1 0 0 0), (9 1 4 1 1 0 0 0), (1 0 0 0 0 0 0 0), (0 0 0 0 0 0 0 0), in eight digits each and joined
+-- as line one. Line two: 6162."
 abbrev tableT : Table
 tableT = record { rows = row8 6 2 1 2 2 (row8 9 0 3 0 1 (row8 9 1 4 1 1 (row8 1 0 0 0 0 (row8 0 0 0 0 0 [])))); names = 97 ∷ 98 ∷ [] }
 
@@ -83,7 +85,8 @@ pub record Case : Type 0 where
 abbrev case : Table → List ℕ → Outcome → Case
 case t s x = record { table = t; text = s; gives = x }
 
--- the rows of {"a":5}
+-- the rows of P1, and of the worked example of `jerread`, which prints them and an empty pool: "Output, the last line empty:"
+-- "00000006000000010000000000000003 00000001000000050000000000000001 0000000F000000000000000000000001"
 abbrev five : List ℕ
 five = 6 ∷ 1 ∷ 0 ∷ 3 ∷ 1 ∷ 5 ∷ 0 ∷ 1 ∷ 15 ∷ 0 ∷ 0 ∷ 1 ∷ []
 
@@ -94,42 +97,42 @@ one = 6 ∷ 2 ∷ 0 ∷ 3 ∷ 1 ∷ 1 ∷ 0 ∷ 1 ∷ 3 ∷ 0 ∷ 0 ∷ 1 ∷ []
 unfoldable pub cases : List Case
 unfolding ascii times nested
 cases =
-    -- P1, P2, P3: "the same rows"
+    -- "P1 `{"a":5}`, P2 `{"b":null,"a":5}`, P3 `{"\u0061":5}`: the same rows."
     case tableT (ascii "{\"a\":5}") (stored five [] (ascii "{\"a\":5}"))
     ∷ case tableT (ascii "{\"b\":null,\"a\":5}") (stored five [] (ascii "{\"a\":5}"))
     ∷ case tableT (ascii "{\"\\u0061\":5}") (stored five [] (ascii "{\"a\":5}"))
-    -- P4: "10 at 0", P5: "9 at 7", P6: "5 at 5", P7: "6 at 5"
+    -- "P4 `{"b":true}`: 10 at 0. P5 `{"a":1,"a":1}`: 9 at 7. P6 `{"a":null}`: 5 at 5. P7 `{"a":5.0}`: 6 at 5."
     ∷ case tableT (ascii "{\"b\":true}") (refusal 10 0 0)
     ∷ case tableT (ascii "{\"a\":1,\"a\":1}") (refusal 9 7 0)
     ∷ case tableT (ascii "{\"a\":null}") (refusal 5 5 0)
     ∷ case tableT (ascii "{\"a\":5.0}") (refusal 6 5 0)
-    -- P8: "written as {"a":0}"
+    -- "P8 `{"a":-0}`: written as `{"a":0}`."
     ∷ case tableT (ascii "{\"a\":-0}") (stored (6 ∷ 1 ∷ 0 ∷ 3 ∷ 1 ∷ 0 ∷ 0 ∷ 1 ∷ 15 ∷ 0 ∷ 0 ∷ 1 ∷ []) [] (ascii "{\"a\":0}"))
-    -- P9: "[1] and [1,null] alike, written [1]"
+    -- "P9 `[1]` and `[1,null]` alike, written `[1]`"
     ∷ case tableA (ascii "[1]") (stored one [] (ascii "[1]"))
     ∷ case tableA (ascii "[1,null]") (stored one [] (ascii "[1]"))
-    -- P10: "10 at 8", "5 at 3"
+    -- "P10 `[1,null,null]`: 10 at 8; `[1,2]`: 5 at 3."
     ∷ case tableA (ascii "[1,null,null]") (refusal 10 8 0)
     ∷ case tableA (ascii "[1,2]") (refusal 5 3 0)
-    -- P11: "11 at 0 if extensible, else 7 at 0"
+    -- "P11 `"blue"` is 11 at 0 if extensible, else 7 at 0."
     ∷ case (tableE 2) (ascii "\"blue\"") (refusal 11 0 0)
     ∷ case (tableE 0) (ascii "\"blue\"") (refusal 7 0 0)
-    -- P12: "9223372036854775807 is read, 9223372036854775808 is 6 at 0, -9223372036854775808 is read"
+    -- "INTEGER: P12 9223372036854775807 is read, 9223372036854775808 is 6 at 0, -9223372036854775808 is read."
     ∷ case (table1 1) (ascii "9223372036854775807") (stored (1 ∷ 0xFFFFFFFF ∷ 0x7FFFFFFF ∷ 1 ∷ []) [] (ascii "9223372036854775807"))
     ∷ case (table1 1) (ascii "9223372036854775808") (refusal 6 0 0)
     ∷ case (table1 1) (ascii "-9223372036854775808") (stored (1 ∷ 0 ∷ 0x80000000 ∷ 1 ∷ []) [] (ascii "-9223372036854775808"))
-    -- "01: 3 at 1. Empty text: 3 at 0."
+    -- "`01`: 3 at 1. Empty text: 3 at 0."
     ∷ case (table1 1) (ascii "01") (refusal 3 1 0)
     ∷ case (table1 1) [] (refusal 3 0 0)
-    -- "UTF8String "\uDC00": 3 at 4."
+    -- "UTF8String `"\uDC00"`: 3 at 4."
     ∷ case (table1 5) (ascii "\"\\uDC00\"") (refusal 3 4 0)
-    -- "OCTET STRING "0aFF" is read and written "0AFF"; "0": 7 at 0."
+    -- "OCTET STRING `"0aFF"` is read and written `"0AFF"`; `"0"`: 7 at 0."
     ∷ case (table1 4) (ascii "\"0aFF\"") (stored (4 ∷ 0 ∷ 2 ∷ 1 ∷ []) (0x0A ∷ 0xFF ∷ []) (ascii "\"0AFF\""))
     ∷ case (table1 4) (ascii "\"0\"") (refusal 7 0 0)
     -- "SEQUENCE OF itself: 32 opening and 32 closing brackets give 32 rows; 33: 4 at 32."
     ∷ case (table1 7) (times 32 0x5B (times 32 0x5D [])) (stored (nested 32) [] (times 32 0x5B (times 32 0x5D [])))
     ∷ case (table1 7) (times 33 0x5B (times 33 0x5D [])) (refusal 4 32 0)
-    -- the worked example of `jerread`
+    -- the worked example of `jerread`: "Line three, for `{"b":null,"x":[],"a":5}`: 7B2262223A6E756C6C2C2278223A5B5D2C2261223A357D."
     ∷ case tableT (ascii "{\"b\":null,\"x\":[],\"a\":5}") (stored five [] (ascii "{\"a\":5}"))
     ∷ []
 

@@ -1,6 +1,5 @@
 -- Trees that differ only inside the values of skipped members, and answers that agree but for places.
--- 01, Refusal numbers: "Two texts that differ only inside the values of skipped members, both JSON within the sizes, get the same rows
--- and pool, or the same refusal number."
+-- 01's promise on two such texts, which docs/PROMISES.md quotes, says `SameCall` of their readings.
 use Prim.Native.Nat.{ℕ, suc, _≤_}
 use mathlib.Core.Path.{_≡_}
 use mathlib.Core.List.{List}
@@ -27,7 +26,7 @@ pub data SameReading : Reading → Reading → Type 0 where
   sameReading : {a : Reading} → SameReading a a
   sameRefusal : {e f : Refusal} → numberOf e ≡ numberOf f → SameReading (reading.Refused e) (reading.Refused f)
 
--- "the same rows and pool, or the same refusal number": of two readings with the same room, the answers and what the buffers hold afterwards
+-- the same rows and pool, or the same refusal number: of two readings with the same room, the answers and what the buffers hold afterwards
 pub record SameCall (t : Table) (rows pool : List ℕ) (x y : Res Val) : Type 0 where
   pub answer : SameReading (readAnswer t (length rows) (length pool) x) (readAnswer t (length rows) (length pool) y)
   pub rows-same : rowsAfter t rows (length pool) x ≡ rowsAfter t rows (length pool) y
@@ -56,7 +55,7 @@ mutual
     noElement : {r i : ℕ} → SkipAlikeElements t r i inil inil
     -- the element of the member i
     element : {r i : ℕ} {j k : Json} {is js : Items} → SkipAlike t (typeAt t r i) j k → SkipAlikeElements t r (suc i) is js → SkipAlikeElements t r i (icons j is) (icons k js)
-    -- "Surplus elements are skipped if extensible.": they may be any, and any number
+    -- surplus elements, which are skipped if extensible: they may be any, and any number
     surplus : {r i : ℕ} {is js : Items} → countOf t r ≤ i → extensible t r ≡ true → SkipAlikeElements t r i is js
 
   pub data SkipAlikeMembers (t : Table) : ℕ → Members → Members → Type 0 where

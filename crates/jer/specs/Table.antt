@@ -20,8 +20,9 @@ field t r i = getD (t .rows) (r * 8 + i) 0
 
 -- ---- kinds
 
+-- 01, What the library handles: "Types: BOOLEAN, INTEGER, ENUMERATED, NULL, OCTET STRING, UTF8String, SEQUENCE, SEQUENCE OF, CHOICE"
 -- 01, Type table: "Type kinds (field 0): 0 BOOLEAN, 1 INTEGER, 2 ENUMERATED, 3 NULL, 4 OCTET STRING, 5 UTF8String, 6 SEQUENCE,
--- 7 SEQUENCE OF, 8 CHOICE." "A member row has kind 9".
+-- 7 SEQUENCE OF, 8 CHOICE." "A member row has kind 9"
 abbrev pub BOOLEAN : ℕ
 BOOLEAN = 0
 
@@ -60,6 +61,7 @@ isType t r = leb (kindOf t r) CHOICE
 
 -- ---- marks
 
+-- 01, What the library handles: "extension markers, ARRAY, BASE64, UNWRAPPED"
 -- 01, Type table: "Field 1, sum of marks: 1 = BASE64 (4), ARRAY (6), UNWRAPPED (8); 2 = extensible (2, 6, 8)."
 unfoldable pub marksOf : Table → ℕ → ℕ
 marksOf t r = field t r 1
@@ -92,7 +94,7 @@ elementOf t r = field t r 2
 unfoldable pub countOf : Table → ℕ → ℕ
 countOf t r = field t r 3
 
--- "Field 4: how many of them are root, the rest are additions"
+-- "Field 4: how many of them are root"
 unfoldable pub rootOf : Table → ℕ → ℕ
 rootOf t r = field t r 4
 
@@ -100,21 +102,24 @@ rootOf t r = field t r 4
 unfoldable pub memberRow : Table → ℕ → ℕ → ℕ
 memberRow t r i = firstOf t r + i
 
--- "field 1 is 1 if OPTIONAL (SEQUENCE only)"
+-- 01, What the library handles: "with OPTIONAL"
+-- 01, Type table: "field 1 is 1 if OPTIONAL"
 unfoldable pub optional : Table → ℕ → ℕ → Bool
 optional t r i = eqb (field t (memberRow t r i) 1) 1
 
--- "field 2 its type row (0 for an enumeration item)"
+-- "field 2 its type row"
 unfoldable pub typeAt : Table → ℕ → ℕ → ℕ
 typeAt t r i = field t (memberRow t r i) 2
 
--- "fields 3 and 4 start and length of its name"
+-- "fields 3 and 4 start and length of its name"; it is taken as it stands there:
+-- 01, What the library handles: "Names in the table are final, NAME and TEXT already applied."
 unfoldable pub nameIn : Table → ℕ → List ℕ
 nameIn t m = take (field t m 4) (drop (field t m 3) (t .names))
 
 unfoldable pub nameAt : Table → ℕ → ℕ → List ℕ
 nameAt t r i = nameIn t (memberRow t r i)
 
+-- 01, Type table: "the rest are additions"
 unfoldable pub addition : Table → ℕ → ℕ → Bool
 addition t r i = leb (rootOf t r) i
 
@@ -186,11 +191,11 @@ unfoldable pub isSome : {A : Type 0} → Option A → Bool
 isSome none = false
 isSome (some a) = true
 
--- 01, Type table: "a type that can be null (NULL, or UNWRAPPED with a NULL alternative)"
+-- 01, Type table: "can be null (NULL, or UNWRAPPED with a NULL alternative)"
 unfoldable pub canBeNull : Table → ℕ → Bool
 canBeNull t r = eqb (kindOf t r) NULL || (isUnwrapped t r && isSome (alternative t r tNull))
 
--- "an extensible UNWRAPPED choice"
+-- an extensible UNWRAPPED choice
 unfoldable pub openUnwrapped : Table → ℕ → Bool
 openUnwrapped t r = isUnwrapped t r && extensible t r
 

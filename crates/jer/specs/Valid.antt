@@ -1,6 +1,4 @@
 -- Which type tables are good, and the row that is blamed.
--- 01, Refusal numbers: "For 1, rows are checked upwards three times: each by itself (row 0 is a type); by the kinds of the rows
--- it points to; each type by its other rules."
 use Prim.Native.Nat.{ℕ, zero, suc, _+_, _*_, _%_}
 use mathlib.Core.List.{[], _∷_}
 use mathlib.Core.Bool.{Bool, true, false, _&&_, _||_, not}
@@ -26,17 +24,19 @@ implies false b = true
 unfoldable pub unused : Table → ℕ → ℕ → ℕ → Bool
 unused t r i n = every (λ k. eqb (field t r k) 0) i n
 
--- "Field 3: how many members, in consecutive rows; SEQUENCE 0 to 64, ENUMERATED and CHOICE 1 to 64."
--- "Field 4: how many of them are root, the rest are additions; equal to field 3 if not extensible, at least 1 in kinds 2 and 8."
+-- Field 3: "SEQUENCE 0 to 64, ENUMERATED and CHOICE 1 to 64." Field 4: "equal to field 3 if not extensible, at least 1 in kinds 2 and 8."
+-- 01, What the library handles: "64 members to a type"
 unfoldable pub goodBlock : Table → ℕ → ℕ → Bool
 goodBlock t r least =
     leb least (countOf t r) && (leb (countOf t r) 64 && (leb (firstOf t r + countOf t r) (rowCount t)
     && (leb least (rootOf t r) && (leb (rootOf t r) (countOf t r) && (extensible t r || eqb (rootOf t r) (countOf t r))))))
 
--- "fields 3 and 4 start and length of its name, 1 to 128 bytes of UTF-8"
+-- 01, Type table: "1 to 128 bytes of UTF-8"
 unfoldable pub goodName : Table → ℕ → Bool
 goodName t r = leb 1 (field t r 4) && (leb (field t r 4) 128 && (leb (field t r 3 + field t r 4) (length (t .names)) && utf8 (nameIn t r)))
 
+-- 01, Refusal numbers: "each by itself (row 0 is a type)"; a kind or a mark that is none of 01's is bad:
+-- 01, What the library handles: "Not in the base: any other type, DEFAULT, version brackets."
 unfoldable pub goodAlone : Table → ℕ → Bool
 goodAlone t r =
     unused t r 5 3 && pick (kindOf t r)
@@ -45,11 +45,11 @@ goodAlone t r =
     ∷ on NULL NULL (λ k. unused t r 1 4)
     ∷ on OCTET-STRING OCTET-STRING (λ k. leb (marksOf t r) 1 && unused t r 2 3)
     ∷ on UTF8String UTF8String (λ k. unused t r 1 4)
-    -- "A SEQUENCE of 0 has 0 in field 2."
+    -- 01, Type table: "A SEQUENCE of 0 has 0 in field 2."
     ∷ on SEQUENCE SEQUENCE (λ k. leb (marksOf t r) 3 && (goodBlock t r 0 && implies (eqb (countOf t r) 0) (eqb (firstOf t r) 0)))
     ∷ on SEQUENCE-OF SEQUENCE-OF (λ k. unused t r 1 1 && (ltb (elementOf t r) (rowCount t) && unused t r 3 2))
     ∷ on CHOICE CHOICE (λ k. leb (marksOf t r) 3 && goodBlock t r 1)
-    -- "row 0 is a type"
+    -- a member row is not row 0
     ∷ on MEMBER MEMBER (λ k. not (eqb r 0) && (leb (marksOf t r) 1 && (ltb (field t r 2) (rowCount t) && goodName t r)))
     ∷ [])
     false
@@ -60,6 +60,7 @@ goodAlone t r =
 abbrev pub ownsMembers : Table → ℕ → Bool
 ownsMembers t r = every (λ i. eqb (kindOf t (memberRow t r i)) MEMBER) 0 (countOf t r)
 
+-- 01, Refusal numbers: "by the kinds of the rows it points to"
 unfoldable pub goodPointers : Table → ℕ → Bool
 goodPointers t r =
     pick (kindOf t r)
@@ -77,11 +78,11 @@ goodPointers t r =
 unfoldable pub allDiffer : (ℕ → ℕ → Bool) → ℕ → Bool
 allDiffer same n = every (λ j. every (λ i. not (same i j)) 0 j) 0 n
 
--- 01, Type table: "names within one type differ"
+-- 01, Type table: "Also required: names within one type differ."
 unfoldable pub namesDiffer : Table → ℕ → Bool
 namesDiffer t r = allDiffer (λ i j. sameBytes (nameAt t r i) (nameAt t r j)) (countOf t r)
 
--- "field 1 is 1 if OPTIONAL (SEQUENCE only)"
+-- OPTIONAL is for members of a SEQUENCE: "(SEQUENCE only)"
 unfoldable pub noneOptional : Table → ℕ → Bool
 noneOptional t r = every (λ i. not (optional t r i)) 0 (countOf t r)
 
@@ -96,10 +97,11 @@ goodUnwrapped t r =
     every (λ i. not (isUnwrapped t (typeAt t r i))) 0 (countOf t r)
     && allDiffer (λ i j. sameToken (tokenOf t (typeAt t r i)) (tokenOf t (typeAt t r j))) (countOf t r)
 
+-- 01, Refusal numbers: "each type by its other rules"
 unfoldable pub goodRules : Table → ℕ → Bool
 goodRules t r =
     pick (kindOf t r)
-    -- "field 2 its type row (0 for an enumeration item)"
+    -- 01, Type table: "(0 for an enumeration item)"
     (on ENUMERATED ENUMERATED (λ k. namesDiffer t r && (noneOptional t r && every (λ i. eqb (typeAt t r i) 0) 0 (countOf t r)))
     ∷ on SEQUENCE SEQUENCE (λ k. namesDiffer t r && implies (isArray t r) (goodArray t r))
     ∷ on CHOICE CHOICE (λ k. namesDiffer t r && (noneOptional t r && implies (isUnwrapped t r) (goodUnwrapped t r)))
@@ -108,6 +110,7 @@ goodRules t r =
 
 -- ---- the table
 
+-- 01, What the library handles: "House sizes: 4,096 table rows, 65,536 bytes of names"
 -- 01, Refusal numbers, 1: "0 if the table is empty, has a broken row or over 4,096, or names are too long"
 unfoldable pub goodSizes : Table → Bool
 goodSizes t = leb 1 (length (t .rows)) && (eqb (length (t .rows) % 8) 0 && (leb (length (t .rows)) (4096 * 8) && leb (length (t .names)) 65536))
@@ -120,7 +123,7 @@ orElse (some x) y = some x
 unfoldable pub pass : Table → (ℕ → Bool) → Option ℕ
 pass t good = firstWhere (λ r. not (good r)) 0 (rowCount t)
 
--- 01, Refusal numbers, 1: "first bad row"
+-- 01, Refusal numbers, 1: "first bad row"; 01, Refusal numbers: "For 1, rows are checked upwards three times"
 unfoldable pub firstBad : Table → Option ℕ
 firstBad t =
     elim (goodSizes t) [

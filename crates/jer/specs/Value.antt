@@ -3,7 +3,7 @@ use Prim.Native.Nat.{ℕ, suc}
 use mathlib.Core.List.{List}
 use mathlib.Core.Bool.{Bool}
 
--- 01, Value table: "A value is its row followed by its parts"
+-- a value of each kind, with its parts
 mutual
   pub data Val : Type 0 where
     vBool : Bool → Val

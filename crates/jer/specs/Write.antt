@@ -1,5 +1,4 @@
 -- The one text of a value.
--- 01, Writing: "No white space, members in table order, absent members left out; in an ARRAY, null for absent and all nulls at the end dropped."
 use Prim.Native.Nat.{ℕ, zero, suc, _+_, _-_, _/_, _%_, _^_}
 use mathlib.Core.List.{List, [], _∷_, _++_}
 use mathlib.Core.Bool.{Bool, true, false}
@@ -24,7 +23,7 @@ unfoldable pub digits : ℕ → ℕ → List ℕ → List ℕ
 digits zero n ds = ds
 digits (suc f) n ds = elim (ltb n 10) [ true ↦ (0x30 + n) ∷ ds | false ↦ digits f (n / 10) ((0x30 + n % 10) ∷ ds) ]
 
--- "zero as 0"
+-- 01, Writing: "zero as 0"
 unfoldable pub intText : ℕ → List ℕ
 intText n = elim (ltb n (2 ^ 63)) [ true ↦ digits 20 n [] | false ↦ 0x2D ∷ digits 20 (2 ^ 64 - n) [] ]
 
@@ -63,13 +62,13 @@ bytesText t r s =
 
 -- ---- lists of texts
 
--- with commas between
+-- with commas between: "No white space"
 unfoldable pub joined : List (List ℕ) → List ℕ
 joined [] = []
 joined (x ∷ []) = x
 joined (x ∷ y ∷ xs) = x ++ (0x2C ∷ joined (y ∷ xs))
 
--- "all nulls at the end dropped": a text before those that are left
+-- "and all nulls at the end dropped": a text before those that are left
 unfoldable pub keep : List ℕ → List (List ℕ) → List (List ℕ)
 keep x [] = elim (sameBytes x nullText) [ true ↦ [] | false ↦ x ∷ [] ]
 keep x (y ∷ ys) = x ∷ y ∷ ys
@@ -110,13 +109,13 @@ unfoldable mutual
   itemTexts vnil t r = []
   itemTexts (vcons v vs) t r = write v t r ∷ itemTexts vs t r
 
-  -- the members from the position i on, as elements of an array
+  -- the members from the position i on, as elements of an array: "in an ARRAY, null for absent"
   pub elementTexts : Parts → Table → ℕ → ℕ → List (List ℕ)
   elementTexts pnil t r i = []
   elementTexts (absent ps) t r i = nullText ∷ elementTexts ps t r (suc i)
   elementTexts (present v ps) t r i = write v t (typeAt t r i) ∷ elementTexts ps t r (suc i)
 
-  -- and as members of an object
+  -- and as members of an object: "members in table order, absent members left out"
   pub memberTexts : Parts → Table → ℕ → ℕ → List (List ℕ)
   memberTexts pnil t r i = []
   memberTexts (absent ps) t r i = memberTexts ps t r (suc i)

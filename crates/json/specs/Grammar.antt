@@ -45,7 +45,7 @@ unfoldable pub paired : ℕ → ℕ → ℕ
 paired h l = 0x10000 + (h - 0xD800) * 0x400 + (l - 0xDC00)
 
 -- the UTF-8 of a character, and the bytes that spell it
--- 01, Reading: "Lone surrogates are not JSON here."
+-- 01, Reading: "any escape may be used (27.3.3 note). Lone surrogates are not JSON here."
 pub data Char : List ℕ → List ℕ → Type 0 where
   plain : {b : ℕ} → In 0x20 0x7F b → (b ≡ 0x22 → ⊥) → (b ≡ 0x5C → ⊥) → Char (b ∷ []) (b ∷ [])
   wide : {c : List ℕ} → Wide c → Char c c
@@ -144,7 +144,7 @@ pub record Begins (d : ℕ) (bs : List ℕ) : Type 0 where
   pub tree : Json
   pub text : Text d tree (bs ++ rest)
 
--- 01, Refusal numbers, 3: "first byte after which no JSON text can begin so; the length if it ends early"
+-- 01, Refusal numbers, 3: "not JSON | first byte after which no JSON text can begin so; the length if it ends early"
 -- Before p a text of at most d open brackets can begin so; with the byte at p none can, however many brackets it opens.
 pub record NotJsonAt (d : ℕ) (bs : List ℕ) (p : ℕ) : Type 0 where
   pub inside : p ≤ length bs

@@ -184,7 +184,7 @@ pub data Step : Type 0 where
 unfoldable pub spaces : State → List (Row Step) → List (Row Step)
 spaces st rs = on 0x20 0x20 (λ b. go st) ∷ on 0x09 0x0A (λ b. go st) ∷ on 0x0D 0x0D (λ b. go st) ∷ rs
 
--- 01, Refusal numbers: "a 33rd open bracket"
+-- a bracket where no more may be opened is 4
 unfoldable pub opened : Stack → State → Step
 opened k st = elim (eqb (room k) 0) [ true ↦ bad tooDeep | false ↦ go st ]
 
@@ -254,7 +254,7 @@ pub data Parsed : Type 0 where
   tree : Json → Parsed
   refused : Fault → ℕ → Parsed
 
--- 01, Refusal numbers, 3: "the length if it ends early"
+-- a text that ends early is 3 at its length
 unfoldable pub ended : Option Json → Stack → ℕ → Parsed
 ended none k p = refused notJson p
 ended (some j) (base d) p = tree j
@@ -279,6 +279,6 @@ run p st (b ∷ bs) = elim (step p st b) [ go st′ ↦ run (suc p) st′ bs | b
 unfoldable pub parseWithin : ℕ → List ℕ → Parsed
 parseWithin d bs = run 0 (sVal (base d)) bs
 
--- 01: "32 open brackets at one time"
+-- 01, What the library handles: "32 open brackets at one time"
 unfoldable pub parse : List ℕ → Parsed
 parse bs = parseWithin 32 bs

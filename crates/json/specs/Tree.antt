@@ -6,8 +6,7 @@ use mathlib.Core.Bool.{Bool}
 
 -- Every value has its place first: its quotation mark, minus sign, digit, letter or opening bracket.
 -- A number without fraction or exponent has its minus sign and magnitude; of others the typed reading needs no more than that.
--- A string is the UTF-8 of the characters that it denotes.
--- 01, Reading: "Names and strings are compared as the characters they denote"
+-- A string is the UTF-8 of the characters that it denotes, however they were spelled.
 mutual
   pub data Json : Type 0 where
     jnull : ℕ → Json

@@ -9,6 +9,8 @@ use lib.Dec.{lit<}
 use lib.ListN.{length, take}
 use Rattle.json.specs.Tree.{Json, jnull, jint, jarr, inil, icons}
 use Rattle.json.specs.Grammar.{Text}
+use Rattle.jer.specs.declared.Cause.the-variants.{OtherKind, Missing}
+use Rattle.jer.specs.declared.Refusal.the-variants.{AtByte}
 use Rattle.jer.specs.declared.Reading.{Reading}
 use Rattle.jer.specs.declared.Reading.the-variants as reading
 use Rattle.jer.specs.Table.{Table}
@@ -16,11 +18,12 @@ use Rattle.jer.specs.Valid.{firstBad}
 use Rattle.jer.specs.Value.{Val}
 use Rattle.jer.specs.Answer.{Res, ok, no}
 use Rattle.jer.specs.Rows.{rowsOf, poolOf}
+use Rattle.jer.specs.Read.{read}
 use Rattle.jer.specs.Judge.{judge}
 use Rattle.jer.specs.Calls.{rowNumbers, roomy, readText, readAnswer}
 use Rattle.jer.specs.Moved.{number}
 use Rattle.jer.specs.Respelled.{Respelled, moved, elements, noElement, element, nullAdded}
-use Rattle.jer.specs.Samples.{ascii, refusal, outcome}
+use Rattle.jer.specs.Samples.{outcome}
 use Rattle.jer.specs.Skipped.{SameAnswer, sameValue, sameNumber, SkipAlike, SameReading, sameReading, sameRefusal}
 use Rattle.jer.specs.Contracts.{ReadCall}
 use Rattle.jer.proofs.ValidSane.{valid-sane}
@@ -118,7 +121,8 @@ two =
 
 -- Where one of two respelled texts is refused the other is, and their numbers may differ: [1] is 10 for the missing element, and [1,null],
 -- which says the same, is 5 at the null.
-pub numbers-may-differ : (outcome two (ascii "[1]") ≡ refusal 10 0 0) × (outcome two (ascii "[1,null]") ≡ refusal 5 3 0)
+pub numbers-may-differ : (read (jarr 0 (icons (jint 1 false 1) inil)) two 0 ≡ no (AtByte (Missing 1) 0))
+    × (read (jarr 0 (icons (jint 1 false 1) (icons (jnull 3) inil))) two 0 ≡ no (AtByte OtherKind 3))
     × Respelled two 0 (jarr 0 (icons (jint 1 false 1) inil)) (jarr 0 (icons (jint 1 false 1) (icons (jnull 3) inil)))
-unfolding outcome two ascii
+unfolding outcome two
 numbers-may-differ = (refl, refl, elements refl (element (moved number) (nullAdded {r = 0} {i = 1} (lit< tt) noElement)))
