@@ -1,38 +1,148 @@
 -- The first pass. Assumes nothing.
-use mathlib.Core.Path.{_≡_, refl, sym, _∙_}
+use mathlib.Core.Path.{_≡_, refl, sym, ap, _∙_}
 use mathlib.Core.Logic.{_⊎_, inl, inr}
 use mathlib.Core.List.{List}
 use mathlib.Core.Bool.{Bool, true, false, not, _&&_, _||_, and-assoc}
-use Prim.Native.Nat.{ℕ, _+_, _-_, _≤_}
+use Prim.Native.Nat.{ℕ, zero, suc, _+_, _-_, _<_, _≤_}
 use native.Mathlib.Omega.{arith}
-use borrow.Author.Tests.{not-true, not-false}
+use borrow.Author.Tests.{not-true, not-false, le-leb, lt-leb}
 use lib.Dec.{eqb, leb, ltb}
-use lib.ListN.{length}
+use lib.ListN.{length, take, drop}
 use Rattle.json.specs.Bytes.{pick}
 use Rattle.json.specs.Utf8.{utf8}
-use Rattle.jer.specs.Table.{Table, rowCount, field, kindOf, extensible, firstOf, elementOf, countOf, nameIn}
+use Rattle.jer.specs.Table.{Table, rowCount, field, kindOf, marksOf, extensible, firstOf, elementOf, countOf, rootOf, nameIn}
 use Rattle.jer.specs.Valid.{every, implies, unused, goodBlock, goodName, goodAlone}
 use Rattle.types.specs.declared.row.Row.{Row}
 use Rattle.types.specs.Rows.{rowOf}
-use Rattle.types.proofs.ByteLaws.{inside, above, other}
+use Rattle.types.specs.Bytes.{Ascii}
+use Rattle.types.specs.Sure.{NameInside}
+use Rattle.types.proofs.ByteLaws.{inside, above, other, ascii-utf8, ascii-part}
 use Rattle.types.proofs.RowLaws.{kind-of, kind-is, kind-not}
 
-abbrev pub zeroAt : Table → ℕ → ℕ → Bool
-zeroAt t r k = eqb (field t r k) 0
+-- ---- unused fields
 
-pub unused-starts : (t : Table) (r i n : ℕ) → every (zeroAt t r) i (i + n - i) ≡ unused t r i n
-unfolding unused
-unused-starts t r i n = let g : i + n - i ≡ n = omega arith in rw g
+every-and : (f : ℕ → Bool) (i n : ℕ) → every f i (suc n) ≡ (f i && every f (suc i) n)
+unfolding every
+every-and f i n = go (f i)
+  where
+    go : (b : Bool) → elim b as (λ z. Bool) [ true ↦ every f (suc i) n | false ↦ false ] ≡ (b && every f (suc i) n)
+    go true = refl
+    go false = refl
+
+every-none : (f : ℕ → Bool) (i : ℕ) → every f i 0 ≡ true
+unfolding every
+every-none f i = refl
+
+and-end : (a b c : Bool) → (a && b && c) ≡ (a && (b && (c && true)))
+and-end true true true = refl
+and-end true true false = refl
+and-end true false c = refl
+and-end false b c = refl
+
+and-two : (a b : Bool) → (a && b) ≡ (a && (b && true))
+and-two true true = refl
+and-two true false = refl
+and-two false b = refl
+
+and-one : (a : Bool) → a ≡ (a && true)
+and-one true = refl
+and-one false = refl
+
+module _ (t : Table) (r : ℕ) where
+  pub unused-end : (eqb (field t r 5) 0 && eqb (field t r 6) 0 && eqb (field t r 7) 0) ≡ unused t r 5 3
+  unfolding unused
+  unused-end =
+      rw (every-and (λ k. eqb (field t r k) 0) 5 2, every-and (λ k. eqb (field t r k) 0) 6 1, every-and (λ k. eqb (field t r k) 0) 7 0, every-none (λ k. eqb (field t r k) 0) 8)
+      (and-end (eqb (field t r 5) 0) (eqb (field t r 6) 0) (eqb (field t r 7) 0))
+
+  module _ {w : Row} (e : w ≡ rowOf t r) where
+    pub unused-bare : (eqb (w .first) 0 && eqb (w .members) 0 && eqb (w .root) 0) ≡ unused t r 2 3
+    unfolding unused firstOf countOf rootOf
+    unused-bare =
+        rw e
+        (rw (every-and (λ k. eqb (field t r k) 0) 2 2, every-and (λ k. eqb (field t r k) 0) 3 1, every-and (λ k. eqb (field t r k) 0) 4 0, every-none (λ k. eqb (field t r k) 0) 5)
+        (and-end (eqb (field t r 2) 0) (eqb (field t r 3) 0) (eqb (field t r 4) 0)))
+
+    pub unused-all : {b : Bool} → b ≡ unused t r 2 3 → (eqb (w .marks) 0 && b) ≡ unused t r 1 4
+    unfolding unused marksOf
+    unused-all p = rw (e, p) (sym (every-and (λ k. eqb (field t r k) 0) 1 3))
+
+    pub unused-marks : eqb (w .marks) 0 ≡ unused t r 1 1
+    unfolding unused marksOf
+    unused-marks =
+        rw (e, every-and (λ k. eqb (field t r k) 0) 1 0, every-none (λ k. eqb (field t r k) 0) 2)
+        (and-one (eqb (field t r 1) 0))
+
+    pub unused-counts : (eqb (w .members) 0 && eqb (w .root) 0) ≡ unused t r 3 2
+    unfolding unused countOf rootOf
+    unused-counts =
+        rw e
+        (rw (every-and (λ k. eqb (field t r k) 0) 3 1, every-and (λ k. eqb (field t r k) 0) 4 0, every-none (λ k. eqb (field t r k) 0) 5)
+        (and-two (eqb (field t r 3) 0) (eqb (field t r 4) 0)))
+
+-- ---- blocks and names
 
 pub good-block : (t : Table) (r least : ℕ) {w : Row} {a b n : ℕ} {x : Bool} → w ≡ rowOf t r → a ≡ w .first → b ≡ w .members → n ≡ rowCount t → x ≡ extensible t r
     → ((leb least (w .members) && leb (w .members) 64) && leb (a + b) n && (leb least (w .root) && leb (w .root) (w .members)) && (x || eqb (w .root) (w .members))) ≡ goodBlock t r least
 unfolding goodBlock
 good-block t r least e p q u v = rw (p, q, e, u, v) (simp and-assoc)
 
-pub good-name : (t : Table) (m : ℕ) {f g a b : ℕ} {s : List ℕ} {u : Bool} → f ≡ field t m 3 → g ≡ field t m 4 → a ≡ f → b ≡ g → s ≡ nameIn t m → u ≡ utf8 s
-    → (leb 1 b && leb b 128 && leb (a + b) (length (t .names)) && u) ≡ goodName t m
-unfolding goodName
-good-name t m p q a b n u = rw (u, n, a, b, p, q) (simp and-assoc)
+-- the name in the row m, from a and of b bytes
+module _ (t : Table) (m : ℕ) {w : Row} {a b : ℕ} (e : w ≡ rowOf t m) (p : a ≡ w .members) (q : b ≡ w .root) where
+  name-start : a ≡ field t m 3
+  unfolding countOf
+  name-start = p ∙ ap (λ (x : Row). x .members) e
+
+  name-size : b ≡ field t m 4
+  unfolding rootOf
+  name-size = q ∙ ap (λ (x : Row). x .root) e
+
+  pub name-room : NameInside t m → a + b ≤ length (t .names)
+  name-room h = omega (arith, name-start, name-size)
+
+  pub name-told : (s : List ℕ) → s ≡ take (a + b - a) (drop a (t .names)) → s ≡ nameIn t m
+  unfolding nameIn
+  name-told s h = let g : a + b - a ≡ b = omega arith in h ∙ rw (g, name-start, name-size)
+
+  pub name-empty : b ≡ 0 → false ≡ goodName t m
+  unfolding goodName
+  name-empty h = rw (sym name-size ∙ h)
+
+  module _ (h₀ : b ≡ 0 → ⊥) where
+    l₀ : leb 1 (field t m 4) ≡ true
+    l₀ = rw (sym name-size) (le-leb 1 b (go b h₀))
+      where
+        go : (n : ℕ) → (n ≡ 0 → ⊥) → 1 ≤ n
+        go zero h = absurd (h refl)
+        go (suc n) h = omega arith
+
+    pub name-long : 128 < b → false ≡ goodName t m
+    unfolding goodName
+    name-long h = rw (l₀, lt-leb (field t m 4) 128 (omega (arith, name-size)))
+
+    module _ (h₁ : b ≤ 128) where
+      l₁ : leb (field t m 4) 128 ≡ true
+      l₁ = le-leb (field t m 4) 128 (omega (arith, name-size))
+
+      pub name-out : length (t .names) < a + b → false ≡ goodName t m
+      unfolding goodName
+      name-out h = rw (l₀, l₁, lt-leb (field t m 3 + field t m 4) (length (t .names)) (omega (arith, name-size, name-start)))
+
+      module _ (h₂ : a + b ≤ length (t .names)) where
+        l₂ : leb (field t m 3 + field t m 4) (length (t .names)) ≡ true
+        l₂ = le-leb (field t m 3 + field t m 4) (length (t .names)) (omega (arith, name-size, name-start))
+
+        pub name-ascii : Ascii (t .names) → true ≡ goodName t m
+        unfolding goodName nameIn utf8
+        name-ascii f =
+            rw (l₀, l₁, l₂)
+            (sym (ascii-utf8 (take (field t m 4) (drop (field t m 3) (t .names))) (ascii-part (t .names) (field t m 3) (field t m 4) (omega (arith, name-size, name-start)) f)))
+
+        pub name-utf8 : (s : List ℕ) {u : Bool} → s ≡ take (a + b - a) (drop a (t .names)) → u ≡ utf8 s → u ≡ goodName t m
+        unfolding goodName
+        name-utf8 s g v = v ∙ rw (l₀, l₁, l₂) (ap utf8 (name-told s g))
+
+-- ---- rows by their kinds
 
 implies-or : (a b : Bool) → (not a || b) ≡ implies a b
 unfolding implies

@@ -3,8 +3,9 @@ use mathlib.Core.Path.{_≡_, sym, ap, _∙_}
 use mathlib.Core.List.{List}
 use mathlib.Core.Bool.{Bool, _&&_, _||_}
 use Prim.Native.Nat.{ℕ, _+_, _*_, _≤_}
+use native.Mathlib.Omega.{arith}
 use lib.Dec.{eqb, leb}
-use lib.ListN.{length, take, drop, List·getD-eq-default}
+use lib.ListN.{length, getD, take, drop, List·getD-eq-default}
 use Rattle.jer.specs.Table.{Table, field, kindOf, marksOf, formMark, firstOf, countOf, rootOf, memberRow, optional, addition, mayMiss, nameIn}
 use Rattle.types.specs.declared.row.Row.{Row}
 use Rattle.types.specs.Rows.{table, rowOf}
@@ -13,6 +14,10 @@ use Rattle.types.specs.Rows.{table, rowOf}
 pub field-out : (rows ns : List ℕ) (r i : ℕ) → length rows ≤ r * 8 + i → 0 ≡ field (table rows ns) r i
 unfolding field
 field-out rows ns r i h = sym (List·getD-eq-default rows 0 h)
+
+pub field-zero : (rows ns : List ℕ) (r : ℕ) → getD rows (r * 8) 0 ≡ field (table rows ns) r 0
+unfolding field
+field-zero rows ns r = let e : r * 8 + 0 ≡ r * 8 = omega arith in rw e
 
 -- a row by its fields
 module _ (rows ns : List ℕ) (r : ℕ) where

@@ -2,7 +2,8 @@
 use crate::bytes::part;
 ghost use mathlib.Core.Path.{_≡_};
 ghost use mathlib.Core.List.{List};
-ghost use Prim.Native.Nat.{ℕ, _<_};
+ghost use Prim.Native.Nat.{ℕ, _<_, _/_};
+ghost use lib.ListN.{length};
 ghost use Rattle.jer.specs.Table.{Table, rowCount, field, isType, formMark, extensible, isBase64, isArray, isUnwrapped, memberRow, optional, typeAt, nameIn, mayMiss};
 ghost use Rattle.types.specs.Rows.{table, rowOf};
 
@@ -129,6 +130,21 @@ impl Row {
         ensures { λ b. ⌜ ((t : Table) (r i : ℕ) → self ≡ rowOf t (memberRow t r i) → b ≡ optional t r i) ⌝ }
     {
         self.marks == Row::OPTIONAL
+    }
+}
+
+// Row r, which is inside: its fields are read without a test for each.
+pub fn row_in(rows: &[u32], r: usize) -> Row
+    requires { ⌜ r < length (now rows) / 8 ⌝ }
+    ensures { λ w. ⌜ ((ns : List ℕ) → w ≡ rowOf (table (now (rows .entry)) ns) r) ⌝ }
+{
+    let k = r * 8;
+    Row {
+        kind: rows[k],
+        marks: rows[k + 1],
+        first: rows[k + 2],
+        members: rows[k + 3],
+        root: rows[k + 4],
     }
 }
 
