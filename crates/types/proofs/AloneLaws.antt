@@ -5,13 +5,13 @@ use mathlib.Core.List.{List}
 use mathlib.Core.Bool.{Bool, true, false, not, _&&_, _||_, and-assoc}
 use Prim.Native.Nat.{ℕ, zero, suc, _+_, _-_, _<_, _≤_}
 use native.Mathlib.Omega.{arith}
-use borrow.Author.Tests.{not-true, not-false, le-leb, lt-leb}
+use borrow.Author.Tests.{not-true, not-false, leb-true, leb-false, le-leb, lt-leb}
 use lib.Dec.{eqb, leb, ltb}
 use lib.ListN.{length, take, drop}
 use Rattle.json.specs.Bytes.{pick}
 use Rattle.json.specs.Utf8.{utf8}
 use Rattle.jer.specs.Table.{Table, rowCount, field, kindOf, marksOf, extensible, firstOf, elementOf, countOf, rootOf, nameIn}
-use Rattle.jer.specs.Valid.{every, implies, unused, goodBlock, goodName, goodAlone}
+use Rattle.jer.specs.Valid.{every, implies, unused, goodBlock, goodName, goodMarks, goodAlone}
 use Rattle.types.specs.declared.row.Row.{Row}
 use Rattle.types.specs.Rows.{rowOf}
 use Rattle.types.specs.Bytes.{Ascii}
@@ -44,10 +44,6 @@ and-two true true = refl
 and-two true false = refl
 and-two false b = refl
 
-and-one : (a : Bool) → a ≡ (a && true)
-and-one true = refl
-and-one false = refl
-
 module _ (t : Table) (r : ℕ) where
   pub unused-end : (eqb (field t r 5) 0 && eqb (field t r 6) 0 && eqb (field t r 7) 0) ≡ unused t r 5 3
   unfolding unused
@@ -62,16 +58,6 @@ module _ (t : Table) (r : ℕ) where
         rw e
         (rw (every-and (λ k. eqb (field t r k) 0) 2 2, every-and (λ k. eqb (field t r k) 0) 3 1, every-and (λ k. eqb (field t r k) 0) 4 0, every-none (λ k. eqb (field t r k) 0) 5)
         (and-end (eqb (field t r 2) 0) (eqb (field t r 3) 0) (eqb (field t r 4) 0)))
-
-    pub unused-all : {b : Bool} → b ≡ unused t r 2 3 → (eqb (w .marks) 0 && b) ≡ unused t r 1 4
-    unfolding unused marksOf
-    unused-all p = rw (e, p) (sym (every-and (λ k. eqb (field t r k) 0) 1 3))
-
-    pub unused-marks : eqb (w .marks) 0 ≡ unused t r 1 1
-    unfolding unused marksOf
-    unused-marks =
-        rw (e, every-and (λ k. eqb (field t r k) 0) 1 0, every-none (λ k. eqb (field t r k) 0) 2)
-        (and-one (eqb (field t r 1) 0))
 
     pub unused-counts : (eqb (w .members) 0 && eqb (w .root) 0) ≡ unused t r 3 2
     unfolding unused countOf rootOf
@@ -149,58 +135,64 @@ unfolding implies
 implies-or true b = refl
 implies-or false b = refl
 
--- a row by its kind, its unused last fields told
+-- before its kind is asked: its last fields are 0, and its marks are its kind's
+pub record Clean (t : Table) (r : ℕ) : Type 0 where
+  pub spare : unused t r 5 3 ≡ true
+  pub marks : goodMarks t r ≡ true
+
 module _ (t : Table) (r : ℕ) {z : Bool} (o : z ≡ unused t r 5 3) where
   pub alone-used : not z ≡ true → false ≡ goodAlone t r
   unfolding goodAlone
   alone-used h = rw (sym o ∙ not-true z h)
 
-  module _ (g : not z ≡ false) where
-    h : unused t r 5 3 ≡ true
-    h = sym o ∙ not-false z g
+  module _ (g : not z ≡ false) {m : Bool} (n : m ≡ goodMarks t r) where
+    pub alone-marked : not m ≡ true → false ≡ goodAlone t r
+    unfolding goodAlone
+    alone-marked f = rw (sym o ∙ not-false z g, sym n ∙ not-true m f)
 
-    module _ {u : Bool} (p : u ≡ unused t r 1 4) where
-      pub alone-first : kindOf t r ≤ 1 → u ≡ goodAlone t r
-      unfolding goodAlone pick
-      alone-first k = p ∙ rw (h, inside (kindOf t r) 0 1 (omega arith) k, pick)
+    pub clean : not m ≡ false → Clean t r
+    clean f = record { spare = sym o ∙ not-false z g; marks = sym n ∙ not-false m f }
 
-      pub alone-null : kindOf t r ≡ 3 → u ≡ goodAlone t r
-      unfolding goodAlone pick
-      alone-null k = p ∙ rw (h, k)
+-- a row by its kind
+module _ (t : Table) (r : ℕ) (c : Clean t r) where
+  alone-first : kindOf t r ≤ 1 → unused t r 2 3 ≡ goodAlone t r
+  unfolding goodAlone pick
+  alone-first k = rw (c .spare, c .marks, inside (kindOf t r) 0 1 (omega arith) k, pick)
 
-      pub alone-utf8 : kindOf t r ≡ 5 → u ≡ goodAlone t r
-      unfolding goodAlone pick
-      alone-utf8 k = p ∙ rw (h, k)
+  alone-second : 3 ≤ kindOf t r → kindOf t r ≤ 5 → unused t r 2 3 ≡ goodAlone t r
+  unfolding goodAlone pick
+  alone-second i j = rw (c .spare, c .marks, above (kindOf t r) 0 1 (omega arith), above (kindOf t r) 2 2 i, inside (kindOf t r) 3 5 i j, pick)
 
-    module _ {w : Row} (e : w ≡ rowOf t r) where
-      pub alone-enumerated : {b : Bool} → w .kind ≡ 2 → b ≡ goodBlock t r 1 → ((eqb (w .marks) 0 || eqb (w .marks) 2) && b) ≡ goodAlone t r
-      unfolding goodAlone pick
-      alone-enumerated k p = rw (h, kind-is t r e k) (rw (e, p))
+  module _ {w : Row} (e : w ≡ rowOf t r) where
+    pub alone-block : {b : Bool} → (w .kind ≡ 2) ⊎ (w .kind ≡ 8) → b ≡ goodBlock t r 1 → b ≡ goodAlone t r
+    unfolding goodAlone pick
+    alone-block (inl k) p = p ∙ rw (c .spare, c .marks, kind-is t r e k)
+    alone-block (inr k) p = p ∙ rw (c .spare, c .marks, kind-is t r e k)
 
-      pub alone-octets : {u : Bool} → w .kind ≡ 4 → u ≡ unused t r 2 3 → (leb (w .marks) 1 && u) ≡ goodAlone t r
-      unfolding goodAlone pick
-      alone-octets k p = rw (h, kind-is t r e k) (rw (e, p))
+    pub alone-sequence : {b : Bool} → w .kind ≡ 6 → b ≡ goodBlock t r 0 → (b && (not (eqb (w .members) 0) || eqb (w .first) 0)) ≡ goodAlone t r
+    unfolding goodAlone pick
+    alone-sequence k p = rw (c .spare, c .marks, kind-is t r e k) (rw (e, p, implies-or (eqb (countOf t r) 0) (eqb (firstOf t r) 0)))
 
-      pub alone-sequence : {b : Bool} → w .kind ≡ 6 → b ≡ goodBlock t r 0 → (leb (w .marks) 3 && b && (not (eqb (w .members) 0) || eqb (w .first) 0)) ≡ goodAlone t r
-      unfolding goodAlone pick
-      alone-sequence k p = rw (h, kind-is t r e k) (rw (e, p, implies-or (eqb (countOf t r) 0) (eqb (firstOf t r) 0)) (simp and-assoc))
+    pub alone-sequence-of : {v : Bool} {a n : ℕ} → w .kind ≡ 7 → a ≡ w .first → n ≡ rowCount t → v ≡ unused t r 3 2 → (ltb a n && v) ≡ goodAlone t r
+    unfolding goodAlone pick elementOf firstOf
+    alone-sequence-of k a n q = rw (c .spare, c .marks, kind-is t r e k) (rw (a, e, n, q))
 
-      pub alone-sequence-of : {u v : Bool} {a n : ℕ} → w .kind ≡ 7 → u ≡ unused t r 1 1 → a ≡ w .first → n ≡ rowCount t → v ≡ unused t r 3 2
-          → (u && ltb a n && v) ≡ goodAlone t r
-      unfolding goodAlone pick elementOf firstOf
-      alone-sequence-of k p a n q = rw (h, kind-is t r e k) (rw (a, e, p, n, q) (simp and-assoc))
+    pub alone-member : {b : Bool} {a n : ℕ} → w .kind ≡ 9 → a ≡ w .first → n ≡ rowCount t → b ≡ goodName t r → (not (eqb r 0) && ltb a n && b) ≡ goodAlone t r
+    unfolding goodAlone pick firstOf
+    alone-member k a n p = rw (c .spare, c .marks, kind-is t r e k) (rw (a, e, n, p) (simp and-assoc))
 
-      pub alone-choice : {b : Bool} → w .kind ≡ 8 → b ≡ goodBlock t r 1 → (leb (w .marks) 3 && b) ≡ goodAlone t r
-      unfolding goodAlone pick
-      alone-choice k p = rw (h, kind-is t r e k) (rw (e, p))
+    pub alone-leaf : {u : Bool} → w .kind < 6 → (w .kind ≡ 2 → ⊥) → u ≡ unused t r 2 3 → u ≡ goodAlone t r
+    alone-leaf i n p = p ∙ go (leb (kindOf t r) 1) refl
+      where
+        k : w .kind ≡ kindOf t r
+        k = kind-of t r e
 
-      pub alone-member : {b : Bool} {a n : ℕ} → w .kind ≡ 9 → a ≡ w .first → n ≡ rowCount t → b ≡ goodName t r
-          → (not (eqb r 0) && leb (w .marks) 1 && ltb a n && b) ≡ goodAlone t r
-      unfolding goodAlone pick firstOf
-      alone-member k a n p = rw (h, kind-is t r e k) (rw (a, e, n, p) (simp and-assoc))
+        go : (b : Bool) → leb (kindOf t r) 1 ≡ b → unused t r 2 3 ≡ goodAlone t r
+        go true h = alone-first (leb-true (kindOf t r) 1 h)
+        go false h = let l = leb-false (kindOf t r) 1 h in let q = kind-not t r e 2 n in alone-second (omega arith) (omega (arith, k))
 
-      pub alone-other : 2 ≤ w .kind → ((w .kind ≡ 3) ⊎ (w .kind ≡ 5) → ⊥) → (w .kind ≡ 2 → ⊥) → (w .kind ≡ 4 → ⊥) → (w .kind ≡ 6 → ⊥) → (w .kind ≡ 7 → ⊥) → (w .kind ≡ 8 → ⊥)
-          → (w .kind ≡ 9 → ⊥) → false ≡ goodAlone t r
-      unfolding goodAlone pick
-      alone-other l n₃₅ n₂ n₄ n₆ n₇ n₈ n₉ =
-          rw (h, above (kindOf t r) 0 1 (omega (arith, kind-of t r e)), other (kindOf t r) 2 (kind-not t r e 2 n₂), other (kindOf t r) 3 (kind-not t r e 3 (λ q. n₃₅ (inl q))), other (kindOf t r) 4 (kind-not t r e 4 n₄), other (kindOf t r) 5 (kind-not t r e 5 (λ q. n₃₅ (inr q))), other (kindOf t r) 6 (kind-not t r e 6 n₆), other (kindOf t r) 7 (kind-not t r e 7 n₇), other (kindOf t r) 8 (kind-not t r e 8 n₈), other (kindOf t r) 9 (kind-not t r e 9 n₉), pick)
+    pub alone-other : 6 ≤ w .kind → (w .kind ≡ 6 → ⊥) → (w .kind ≡ 7 → ⊥) → (w .kind ≡ 8 → ⊥) → (w .kind ≡ 9 → ⊥) → false ≡ goodAlone t r
+    unfolding goodAlone pick
+    alone-other i n₆ n₇ n₈ n₉ =
+        let k = kind-of t r e in
+        rw (c .spare, c .marks, above (kindOf t r) 0 1 (omega arith), above (kindOf t r) 2 2 (omega arith), above (kindOf t r) 3 5 (omega arith), other (kindOf t r) 6 (kind-not t r e 6 n₆), other (kindOf t r) 7 (kind-not t r e 7 n₇), other (kindOf t r) 8 (kind-not t r e 8 n₈), other (kindOf t r) 9 (kind-not t r e 9 n₉), pick)

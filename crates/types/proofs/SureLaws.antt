@@ -11,7 +11,7 @@ use lib.ListN.{length, getD}
 use Rattle.json.specs.Bytes.{pick}
 use Rattle.json.specs.Utf8.{utf8}
 use Rattle.jer.specs.Table.{Table, rowCount, field, isType, kindOf, marksOf, extensible, firstOf, elementOf, countOf, rootOf, nameIn}
-use Rattle.jer.specs.Valid.{implies, unused, goodBlock, goodName, goodAlone}
+use Rattle.jer.specs.Valid.{implies, unused, goodBlock, goodName, goodMarks, goodAlone}
 use Rattle.types.specs.declared.row.Row.{Row}
 use Rattle.types.specs.Rows.{table, rowOf}
 use Rattle.types.specs.Sure.{NameInside, BlockInside, Fits}
@@ -86,27 +86,27 @@ block-inside t r least h =
 module _ (t : Table) (r : ℕ) {w : Row} (e : w ≡ rowOf t r) (h : goodAlone t r ≡ true) where
   pub block-room : (w .kind ≡ 2) ⊎ ((w .kind ≡ 6) ⊎ (w .kind ≡ 8)) → BlockInside t r
   unfolding goodAlone pick
-  block-room (inl k) = block-inside t r 1 (and-three (unused t r 5 3) (eqb (marksOf t r) 0 || eqb (marksOf t r) 2) (goodBlock t r 1) (rw (kind-is t r e k) at h))
+  block-room (inl k) = block-inside t r 1 (and-three (unused t r 5 3) (goodMarks t r) (goodBlock t r 1) (rw (kind-is t r e k) at h))
   block-room (inr (inl k)) =
-      block-inside t r 0 (and-four (unused t r 5 3) (leb (marksOf t r) 3) (goodBlock t r 0) (implies (eqb (countOf t r) 0) (eqb (firstOf t r) 0)) (rw (kind-is t r e k) at h) .0)
-  block-room (inr (inr k)) = block-inside t r 1 (and-three (unused t r 5 3) (leb (marksOf t r) 3) (goodBlock t r 1) (rw (kind-is t r e k) at h))
+      block-inside t r 0 (and-four (unused t r 5 3) (goodMarks t r) (goodBlock t r 0) (implies (eqb (countOf t r) 0) (eqb (firstOf t r) 0)) (rw (kind-is t r e k) at h) .0)
+  block-room (inr (inr k)) = block-inside t r 1 (and-three (unused t r 5 3) (goodMarks t r) (goodBlock t r 1) (rw (kind-is t r e k) at h))
 
   pub points-room : {a : ℕ} → (w .kind ≡ 7) ⊎ (w .kind ≡ 9) → a ≡ w .first → a < length (t .rows) / 8
   unfolding goodAlone pick elementOf firstOf rowCount
   points-room {a = a} (inl k) p =
       let q : a ≡ field t r 2 = p ∙ ap (λ (x : Row). x .first) e in
-      let l = ltb-true (field t r 2) (length (t .rows) / 8) (and-four (unused t r 5 3) (unused t r 1 1) (ltb (field t r 2) (length (t .rows) / 8)) (unused t r 3 2) (rw (kind-is t r e k) at h) .0) in
+      let l = ltb-true (field t r 2) (length (t .rows) / 8) (and-four (unused t r 5 3) (goodMarks t r) (ltb (field t r 2) (length (t .rows) / 8)) (unused t r 3 2) (rw (kind-is t r e k) at h) .0) in
       omega arith
   points-room {a = a} (inr k) p =
       let q : a ≡ field t r 2 = p ∙ ap (λ (x : Row). x .first) e in
-      let g = and-four (unused t r 5 3) (not (eqb r 0)) (leb (marksOf t r) 1) (ltb (field t r 2) (length (t .rows) / 8) && goodName t r) (rw (kind-is t r e k) at h) .1 in
+      let g = and-four (unused t r 5 3) (goodMarks t r) (not (eqb r 0)) (ltb (field t r 2) (length (t .rows) / 8) && goodName t r) (rw (kind-is t r e k) at h) .1 in
       let l = ltb-true (field t r 2) (length (t .rows) / 8) (and-both (ltb (field t r 2) (length (t .rows) / 8)) (goodName t r) g .0) in
       omega arith
 
 member-named : (t : Table) (m : ℕ) → goodAlone t m ≡ true → kindOf t m ≡ 9 → goodName t m ≡ true
 unfolding goodAlone pick
 member-named t m h k =
-    let g = and-four (unused t m 5 3) (not (eqb m 0)) (leb (marksOf t m) 1) (ltb (field t m 2) (rowCount t) && goodName t m) (rw k at h) .1 in
+    let g = and-four (unused t m 5 3) (goodMarks t m) (not (eqb m 0)) (ltb (field t m 2) (rowCount t) && goodName t m) (rw k at h) .1 in
     and-both (ltb (field t m 2) (rowCount t)) (goodName t m) g .1
 
 pub alone-name : (t : Table) (m : ℕ) → goodAlone t m ≡ true → kindOf t m ≡ 9 → (1 ≤ field t m 4) × NameInside t m

@@ -73,25 +73,19 @@ pub fn good_alone(rows: &[u32], names: &[u8], ascii: bool, r: usize) -> bool
         return false;
     }
     let row = row_in(rows, r);
+    if !row.good_marks() {
+        return false;
+    }
     let count = row_count(rows);
     let kind = row.kind;
     match kind {
-        Row::BOOLEAN | Row::INTEGER | Row::NULL | Row::UTF8_STRING => (row.marks == 0) & bare(row),
-        Row::ENUMERATED => ((row.marks == 0) | (row.marks == Row::EXTENSIBLE))
-            & block(row, count, 1),
-        Row::OCTET_STRING => (row.marks <= Row::FORM) & bare(row),
-        Row::SEQUENCE => {
-            let marks = row.marks <= Row::FORM + Row::EXTENSIBLE;
-            marks & block(row, count, 0) & ((row.members != 0) | (row.first == 0))
-        }
-        Row::SEQUENCE_OF => {
-            let element = wide(row.first) < count;
-            (row.marks == 0) & element & ((row.members == 0) & (row.root == 0))
-        }
-        Row::CHOICE => (row.marks <= Row::FORM + Row::EXTENSIBLE) & block(row, count, 1),
+        Row::BOOLEAN | Row::INTEGER | Row::NULL | Row::OCTET_STRING | Row::UTF8_STRING => bare(row),
+        Row::ENUMERATED | Row::CHOICE => block(row, count, 1),
+        Row::SEQUENCE => block(row, count, 0) & ((row.members != 0) | (row.first == 0)),
+        Row::SEQUENCE_OF => (wide(row.first) < count) & ((row.members == 0) & (row.root == 0)),
         Row::MEMBER => {
             let inside = wide(row.first) < count;
-            (r != 0) & (row.marks <= Row::OPTIONAL) & inside & good_name(rows, names, ascii, r)
+            (r != 0) & inside & good_name(rows, names, ascii, r)
         }
         _ => false,
     }

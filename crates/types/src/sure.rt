@@ -19,7 +19,7 @@ ghost use Rattle.types.specs.Sure.{Alone, BlockInside, signOf, NameInsid
 const ANY: u32 = 4294967295;
 
 // The row r is a type's.
-fn type_in(rows: &[u32], r: usize) -> bool
+fn holds_type(rows: &[u32], r: usize) -> bool
     requires { ⌜ r < length (now rows) / 8 ⌝ }
     ensures { λ b. ⌜ ((ns : List ℕ) → b ≡ isType (table (now (rows .entry)) ns) r) ⌝ }
 {
@@ -125,7 +125,7 @@ fn sure_links(rows: &[u32], names: &[u8], r: usize) -> bool
     let row = row_in(rows, r);
     let kind = row.kind;
     match kind {
-        Row::SEQUENCE_OF | Row::MEMBER => type_in(rows, wide(row.first)),
+        Row::SEQUENCE_OF | Row::MEMBER => holds_type(rows, wide(row.first)),
         Row::ENUMERATED => sure_members(rows, names, r, 0, 0),
         Row::SEQUENCE => {
             if !sure_members(rows, names, r, 1, ANY) {

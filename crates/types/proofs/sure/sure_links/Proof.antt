@@ -13,8 +13,8 @@ row-in-requires c κs = search needs
 wide-requires : tie.Need-wide-requires
 wide-requires c κs = search needs
 
-type-in-requires : tie.Need-type-in-requires
-type-in-requires c κs =
+holds-type-requires : tie.Need-holds-type-requires
+holds-type-requires c κs =
     let a = c .before .before .before .before .before .args in
     let ns = a .names .now in
     let t = table (a .rows .now) ns in
@@ -78,7 +78,7 @@ returns-5 c =
     let a = c .before .before .before .before .before .before .args in
     let ns = a .names .now in
     let t = table (a .rows .now) ns in
-    λ q. links-type t (a .r) (c .before .before .before .row-in .ensures ns) (c .before .before .match .keys1) (c .before .wide .ensures .0) (c .type-in .ensures ns) q
+    λ q. links-type t (a .r) (c .before .before .before .row-in .ensures ns) (c .before .before .match .keys1) (c .before .wide .ensures .0) (c .holds-type .ensures ns) q
 
 returns-6 : tie.Need-returns-6
 returns-6 c =
@@ -115,7 +115,7 @@ sure-links-spec =
     (tie.spec
     row-in-requires
     wide-requires
-    type-in-requires
+    holds-type-requires
     sure-members-requires
     sure-members-requires-2
     returns

@@ -1,7 +1,7 @@
 use Rattle.types.proofs.SureLaws.{type-told}
 use borrow.Author.Needs.{needs}
-use Rattle.types.proofs.sure.type_in.Statement.{statement}
-use Rattle.types.proofs.sure.type_in.Tie as tie
+use Rattle.types.proofs.sure.holds_type.Statement.{statement}
+use Rattle.types.proofs.sure.holds_type.Tie as tie
 
 mul-result : tie.Need-mul-result
 mul-result c = search needs
@@ -17,8 +17,8 @@ returns c =
     let a = c .before .args in
     λ ns. type-told (a .rows .now) ns (a .r)
 
-pub type-in-spec : {M : Type 1} → statement M
-type-in-spec =
+pub holds-type-spec : {M : Type 1} → statement M
+holds-type-spec =
     tie.close
     (tie.spec
     mul-result
