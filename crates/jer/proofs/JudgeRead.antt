@@ -12,7 +12,7 @@ use Rattle.json.specs.Utf8.{utf8}
 use Rattle.json.specs.Grammar.{Value, literalNull, literalTrue, literalFalse, whole, real, string, noElements, noMembers, members, Padded, padded, Elements, lastElement, moreElements, Named, lastMember, moreMembers}
 use Rattle.json.specs.Grammar as grammar
 use Rattle.json.proofs.SoundRows.{pick-within, only, _⨾_}
-use Rattle.jer.specs.Table.{Table, BOOLEAN, INTEGER, ENUMERATED, NULL, OCTET-STRING, SEQUENCE, SEQUENCE-OF, CHOICE, kindOf, formMark, extensible, isBase64, isArray, isUnwrapped, elementOf, countOf, typeAt, nameAt, mayMiss, sameBytes, position, Token, tNull, tBoolean, tNumber, tString, tArray, tObject, tokenPick, tokenOf, alternative, isSome, openUnwrapped}
+use Rattle.jer.specs.Table.{Table, BOOLEAN, INTEGER, ENUMERATED, NULL, OCTET-STRING, SEQUENCE, SEQUENCE-OF, CHOICE, kindOf, extensible, isBase64, isArray, isUnwrapped, elementOf, countOf, typeAt, nameAt, mayMiss, sameBytes, position, Token, tNull, tBoolean, tNumber, tString, tArray, tObject, tokenPick, tokenOf, alternative, isSome, openUnwrapped}
 use Rattle.jer.specs.Value.{Val, vNull, vChoice, Parts}
 use Rattle.jer.specs.declared.Cause.the-variants.{UnknownName, RepeatedName}
 use Rattle.jer.specs.Answer.{Res, ok, no, bind, at}
@@ -90,7 +90,7 @@ pub null-kind : (t : Table) (r : ℕ) → tokenOf t r ≡ tNull → kindOf t r �
 unfolding tokenOf tokenPick
 null-kind t r =
     pick-within (λ k. k ≡ tNull → kindOf t r ≡ NULL) (kindOf t r) _ tObject
-    ((λ i e. cc) ⨾ (λ i e. cc) ⨾ (λ i e. cc) ⨾ (λ i e. only i) ⨾ (λ i e. cc) ⨾ (λ i. go (formMark t r)) ⨾ (λ i e. cc) ⨾ tt)
+    ((λ i e. cc) ⨾ (λ i e. cc) ⨾ (λ i e. cc) ⨾ (λ i e. only i) ⨾ (λ i e. cc) ⨾ (λ i. go (isArray t r)) ⨾ (λ i e. cc) ⨾ tt)
     (λ e. cc)
   where
     go : (c : Bool) → tokenPick c tArray tObject ≡ tNull → kindOf t r ≡ NULL

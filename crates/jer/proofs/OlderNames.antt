@@ -7,7 +7,7 @@ use mathlib.Core.Bool.{Bool, true, false, _&&_, _||_}
 use mathlib.Core.Option.{Option, none, some}
 use native.Mathlib.Omega.{arith}
 use lib.Dec.{eqb}
-use Rattle.jer.specs.Table.{Table, NULL, kindOf, formMark, extensible, isBase64, isArray, isUnwrapped, countOf, addition, mayMiss, firstWhere, position, Token, tNull, tokenOf, alternative, isSome, canBeNull, openUnwrapped, nullTaken}
+use Rattle.jer.specs.Table.{Table, NULL, kindOf, BASE64, ARRAY, UNWRAPPED, EXTENSIBLE, marked, extensible, isBase64, isArray, isUnwrapped, countOf, addition, mayMiss, firstWhere, position, Token, tNull, tokenOf, alternative, isSome, canBeNull, openUnwrapped, nullTaken}
 use Rattle.jer.specs.Cut.{ByAdditions}
 
 -- What a search finds among all n members of the newer type, and the same search among the m of the older one.
@@ -48,29 +48,29 @@ found-null false true grows (added l u) h = rw (h (omega arith))
 found-null false false grows (added l u) h = refl
 
 module _ {new old : Table} {R : ℕ → ℕ → Type 0} (pair : ByAdditions new old R) {a b : ℕ} (r : R a b) where
-  pub form-same : formMark new a ≡ formMark old b
-  unfolding formMark
-  form-same = rw (pair .marks a b r)
+  pub marked-same : (mark : ℕ) → marked new a mark ≡ marked old b mark
+  unfolding marked
+  marked-same mark = rw (pair .marks a b r)
 
   pub extensible-same : extensible new a ≡ extensible old b
   unfolding extensible
-  extensible-same = rw (pair .marks a b r)
+  extensible-same = marked-same EXTENSIBLE
 
   pub base64-same : isBase64 new a ≡ isBase64 old b
   unfolding isBase64
-  base64-same = rw (pair .kinds a b r, form-same)
+  base64-same = rw (pair .kinds a b r, marked-same BASE64)
 
   pub array-same : isArray new a ≡ isArray old b
   unfolding isArray
-  array-same = rw (pair .kinds a b r, form-same)
+  array-same = rw (pair .kinds a b r, marked-same ARRAY)
 
   pub unwrapped-same : isUnwrapped new a ≡ isUnwrapped old b
   unfolding isUnwrapped
-  unwrapped-same = rw (pair .kinds a b r, form-same)
+  unwrapped-same = rw (pair .kinds a b r, marked-same UNWRAPPED)
 
   pub token-same : tokenOf new a ≡ tokenOf old b
   unfolding tokenOf
-  token-same = rw (pair .kinds a b r, form-same)
+  token-same = rw (pair .kinds a b r, array-same)
 
   pub miss-same : (i : ℕ) → i < countOf old b → mayMiss new a i ≡ mayMiss old b i
   unfolding mayMiss addition

@@ -76,18 +76,16 @@ pub alone : (t : Table) (r : ℕ) → goodAlone t r ≡ true → Alone t r
 unfolding goodAlone
 alone t r h =
     pick-within (λ x. x ≡ true → Alone t r) (kindOf t r) _ false
-    ((λ k e. leaf-alone t r 1 4 (omega arith) (omega arith) (omega arith) e)
-    ⨾ (λ k e. block-alone t r 1 (enumerated (only k)) (omega arith) ((simp both at e) .1))
-    ⨾ (λ k e. leaf-alone t r 1 4 (omega arith) (omega arith) (omega arith) e)
-    ⨾ (λ k e. leaf-alone t r 2 3 (omega arith) (omega arith) (omega arith) ((simp both at e) .1))
-    ⨾ (λ k e. leaf-alone t r 1 4 (omega arith) (omega arith) (omega arith) e)
-    ⨾ (λ k e. block-alone t r 0 (sequence (only k)) (omega arith) ((simp both at e) .1 .0))
-    ⨾ (λ k e. leaf-alone t r 3 2 (omega arith) (omega arith) (omega arith) ((simp both at e) .1 .1))
-    ⨾ (λ k e. block-alone t r 1 (choice (only k)) (omega arith) ((simp both at e) .1))
-    ⨾ (λ k e. let p = simp both at e in member-alone t r (only k) (p .0) (p .1 .1 .1))
+    ((λ k e. leaf-alone t r 2 3 (omega arith) (omega arith) (omega arith) e)
+    ⨾ (λ k e. block-alone t r 1 (enumerated (only k)) (omega arith) e)
+    ⨾ (λ k e. leaf-alone t r 2 3 (omega arith) (omega arith) (omega arith) e)
+    ⨾ (λ k e. block-alone t r 0 (sequence (only k)) (omega arith) ((simp both at e) .0))
+    ⨾ (λ k e. leaf-alone t r 3 2 (omega arith) (omega arith) (omega arith) ((simp both at e) .1))
+    ⨾ (λ k e. block-alone t r 1 (choice (only k)) (omega arith) e)
+    ⨾ (λ k e. let p = simp both at e in member-alone t r (only k) (p .0) (p .1 .1))
     ⨾ tt)
     (λ e. absurd (false≢true e))
-    ((simp both at h) .1)
+    ((simp both at h) .1 .1)
 
 -- ---- by the kinds of the rows it points to
 

@@ -63,23 +63,52 @@ isType t r = leb (kindOf t r) CHOICE
 
 -- 01, What the library handles: "extension markers, ARRAY, BASE64, UNWRAPPED"
 -- 01, Type table: "Field 1, sum of marks: 1 = BASE64 (4), ARRAY (6), UNWRAPPED (8); 2 = extensible (2, 6, 8)."
+abbrev pub BASE64 : ℕ
+BASE64 = 1
+
+abbrev pub ARRAY : ℕ
+ARRAY = 1
+
+abbrev pub UNWRAPPED : ℕ
+UNWRAPPED = 1
+
+abbrev pub EXTENSIBLE : ℕ
+EXTENSIBLE = 2
+
+-- of a member
+abbrev pub OPTIONAL : ℕ
+OPTIONAL = 1
+
+-- the sum of the marks that a row of the kind may carry
+-- 01, Type table: "Each kind's number and the marks it may carry belong to the row's own type."
+unfoldable pub marksFor : ℕ → ℕ
+marksFor kind =
+    pick kind
+    (on ENUMERATED ENUMERATED (λ k. EXTENSIBLE)
+    ∷ on OCTET-STRING OCTET-STRING (λ k. BASE64)
+    ∷ on SEQUENCE SEQUENCE (λ k. ARRAY + EXTENSIBLE)
+    ∷ on CHOICE CHOICE (λ k. UNWRAPPED + EXTENSIBLE)
+    ∷ on MEMBER MEMBER (λ k. OPTIONAL)
+    ∷ [])
+    0
+
 unfoldable pub marksOf : Table → ℕ → ℕ
 marksOf t r = field t r 1
 
-unfoldable pub formMark : Table → ℕ → Bool
-formMark t r = eqb (marksOf t r % 2) 1
+unfoldable pub marked : Table → ℕ → ℕ → Bool
+marked t r mark = eqb (marksOf t r / mark % 2) 1
 
 unfoldable pub extensible : Table → ℕ → Bool
-extensible t r = eqb (marksOf t r / 2 % 2) 1
+extensible t r = marked t r EXTENSIBLE
 
 unfoldable pub isBase64 : Table → ℕ → Bool
-isBase64 t r = eqb (kindOf t r) OCTET-STRING && formMark t r
+isBase64 t r = eqb (kindOf t r) OCTET-STRING && marked t r BASE64
 
 unfoldable pub isArray : Table → ℕ → Bool
-isArray t r = eqb (kindOf t r) SEQUENCE && formMark t r
+isArray t r = eqb (kindOf t r) SEQUENCE && marked t r ARRAY
 
 unfoldable pub isUnwrapped : Table → ℕ → Bool
-isUnwrapped t r = eqb (kindOf t r) CHOICE && formMark t r
+isUnwrapped t r = eqb (kindOf t r) CHOICE && marked t r UNWRAPPED
 
 -- ---- members
 
@@ -105,16 +134,25 @@ memberRow t r i = firstOf t r + i
 -- 01, What the library handles: "with OPTIONAL"
 -- 01, Type table: "field 1 is 1 if OPTIONAL"
 unfoldable pub optional : Table → ℕ → ℕ → Bool
-optional t r i = eqb (field t (memberRow t r i) 1) 1
+optional t r i = eqb (field t (memberRow t r i) 1) OPTIONAL
 
--- "field 2 its type row"
+-- "field 2 its type row", in the member's row m
+abbrev pub typeIn : Table → ℕ → ℕ
+typeIn t m = field t m 2
+
 unfoldable pub typeAt : Table → ℕ → ℕ → ℕ
-typeAt t r i = field t (memberRow t r i) 2
+typeAt t r i = typeIn t (memberRow t r i)
 
 -- "fields 3 and 4 start and length of its name"; it is taken as it stands there:
 -- 01, What the library handles: "Names in the table are final, NAME and TEXT already applied."
+abbrev pub nameStart : Table → ℕ → ℕ
+nameStart t m = field t m 3
+
+abbrev pub nameLength : Table → ℕ → ℕ
+nameLength t m = field t m 4
+
 unfoldable pub nameIn : Table → ℕ → List ℕ
-nameIn t m = take (field t m 4) (drop (field t m 3) (t .names))
+nameIn t m = take (nameLength t m) (drop (nameStart t m) (t .names))
 
 unfoldable pub nameAt : Table → ℕ → ℕ → List ℕ
 nameAt t r i = nameIn t (memberRow t r i)
@@ -175,7 +213,7 @@ tokenOf t r =
     ∷ on ENUMERATED ENUMERATED (λ k. tString)
     ∷ on NULL NULL (λ k. tNull)
     ∷ on OCTET-STRING UTF8String (λ k. tString)
-    ∷ on SEQUENCE SEQUENCE (λ k. tokenPick (formMark t r) tArray tObject)
+    ∷ on SEQUENCE SEQUENCE (λ k. tokenPick (isArray t r) tArray tObject)
     ∷ on SEQUENCE-OF SEQUENCE-OF (λ k. tArray)
     ∷ [])
     tObject

@@ -1,5 +1,5 @@
 -- Which type tables are good, and the row that is blamed.
-use Prim.Native.Nat.{ℕ, zero, suc, _+_, _*_, _%_}
+use Prim.Native.Nat.{ℕ, zero, suc, _+_, _*_, _/_, _%_}
 use mathlib.Core.List.{[], _∷_}
 use mathlib.Core.Bool.{Bool, true, false, _&&_, _||_, not}
 use mathlib.Core.Option.{Option, none, some}
@@ -7,7 +7,7 @@ use lib.Dec.{eqb, ltb, leb}
 use lib.ListN.{length}
 use Rattle.json.specs.Bytes.{on, pick}
 use Rattle.json.specs.Utf8.{utf8}
-use Rattle.jer.specs.Table.{Table, rowCount, field, BOOLEAN, INTEGER, ENUMERATED, NULL, OCTET-STRING, UTF8String, SEQUENCE, SEQUENCE-OF, CHOICE, MEMBER, kindOf, isType, marksOf, extensible, isArray, isUnwrapped, firstOf, elementOf, countOf, rootOf, memberRow, optional, typeAt, nameIn, nameAt, mayMiss, firstWhere, sameBytes, sameToken, tokenOf, nullTaken}
+use Rattle.jer.specs.Table.{Table, rowCount, field, BOOLEAN, INTEGER, ENUMERATED, NULL, OCTET-STRING, UTF8String, SEQUENCE, SEQUENCE-OF, CHOICE, MEMBER, kindOf, isType, marksFor, marksOf, extensible, isArray, isUnwrapped, firstOf, elementOf, countOf, rootOf, memberRow, optional, typeIn, typeAt, nameStart, nameLength, nameIn, nameAt, mayMiss, firstWhere, sameBytes, sameToken, tokenOf, nullTaken}
 
 -- does every one of n numbers from i on pass the test?
 unfoldable pub every : (ℕ → Bool) → ℕ → ℕ → Bool
@@ -33,26 +33,28 @@ goodBlock t r least =
 
 -- 01, Type table: "1 to 128 bytes of UTF-8"
 unfoldable pub goodName : Table → ℕ → Bool
-goodName t r = leb 1 (field t r 4) && (leb (field t r 4) 128 && (leb (field t r 3 + field t r 4) (length (t .names)) && utf8 (nameIn t r)))
+goodName t r = leb 1 (nameLength t r) && (leb (nameLength t r) 128 && (leb (nameStart t r + nameLength t r) (length (t .names)) && utf8 (nameIn t r)))
+
+-- every mark in field 1 is one that the kind may carry: mark 1 is what is left over by 2, mark 2 the other half
+unfoldable pub goodMarks : Table → ℕ → Bool
+goodMarks t r = leb (marksOf t r % 2) (marksFor (kindOf t r) % 2) && leb (marksOf t r / 2) (marksFor (kindOf t r) / 2)
 
 -- 01, Refusal numbers: "each by itself (row 0 is a type)"; a kind or a mark that is none of 01's is bad:
 -- 01, What the library handles: "Not in the base: any other type, DEFAULT, version brackets."
 unfoldable pub goodAlone : Table → ℕ → Bool
 goodAlone t r =
-    unused t r 5 3 && pick (kindOf t r)
-    (on BOOLEAN INTEGER (λ k. unused t r 1 4)
-    ∷ on ENUMERATED ENUMERATED (λ k. (eqb (marksOf t r) 0 || eqb (marksOf t r) 2) && goodBlock t r 1)
-    ∷ on NULL NULL (λ k. unused t r 1 4)
-    ∷ on OCTET-STRING OCTET-STRING (λ k. leb (marksOf t r) 1 && unused t r 2 3)
-    ∷ on UTF8String UTF8String (λ k. unused t r 1 4)
+    unused t r 5 3 && (goodMarks t r && pick (kindOf t r)
+    (on BOOLEAN INTEGER (λ k. unused t r 2 3)
+    ∷ on ENUMERATED ENUMERATED (λ k. goodBlock t r 1)
+    ∷ on NULL UTF8String (λ k. unused t r 2 3)
     -- 01, Type table: "A SEQUENCE of 0 has 0 in field 2."
-    ∷ on SEQUENCE SEQUENCE (λ k. leb (marksOf t r) 3 && (goodBlock t r 0 && implies (eqb (countOf t r) 0) (eqb (firstOf t r) 0)))
-    ∷ on SEQUENCE-OF SEQUENCE-OF (λ k. unused t r 1 1 && (ltb (elementOf t r) (rowCount t) && unused t r 3 2))
-    ∷ on CHOICE CHOICE (λ k. leb (marksOf t r) 3 && goodBlock t r 1)
+    ∷ on SEQUENCE SEQUENCE (λ k. goodBlock t r 0 && implies (eqb (countOf t r) 0) (eqb (firstOf t r) 0))
+    ∷ on SEQUENCE-OF SEQUENCE-OF (λ k. ltb (elementOf t r) (rowCount t) && unused t r 3 2)
+    ∷ on CHOICE CHOICE (λ k. goodBlock t r 1)
     -- a member row is not row 0
-    ∷ on MEMBER MEMBER (λ k. not (eqb r 0) && (leb (marksOf t r) 1 && (ltb (field t r 2) (rowCount t) && goodName t r)))
+    ∷ on MEMBER MEMBER (λ k. not (eqb r 0) && (ltb (typeIn t r) (rowCount t) && goodName t r))
     ∷ [])
-    false
+    false)
 
 -- ---- by the kinds of the rows it points to
 
@@ -65,7 +67,7 @@ unfoldable pub goodPointers : Table → ℕ → Bool
 goodPointers t r =
     pick (kindOf t r)
     (on SEQUENCE-OF SEQUENCE-OF (λ k. isType t (elementOf t r))
-    ∷ on MEMBER MEMBER (λ k. isType t (field t r 2))
+    ∷ on MEMBER MEMBER (λ k. isType t (typeIn t r))
     ∷ on ENUMERATED ENUMERATED (λ k. ownsMembers t r)
     ∷ on SEQUENCE SEQUENCE (λ k. ownsMembers t r)
     ∷ on CHOICE CHOICE (λ k. ownsMembers t r)

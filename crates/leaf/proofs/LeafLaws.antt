@@ -14,7 +14,7 @@ use Rattle.json.specs.Bytes.{pick}
 use Rattle.jer.specs.declared.Cause.{Cause}
 use Rattle.jer.specs.declared.Cause.the-variants.{OtherKind, BadNumber, BadString, Missing, Unknown}
 use Rattle.jer.specs.declared.Refusal.the-variants.{AtByte}
-use Rattle.jer.specs.Table.{Table, field, kindOf, typeAt, position, extensible, isBase64, isUnwrapped, openUnwrapped, alternative, Token, tokenCode, sameToken, tNull, tBoolean, tNumber, tString, tArray, tObject}
+use Rattle.jer.specs.Table.{Table, kindOf, typeAt, position, extensible, isBase64, isUnwrapped, openUnwrapped, alternative, Token, tokenCode, sameToken, tNull, tBoolean, tNumber, tString, tArray, tObject}
 use Rattle.jer.specs.Value.{Val, vBool, vInt, vEnum, vNull, vBytes, vChoice}
 use Rattle.jer.specs.Answer.{Res, ok, no, bind, at}
 use Rattle.jer.specs.Read.{readString, readItem, readOctets, octetsOf, atKind, nullValue, missingElement}
@@ -67,13 +67,11 @@ module _ (t : Table) (r k p : ℕ) (v : Res Val) where
   unfolding atKind
   kind-same h = rw (eq-eqb (kindOf t r) k h, atKind)
 
-module _ (t : Table) (s : List ℕ) (r p : ℕ) {kind : ℕ} (e : kind ≡ field t r 0) where
+module _ (t : Table) (s : List ℕ) (r p : ℕ) {kind : ℕ} (e : kind ≡ kindOf t r) where
   is-kind : {k : ℕ} → kind ≡ k → kindOf t r ≡ k
-  unfolding kindOf
   is-kind h = sym e ∙ h
 
   not-kind : {k : ℕ} → (kind ≡ k → ⊥) → kindOf t r ≡ k → ⊥
-  unfolding kindOf
   not-kind h q = h (e ∙ q)
 
   pub null-other : (kind ≡ 3 → ⊥) → leafAt t s tNull r p ≡ at OtherKind p
@@ -98,17 +96,17 @@ module _ (t : Table) (s : List ℕ) (r p : ℕ) {kind : ℕ} (e : kind ≡ field
 
   module _ {rows₁ rows₀ pool : List ℕ} {i o q : ℕ} {z : Step} (w : q ≡ runFrom (passes Word) s p) (d : z ≡ Read q 1 0) where
     pub null-read : kind ≡ 3 → rows₁ ≡ sets rows₀ (i * 4) (kind ∷ 0 ∷ 0 ∷ 1 ∷ []) → Stepped z rows₁ rows₀ pool pool i o t r (leafAt t s tNull r p)
-    unfolding leafAt ending bind poolOf rowsOf kindOf
+    unfolding leafAt ending bind poolOf rowsOf
     null-read h f = one-row vNull kind 0 0 d (rw (kind-same t r 3 p (ok vNull) (is-kind h), w, word s p)) refl (λ u. rw e) f
 
     pub boolean-read : kind ≡ 0 → {b : ℕ} → b ≡ byteAt s p → rows₁ ≡ sets rows₀ (i * 4) (kind ∷ boolByte (eqb b 0x74) ∷ 0 ∷ 1 ∷ [])
         → Stepped z rows₁ rows₀ pool pool i o t r (leafAt t s tBoolean r p)
-    unfolding leafAt ending bind poolOf rowsOf kindOf
+    unfolding leafAt ending bind poolOf rowsOf
     boolean-read h {b = b} g f = one-row (vBool (eqb (byteAt s p) 0x74)) kind (boolByte (eqb b 0x74)) 0 d (rw (kind-same t r 0 p (ok (vBool (eqb (byteAt s p) 0x74))) (is-kind h), w, word s p)) refl (λ u. rw (e, g, ← flag (eqb (byteAt s p) 0x74))) f
 
     pub number-read : kind ≡ 1 → {low high : ℕ} → integer.Whole low high ≡ integerOf (integerAt s p) → rows₁ ≡ sets rows₀ (i * 4) (kind ∷ low ∷ high ∷ 1 ∷ [])
         → Stepped z rows₁ rows₀ pool pool i o t r (leafAt t s tNumber r p)
-    unfolding leafAt ending bind integerRead poolOf rowsOf kindOf
+    unfolding leafAt ending bind integerRead poolOf rowsOf
     number-read h {low = low} {high = high} g f = go (integerAt s p) refl g
       where
         go : (x : Option ℕ) → integerAt s p ≡ x → integer.Whole low high ≡ integerOf x → Stepped z rows₁ rows₀ pool pool i o t r (leafAt t s tNumber r p)
@@ -128,7 +126,7 @@ apart x k h = go (leb k x) refl
     go true e = lt-leb x k (omega (arith, leb-true k x e))
     go false e = refl
 
-module _ (t : Table) (s : List ℕ) (r p : ℕ) {kind : ℕ} (e : kind ≡ field t r 0) where
+module _ (t : Table) (s : List ℕ) (r p : ℕ) {kind : ℕ} (e : kind ≡ kindOf t r) where
   pub string-item : kind ≡ 2 → leafAt t s tString r p ≡ ending (stringEnd s (p + 1)) (readItem t r p (position t r (denoted s (p + 1))))
   unfolding leafAt readString pick
   string-item h = rw (is-kind t s r p e h)
@@ -158,7 +156,7 @@ module _ (t : Table) (s : List ℕ) (r p : ℕ) {kind : ℕ} (e : kind ≡ field
     -- the bytes os, of which there are n
     bytes-read : (os : List ℕ) → n ≡ length os → leafAt t s tString r p ≡ ok (got (vBytes os) (stringEnd s (p + 1))) → (o < 2 ^ 32 → pool₁ ≡ sets pool₀ o os)
         → Stepped z rows₁ rows₀ pool₁ pool₀ i o t r (leafAt t s tString r p)
-    unfolding poolOf rowsOf kindOf numbers
+    unfolding poolOf rowsOf numbers
     bytes-read os m h g = reads (vBytes os) h (a ∙ rw (w, m)) (λ l. f (rw m l) ∙ rw (e, m)) (λ l. g (omega arith))
 
     pub utf8-read : kind ≡ 5 → n ≡ length (denoted s (p + 1)) → {j : ℕ} → (o < 2 ^ 32 → j ≡ o) → pool₁ ≡ sets pool₀ j (denoted s (p + 1))
@@ -286,10 +284,10 @@ module _ (t : Table) (r p j q : ℕ) {m : ℕ} (e : m ≡ typeAt t r j) {z : Ste
   unfolding ending bind poolOf rowsOf numbers
   missing-one h k s a = at-type h (reads vNull refl a (λ f. s ∙ rw k) (λ f. refl))
 
-  pub missing-two : {k n x : ℕ} {w : Row} {rows : List ℕ} → missingOf t m p j ≡ ok (vChoice k vNull) → w ≡ rowOf t m → x ≡ typeAt t m k → n ≡ field t x 0
+  pub missing-two : {k n x : ℕ} {w : Row} {rows : List ℕ} → missingOf t m p j ≡ ok (vChoice k vNull) → w ≡ rowOf t m → x ≡ typeAt t m k → n ≡ kindOf t x
       → rows ≡ sets rows₀ (i * 4) (w .kind ∷ k ∷ 0 ∷ 2 ∷ []) → rows₁ ≡ sets rows ((i + 1) * 4) (n ∷ 0 ∷ 0 ∷ 1 ∷ []) → z ≡ Read q 2 0
       → Stepped z rows₁ rows₀ pool pool i o t (typeAt t r j) (ending q (missingElement t r p j))
-  unfolding ending bind poolOf rowsOf above numbers kindOf
+  unfolding ending bind poolOf rowsOf above numbers
   missing-two {k = k} {n = n} {w = w} h g y d f s a =
       at-type h (reads (vChoice k vNull) refl a (λ l. rows-after rows₀ i (row (w .kind) k 0 2 ∷ []) (row n 0 0 1 ∷ []) f refl s ∙ rw (g, d, y)) (λ l. refl))
 

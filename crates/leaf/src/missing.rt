@@ -5,7 +5,7 @@ use crate::refused;
 use crate::store::put_row;
 use jer::Cause;
 use types::row::Row;
-use types::row::field;
+use types::row::kind_of;
 use types::row::type_at;
 use types::token::Found;
 use types::token::NULL;
@@ -37,7 +37,7 @@ pub fn missing(
         match alternative(types, m, NULL) {
             Found::At(k) => {
                 put_row(rows, i, w.kind, k, 0, 2);
-                put_row(rows, i + 1, field(types, type_at(types, m, k), 0), 0, 0, 1);
+                put_row(rows, i + 1, kind_of(types, type_at(types, m, k)), 0, 0, 1);
                 return read(next, 2, 0);
             }
             Found::Nothing => {

@@ -11,7 +11,7 @@ use scan::names::position;
 use tokens::strings::copy;
 use tokens::strings::string_end;
 use types::row::Row;
-use types::row::field;
+use types::row::kind_of;
 use types::row::wide;
 use types::token::Found;
 ghost use mathlib.Core.Path.{_≡_};
@@ -101,7 +101,7 @@ pub fn string(
     requires { ⌜ (length (now s) ≤ 65536) × (p ≤ 65536) × (i ≤ 2 ^ 60) ⌝ }
     ensures { λ r. ⌜ Stepped r (now (rows .exit)) (now (rows .entry)) (now (pool .exit)) (now (pool .entry)) i o (table (now (types .entry)) (now (names .entry))) row (leafAt (table (now (types .entry)) (now (names .entry))) (now (s .entry)) tString row p) ⌝ }
 {
-    let kind = field(types, row, 0);
+    let kind = kind_of(types, row);
     match kind {
         Row::ENUMERATED => item(types, names, s, rows, row, p, i),
         Row::OCTET_STRING => match octets_at(types, s, pool, row, p, o) {

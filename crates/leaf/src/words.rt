@@ -10,7 +10,7 @@ use tokens::cursor::run;
 use tokens::numbers::Integer;
 use tokens::numbers::integer_at;
 use types::row::Row;
-use types::row::field;
+use types::row::kind_of;
 ghost use mathlib.Core.List.{List};
 ghost use Prim.Native.Nat.{ℕ, _^_, _≤_};
 ghost use Rattle.jer.specs.Table.{tNull, tBoolean, tNumber};
@@ -22,7 +22,7 @@ pub fn null(types: &[u32], s: &[u8], rows: &mut [u32], row: usize, p: usize, i: 
     requires { ⌜ i ≤ 2 ^ 60 ⌝ }
     ensures { λ r. ⌜ ((ns pool : List ℕ) (o : ℕ) → Stepped r (now (rows .exit)) (now (rows .entry)) pool pool i o (table (now (types .entry)) ns) row (leafAt (table (now (types .entry)) ns) (now (s .entry)) tNull row p)) ⌝ }
 {
-    let kind = field(types, row, 0);
+    let kind = kind_of(types, row);
     if kind != Row::NULL {
         return refused(Cause::OtherKind, p);
     }
@@ -34,7 +34,7 @@ pub fn boolean(types: &[u32], s: &[u8], rows: &mut [u32], row: usize, p: usize, 
     requires { ⌜ i ≤ 2 ^ 60 ⌝ }
     ensures { λ r. ⌜ ((ns pool : List ℕ) (o : ℕ) → Stepped r (now (rows .exit)) (now (rows .entry)) pool pool i o (table (now (types .entry)) ns) row (leafAt (table (now (types .entry)) ns) (now (s .entry)) tBoolean row p)) ⌝ }
 {
-    let kind = field(types, row, 0);
+    let kind = kind_of(types, row);
     if kind != Row::BOOLEAN {
         return refused(Cause::OtherKind, p);
     }
@@ -47,7 +47,7 @@ pub fn number(types: &[u32], s: &[u8], rows: &mut [u32], row: usize, p: usize, i
     requires { ⌜ i ≤ 2 ^ 60 ⌝ }
     ensures { λ r. ⌜ ((ns pool : List ℕ) (o : ℕ) → Stepped r (now (rows .exit)) (now (rows .entry)) pool pool i o (table (now (types .entry)) ns) row (leafAt (table (now (types .entry)) ns) (now (s .entry)) tNumber row p)) ⌝ }
 {
-    let kind = field(types, row, 0);
+    let kind = kind_of(types, row);
     if kind != Row::INTEGER {
         return refused(Cause::OtherKind, p);
     }

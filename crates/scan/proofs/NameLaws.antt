@@ -6,7 +6,7 @@ use mathlib.Core.Option.{Option, none, some}
 use Prim.Native.Nat.{ℕ, _+_, _-_, _<_, _≤_}
 use native.Mathlib.Omega.{arith}
 use lib.ListN.{length, take, drop}
-use Rattle.jer.specs.Table.{Table, field, countOf, memberRow, nameIn, nameAt, sameBytes, firstWhere, position}
+use Rattle.jer.specs.Table.{Table, countOf, memberRow, nameIn, nameAt, sameBytes, firstWhere, position, nameStart, nameLength}
 use Rattle.types.specs.declared.token.Found.the-variants.{At, Nothing}
 use Rattle.types.specs.Rows.{table, foundOf}
 use Rattle.types.proofs.RowLaws.{name-in}
@@ -37,9 +37,9 @@ place-within s q m l h = space-within s (m + 1) (pastSpace s (stringEnd s (q + 1
 -- ---- the position
 
 -- the name in the row m, compared by its part of the names
-pub in-row : (rows names : List ℕ) (m : ℕ) (x : List ℕ) {f g a n : ℕ} {b : Bool} → f ≡ field (table rows names) m 3 → a ≡ f → g ≡ field (table rows names) m 4 → n ≡ g
+pub in-row : (rows names : List ℕ) (m : ℕ) (x : List ℕ) {a n : ℕ} {b : Bool} → a ≡ nameStart (table rows names) m → n ≡ nameLength (table rows names) m
     → b ≡ sameBytes (take n (drop a names)) x → b ≡ sameBytes (nameIn (table rows names) m) x
-in-row rows names m x f a g n e = e ∙ ap (λ (l : List ℕ). sameBytes l x) (name-in rows names m f g a n refl)
+in-row rows names m x p q e = e ∙ ap (λ (l : List ℕ). sameBytes l x) (name-in rows names m p q refl)
 
 -- the member at i has the name
 abbrev pub named : Table → ℕ → List ℕ → ℕ → Bool
@@ -49,9 +49,9 @@ pub named-is : (t : Table) (r i : ℕ) (x : List ℕ) {m : ℕ} {b : Bool} → m
 unfolding nameAt
 named-is t r i x e h = h ∙ rw e
 
-pub position-starts : (t : Table) (r : ℕ) (x : List ℕ) {n : ℕ} → n ≡ field t r 3 → firstWhere (named t r x) 0 (n - 0) ≡ position t r x
-unfolding position countOf
-position-starts t r x {n = n} e = let g : n - 0 ≡ field t r 3 = omega arith in rw g
+pub position-starts : (t : Table) (r : ℕ) (x : List ℕ) {n : ℕ} → n ≡ countOf t r → firstWhere (named t r x) 0 (n - 0) ≡ position t r x
+unfolding position
+position-starts t r x {n = n} e = let g : n - 0 ≡ countOf t r = omega arith in rw g
 
 pub found-at : (o : Option ℕ) {i : ℕ} → At i ≡ foundOf o → o ≡ some i
 unfolding foundOf

@@ -4,7 +4,10 @@ use tokens::strings::first_differs;
 use tokens::strings::plain_first;
 use tokens::strings::same;
 use tokens::strings::string_end;
-use types::row::field;
+use types::row::count_of;
+use types::row::first_of;
+use types::row::name_length;
+use types::row::name_start;
 use types::row::wide;
 use types::token::Found;
 ghost use mathlib.Core.Path.{_≡_};
@@ -32,12 +35,11 @@ fn has_name(types: &[u32], names: &[u8], s: &[u8], m: usize, p: usize, b: u32) -
     requires { ⌜ (length (now s) ≤ 65536) × (b < 256 → bare b ≡ pieceAt (now s) p) ⌝ }
     ensures { λ r. ⌜ r ≡ sameBytes (nameIn (table (now (types .entry)) (now (names .entry))) m) (denoted (now (s .entry)) p) ⌝ }
 {
-    let start = wide(field(types, m, 3));
+    let start = name_start(types, m);
     if first_differs(names, start, b) {
         return false;
     }
-    let len = wide(field(types, m, 4));
-    same(s, p, names, start, len)
+    same(s, p, names, start, name_length(types, m))
 }
 
 // The position, in the type at `row`, of the member whose name stands at q.
@@ -45,8 +47,8 @@ pub fn position(types: &[u32], names: &[u8], s: &[u8], row: usize, q: usize) -> 
     requires { ⌜ (length (now s) ≤ 65536) × (q ≤ 65536) ⌝ }
     ensures { λ r. ⌜ r ≡ foundOf (position (table (now (types .entry)) (now (names .entry))) row (denoted (now (s .entry)) (q + 1))) ⌝ }
 {
-    let first = wide(field(types, row, 2));
-    let count = field(types, row, 3);
+    let first = first_of(types, row);
+    let count = count_of(types, row);
     let p = q + 1;
     let b = plain_first(s, p);
     let mut i: u32 = 0;

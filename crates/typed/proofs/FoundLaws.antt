@@ -1,7 +1,7 @@
 -- Counts of 32 bits, and members before they are read, by the tests that the code makes. Assumes nothing.
 use mathlib.Core.Path.{_≡_, sym, _∙_}
 use mathlib.Core.List.{List}
-use mathlib.Core.Bool.{Bool, true, false, _&&_}
+use mathlib.Core.Bool.{Bool, true, false, _&&_, not}
 use mathlib.Core.Option.{none, some}
 use Prim.Native.Nat.{ℕ, zero, suc, _-_, _^_, _<_, _≤_}
 use native.Mathlib.Omega.{arith}
@@ -11,7 +11,7 @@ use Rattle.jer.specs.declared.Cause.the-variants.{Surplus}
 use Rattle.jer.specs.declared.Limit.the-variants.{LentRoom}
 use Rattle.jer.specs.declared.Refusal.{Refusal}
 use Rattle.jer.specs.declared.Refusal.the-variants.{Amounts}
-use Rattle.jer.specs.Table.{Table, extensible, mayMiss}
+use Rattle.jer.specs.Table.{Table, extensible, optional, typeAt, mayMiss, nullTaken}
 use Rattle.jer.specs.Value.{pnil}
 use Rattle.jer.specs.Answer.{ok, at}
 use Rattle.jer.specs.Read.{nullAbsent}
@@ -45,6 +45,10 @@ module _ {z : Step} {q n m : ℕ} (e : z ≡ Read q n m) where
     bounded-read l = rw (e, lt-ltb n (2 ^ 32) k, lt-ltb m (2 ^ 32) l, bounded)
 
 -- ---- members of an object
+
+pub null-told : (t : Table) (r i : ℕ) {o n : Bool} {m : ℕ} → o ≡ optional t r i → m ≡ typeAt t r i → n ≡ nullTaken t m → (o && not n) ≡ nullAbsent t r i
+unfolding nullAbsent
+null-told t r i p q u = rw (p, u, q)
 
 module _ (t : Table) (s : List ℕ) (r i q : ℕ) {b : Bool} where
   module _ (e : b ≡ false) {m : Bool} (f : m ≡ mayMiss t r i) where

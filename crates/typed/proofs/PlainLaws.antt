@@ -13,7 +13,7 @@ use Rattle.jer.specs.declared.Cause.the-variants.{Missing, TooDeep, OtherKind, 
 use Rattle.jer.specs.declared.Limit.the-variants.{LentRoom}
 use Rattle.jer.specs.declared.Refusal.{Refusal}
 use Rattle.jer.specs.declared.Refusal.the-variants.{Amounts}
-use Rattle.jer.specs.Table.{Table, field, elementOf, countOf, NULL, SEQUENCE, SEQUENCE-OF, CHOICE, kindOf, openUnwrapped, typeAt, isArray, isUnwrapped, extensible, alternative, position, Token, tNull, tBoolean, tNumber, tString, tArray, tObject, tokenCode}
+use Rattle.jer.specs.Table.{Table, elementOf, countOf, NULL, SEQUENCE, SEQUENCE-OF, CHOICE, kindOf, openUnwrapped, typeAt, isArray, isUnwrapped, extensible, alternative, position, Token, tNull, tBoolean, tNumber, tString, tArray, tObject, tokenCode}
 use Rattle.jer.specs.Value.{Val, vChoice, vNull}
 use Rattle.jer.specs.Answer.{Res, ok, no, bind, at}
 use Rattle.jer.specs.Read.{nullValue, missingElement}
@@ -282,15 +282,7 @@ missing-no t r o i q h = go (missingElement t r o i) h
     go (ok v) h = absurd (let z : _≡_ {A = ℕ} 0 1 = cc in omega arith)
     go (no v) h = cc
 
--- ---- fields that the code reads
-
-pub element-is : (t : Table) (r : ℕ) {n w : ℕ} → n ≡ field t r 2 → w ≡ n → w ≡ elementOf t r
-unfolding elementOf
-element-is t r e h = h ∙ e
-
-pub count-is : (t : Table) (r : ℕ) {n : ℕ} → n ≡ field t r 3 → n ≡ countOf t r
-unfolding countOf
-count-is t r e = e
+-- ---- kinds by the tests of the code
 
 pub array-kind : (t : Table) (r : ℕ) → isArray t r ≡ true → kindOf t r ≡ SEQUENCE
 unfolding isArray

@@ -30,7 +30,8 @@ use scan::parts::token_at;
 use scan::scan;
 use tokens::cursor::Cursor;
 use types::row::Row;
-use types::row::field;
+use types::row::count_of;
+use types::row::element_of;
 use types::row::type_at;
 use types::row::wide;
 use types::token::ARRAY;
@@ -139,7 +140,7 @@ fn list(
     requires { ⌜ (p < length (now s)) × (0 < d) × (kindOf (table (now types) (now names)) row ≡ SEQUENCE-OF) ⌝ }
     ensures { λ r. ⌜ Reads r (now (rows .exit)) (now (rows .entry)) (now (pool .exit)) (now (pool .entry)) i o (limit p + d) (table (now (types .entry)) (now (names .entry))) row (bind (listAt (λ q u. readAt (d - 1) (table (now (types .entry)) (now (names .entry))) (now (s .entry)) q u) (table (now (types .entry)) (now (names .entry))) (now (s .entry)) row p) (within (table (now (types .entry)) (now (names .entry))) row)) ⌝ }
 {
-    let t = wide(field(types, row, 2));
+    let t = element_of(types, row);
     let mut next = first_part(s, 0x5D, p);
     let mut count: usize = 0;
     let mut n: usize = 0;
@@ -184,7 +185,7 @@ fn array(
     requires { ⌜ (p < length (now s)) × (0 < d) × (kindOf (table (now types) (now names)) row ≡ SEQUENCE) ⌝ }
     ensures { λ r. ⌜ Reads r (now (rows .exit)) (now (rows .entry)) (now (pool .exit)) (now (pool .entry)) i o (limit p + d) (table (now (types .entry)) (now (names .entry))) row (bind (arrayAt (λ q u. readAt (d - 1) (table (now (types .entry)) (now (names .entry))) (now (s .entry)) q u) (d - 1) (table (now (types .entry)) (now (names .entry))) (now (s .entry)) row p) (within (table (now (types .entry)) (now (names .entry))) row)) ⌝ }
 {
-    let count = field(types, row, 3);
+    let count = count_of(types, row);
     let mut next = first_part(s, 0x5D, p);
     let mut k: u32 = 0;
     let mut present: u64 = 0;
@@ -286,7 +287,7 @@ fn each_member(
     requires { ⌜ (0 < d) × (next ≤ limit p + d) × (kindOf (table (now types) (now names)) row ≡ SEQUENCE) ⌝ }
     ensures { λ r. ⌜ Reads r (now (rows .exit)) (now (rows .entry)) (now (pool .exit)) (now (pool .entry)) i o (limit p + d) (table (now (types .entry)) (now (names .entry))) row (bind (afterScan (λ q u. readAt (d - 1) (table (now (types .entry)) (now (names .entry))) (now (s .entry)) q u) (table (now (types .entry)) (now (names .entry))) (now (s .entry)) row p (scanned met places next)) (within (table (now (types .entry)) (now (names .entry))) row)) ⌝ }
 {
-    let count = field(types, row, 3);
+    let count = count_of(types, row);
     let mut k: u32 = 0;
     let mut present: u64 = 0;
     let mut n: usize = 0;

@@ -65,7 +65,9 @@ pub fn member_found(types: &[u32], s: &[u8], row: usize, k: u32, met: bool, q: u
 fn null_absent(types: &[u32], row: usize, k: u32) -> bool
     ensures { λ b. ⌜ ((ns : List ℕ) → b ≡ nullAbsent (table (now (types .entry)) ns) row k) ⌝ }
 {
-    member_at(types, row, k).optional() & !null_taken(types, type_at(types, row, k))
+    let optional = member_at(types, row, k).optional();
+    let taken = null_taken(types, type_at(types, row, k));
+    optional & !taken
 }
 
 // A member of an array.

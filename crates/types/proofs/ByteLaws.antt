@@ -8,13 +8,13 @@ use native.Mathlib.Omega.{arith}
 use borrow.Author.Tests.{eq-eqb, ne-eqb, le-leb, lt-leb, leb-true}
 use lib.Dec.{eqb, leb}
 use lib.ListN.{length, getD, take, drop, length-drop, drop-of-length-le}
-use lib.Seq.{take-all, take-nil, drop-cons, drop-length}
+use lib.Seq.{length-take-le, getD-take, getD-drop, take-all, take-nil, drop-cons, drop-length}
 use Rattle.json.specs.Bytes.{pick}
 use Rattle.json.specs.Utf8.{Due, start, due, never, wideRows, dueNext, dueStep, dueEnd, utf8From}
 use Rattle.jer.specs.Table.{sameBytes}
 use Rattle.types.specs.declared.bytes.Due.{Due as State}
 use Rattle.types.specs.declared.bytes.Due.the-variants.{Next}
-use Rattle.types.specs.Bytes.{dueOf}
+use Rattle.types.specs.Bytes.{dueOf, Ascii}
 
 -- ---- parts
 
@@ -158,3 +158,14 @@ utf8-next s i d u h e = rw (drop-cons s i 0 h, add-one i, e)
 pub utf8-ends : (s : List ℕ) (i : ℕ) (d : Due) → length s ≤ i → dueEnd d ≡ utf8From d (drop i s)
 unfolding utf8From
 utf8-ends s i d h = rw (drop-of-length-le s h)
+
+pub ascii-utf8 : (s : List ℕ) → Ascii s → utf8From start s ≡ true
+unfolding utf8From dueEnd
+ascii-utf8 [] h = refl
+ascii-utf8 (b ∷ s) h = rw (sym (first-ascii b (h 0 (omega arith)))) (ascii-utf8 s (λ i l. h (suc i) (omega arith)))
+
+pub ascii-part : (s : List ℕ) (a n : ℕ) → a + n ≤ length s → Ascii s → Ascii (take n (drop a s))
+ascii-part s a n h f i l =
+    let e : length (take n (drop a s)) ≡ n = length-take-le n (drop a s) (omega (arith, length-drop a s)) in
+    let k : i < n = omega arith in
+    rw (getD-take n (drop a s) i 0 k, getD-drop a s i 0) (f (a + i) (omega arith))

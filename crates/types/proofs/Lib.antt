@@ -6,3 +6,5 @@ pub mod TokenLaws
 pub mod MemberLaws
 pub mod RuleLaws
 pub mod CheckLaws
+pub mod SureLaws
+pub mod SureMembers

@@ -5,7 +5,7 @@ use mathlib.Core.Bool.{Bool, not, _&&_}
 use Prim.Native.Nat.{ℕ, _-_}
 use native.Mathlib.Omega.{arith}
 use lib.Dec.{eqb}
-use Rattle.jer.specs.Table.{Table, field, countOf, memberRow, optional, typeAt, nameIn, nameAt, mayMiss, sameBytes, isUnwrapped, tokenCode, sameToken, tokenOf, nullTaken}
+use Rattle.jer.specs.Table.{Table, countOf, memberRow, optional, typeAt, nameIn, nameAt, mayMiss, sameBytes, isUnwrapped, tokenCode, sameToken, tokenOf, nullTaken}
 use Rattle.jer.specs.Valid.{every}
 use Rattle.types.specs.declared.row.Row.{Row}
 use Rattle.types.specs.declared.members.By.{By}
@@ -59,6 +59,5 @@ module _ (t : Table) (r i : ℕ) {rule : Rule} where
   pub keeps-differs : {b : Bool} {by : By} → rule ≡ Differs by → b ≡ keeps (Differs by) t r i → b ≡ keeps rule t r i
   keeps-differs h p = rw (h) p
 
-pub all-starts : (rule : Rule) (t : Table) (r : ℕ) {n : ℕ} → n ≡ field t r 3 → every (keeps rule t r) 0 (n - 0) ≡ every (keeps rule t r) 0 (countOf t r)
-unfolding countOf
-all-starts rule t r {n = n} e = let g : n - 0 ≡ field t r 3 = omega arith in rw g
+pub all-starts : (rule : Rule) (t : Table) (r : ℕ) {n : ℕ} → n ≡ countOf t r → every (keeps rule t r) 0 (n - 0) ≡ every (keeps rule t r) 0 (countOf t r)
+all-starts rule t r {n = n} e = let g : n - 0 ≡ countOf t r = omega arith in rw g

@@ -2,17 +2,25 @@
 use mathlib.Core.Path.{_≡_, sym, ap, _∙_}
 use mathlib.Core.List.{List}
 use mathlib.Core.Bool.{Bool, _&&_, _||_}
-use Prim.Native.Nat.{ℕ, _+_, _*_, _≤_}
+use Prim.Native.Nat.{ℕ, _+_, _*_, _/_, _%_, _≤_}
+use native.Mathlib.Omega.{arith}
 use lib.Dec.{eqb, leb}
-use lib.ListN.{length, take, drop, List·getD-eq-default}
-use Rattle.jer.specs.Table.{Table, field, kindOf, marksOf, formMark, firstOf, countOf, rootOf, memberRow, optional, addition, mayMiss, nameIn}
+use lib.ListN.{length, getD, take, drop, List·getD-eq-default}
+use Rattle.json.specs.Bytes.{pick}
+use Rattle.jer.specs.Table.{Table, field, kindOf, marksFor, marksOf, marked, firstOf, countOf, rootOf, memberRow, optional, addition, mayMiss, nameStart, nameLength, nameIn}
+use Rattle.jer.specs.Valid.{goodMarks}
 use Rattle.types.specs.declared.row.Row.{Row}
 use Rattle.types.specs.Rows.{table, rowOf}
+use Rattle.types.proofs.ByteLaws.{other}
 
 -- a field past the end
 pub field-out : (rows ns : List ℕ) (r i : ℕ) → length rows ≤ r * 8 + i → 0 ≡ field (table rows ns) r i
 unfolding field
 field-out rows ns r i h = sym (List·getD-eq-default rows 0 h)
+
+pub field-zero : (rows ns : List ℕ) (r : ℕ) → getD rows (r * 8) 0 ≡ field (table rows ns) r 0
+unfolding field
+field-zero rows ns r = let e : r * 8 + 0 ≡ r * 8 = omega arith in rw e
 
 -- a row by its fields
 module _ (rows ns : List ℕ) (r : ℕ) where
@@ -22,22 +30,34 @@ module _ (rows ns : List ℕ) (r : ℕ) where
   unfolding kindOf marksOf firstOf countOf rootOf
   row-of p q u v w = rw (p, q, u, v, w)
 
-  pub member-row : (i : ℕ) {f a b : ℕ} → f ≡ field (table rows ns) r 2 → a ≡ f → b ≡ i → a + b ≡ memberRow (table rows ns) r i
-  unfolding memberRow firstOf
-  member-row i p q u = rw (q, u, p)
+  pub member-row : (i : ℕ) {a b : ℕ} → a ≡ firstOf (table rows ns) r → b ≡ i → a + b ≡ memberRow (table rows ns) r i
+  unfolding memberRow
+  member-row i p q = rw (p, q)
 
-  pub may-miss : (i : ℕ) {o : Bool} {n : ℕ} → o ≡ optional (table rows ns) r i → n ≡ field (table rows ns) r 4
+  pub may-miss : (i : ℕ) {o : Bool} {n : ℕ} → o ≡ optional (table rows ns) r i → n ≡ rootOf (table rows ns) r
       → (o || leb n i) ≡ mayMiss (table rows ns) r i
-  unfolding mayMiss addition rootOf
+  unfolding mayMiss addition
   may-miss i p q = rw (p, q)
 
-pub name-in : (rows names : List ℕ) (m : ℕ) {f g a b : ℕ} {s : List ℕ} → f ≡ field (table rows names) m 3 → g ≡ field (table rows names) m 4
-    → a ≡ f → b ≡ g → s ≡ take b (drop a names) → s ≡ nameIn (table rows names) m
+pub name-in : (rows names : List ℕ) (m : ℕ) {a b : ℕ} {s : List ℕ} → a ≡ nameStart (table rows names) m → b ≡ nameLength (table rows names) m
+    → s ≡ take b (drop a names) → s ≡ nameIn (table rows names) m
 unfolding nameIn
-name-in rows names m p q u v e = e ∙ rw (u, v, p, q)
+name-in rows names m p q e = e ∙ rw (p, q)
 
-pub kind-form : (t : Table) (r k : ℕ) {w : Row} {b : Bool} → w ≡ rowOf t r → b ≡ formMark t r → (eqb (w .kind) k && b) ≡ (eqb (kindOf t r) k && formMark t r)
-kind-form t r k e p = rw (e, p)
+-- ---- marks
+
+pub kind-marked : (t : Table) (r k mark : ℕ) {w : Row} {b : Bool} → w ≡ rowOf t r → b ≡ marked t r mark → (eqb (w .kind) k && b) ≡ (eqb (kindOf t r) k && marked t r mark)
+kind-marked t r k mark e p = rw (e, p)
+
+pub marks-among : (t : Table) (r : ℕ) {w : Row} {may : ℕ} → w ≡ rowOf t r → may ≡ marksFor (w .kind) → (leb (w .marks % 2) (may % 2) && leb (w .marks / 2) (may / 2)) ≡ goodMarks t r
+unfolding goodMarks
+marks-among t r e p = rw (p, e)
+
+pub no-marks : (k : ℕ) → (k ≡ 2 → ⊥) → (k ≡ 4 → ⊥) → (k ≡ 6 → ⊥) → (k ≡ 8 → ⊥) → (k ≡ 9 → ⊥) → 0 ≡ marksFor k
+unfolding marksFor pick
+no-marks k n₂ n₄ n₆ n₈ n₉ = rw (other k 2 n₂, other k 4 n₄, other k 6 n₆, other k 8 n₈, other k 9 n₉, pick)
+
+-- ---- kinds
 
 pub kind-of : (t : Table) (r : ℕ) {w : Row} → w ≡ rowOf t r → w .kind ≡ kindOf t r
 kind-of t r e = ap (λ (w : Row). w .kind) e

@@ -7,7 +7,7 @@ use native.Mathlib.Omega.{arith}
 use borrow.Author.Tests.{eq-eqb, ne-eqb, not-true, not-false}
 use lib.Dec.{eqb}
 use Rattle.json.specs.Bytes.{pick}
-use Rattle.jer.specs.Table.{Table, kindOf, countOf, typeAt, formMark, field, firstWhere, Token, tokenCode, tokenPick, tokenOf, sameToken, alternative, tNull, isSome, isUnwrapped, canBeNull}
+use Rattle.jer.specs.Table.{Table, kindOf, countOf, typeAt, isArray, firstWhere, Token, tokenCode, tokenPick, tokenOf, sameToken, alternative, tNull, isSome, isUnwrapped, canBeNull}
 use Rattle.types.specs.declared.row.Row.{Row}
 use Rattle.types.specs.declared.token.Found.{Found}
 use Rattle.types.specs.declared.token.Found.the-variants.{At, Nothing}
@@ -21,11 +21,11 @@ module _ (t : Table) (r : ℕ) where
   token-string l h =
       rw (above (kindOf t r) 0 0 (omega arith), above (kindOf t r) 1 1 (omega arith), above (kindOf t r) 2 2 (omega arith), above (kindOf t r) 3 3 l, inside (kindOf t r) 4 5 l h, pick)
 
-  pub token-array : kindOf t r ≡ 6 → formMark t r ≡ true → 4 ≡ tokenCode (tokenOf t r)
+  pub token-array : kindOf t r ≡ 6 → isArray t r ≡ true → 4 ≡ tokenCode (tokenOf t r)
   unfolding tokenOf tokenCode tokenPick pick
   token-array h f = rw (h, f)
 
-  pub token-object : kindOf t r ≡ 6 → formMark t r ≡ false → 5 ≡ tokenCode (tokenOf t r)
+  pub token-object : kindOf t r ≡ 6 → isArray t r ≡ false → 5 ≡ tokenCode (tokenOf t r)
   unfolding tokenOf tokenCode tokenPick pick
   token-object h f = rw (h, f)
 
@@ -50,9 +50,9 @@ module _ (t : Table) (r : ℕ) (k : Token) (i : ℕ) {a n c : ℕ} (p : a ≡ ty
   unfolding sameToken
   picks-no h = ne-eqb _ _ (λ e. h (sym token-here ∙ e ∙ sym u))
 
-pub alternative-starts : (t : Table) (r : ℕ) (k : Token) {n : ℕ} → n ≡ field t r 3 → firstWhere (picks t r k) 0 (n - 0) ≡ alternative t r k
-unfolding alternative countOf
-alternative-starts t r k {n = n} e = let g : n - 0 ≡ field t r 3 = omega arith in rw g
+pub alternative-starts : (t : Table) (r : ℕ) (k : Token) {n : ℕ} → n ≡ countOf t r → firstWhere (picks t r k) 0 (n - 0) ≡ alternative t r k
+unfolding alternative
+alternative-starts t r k {n = n} e = let g : n - 0 ≡ countOf t r = omega arith in rw g
 
 -- null
 found-some : (o : Option ℕ) {i : ℕ} → At i ≡ foundOf o → isSome o ≡ true

@@ -8,13 +8,13 @@ use Rattle.jer.specs.declared.Refusal.the-variants.{AtRow}
 use Rattle.jer.specs.declared.Judged.{Judged}
 use Rattle.jer.specs.declared.Judged.the-variants.{Good, Refused}
 use Rattle.jer.specs.Table.{Table, MEMBER, kindOf, memberRow, optional, typeAt, nameAt, mayMiss, sameBytes, isUnwrapped, sameToken, tokenOf, nullTaken}
-use Rattle.jer.specs.Valid.{every, goodAlone, goodPointers, goodRules}
+use Rattle.jer.specs.Valid.{every, goodPointers, goodRules}
 use Rattle.types.specs.declared.members.By.{By}
 use Rattle.types.specs.declared.members.By.the-variants.{Name, Token}
 use Rattle.types.specs.declared.members.Rule.{Rule}
 use Rattle.types.specs.declared.members.Rule.the-variants.{IsMember, Required, Untyped, NullFree, Wrapped, Differs}
 use Rattle.types.specs.declared.passes.Pass.{Pass}
-use Rattle.types.specs.declared.passes.Pass.the-variants.{Alone, Pointers, Rules}
+use Rattle.types.specs.declared.passes.Pass.the-variants.{Pointers, Rules}
 
 -- ---- rules on the members of a type
 
@@ -35,7 +35,6 @@ keeps (Differs by) t r j = every (λ i. not (alike by t r i j)) 0 j
 -- ---- passes
 
 unfoldable pub goodIn : Pass → Table → ℕ → Bool
-goodIn Alone t r = goodAlone t r
 goodIn Pointers t r = goodPointers t r
 goodIn Rules t r = goodRules t r
 

@@ -1,76 +1,91 @@
-// The first pass: each row by itself.
+// The first pass: each row by itself. The row is inside, and ascii says that all names are known to be ASCII.
 use crate::bytes::utf8;
 use crate::row::Row;
-use crate::row::field;
-use crate::row::name_in;
 use crate::row::row_count;
+use crate::row::row_in;
 use crate::row::wide;
 ghost use mathlib.Core.Path.{_≡_};
 ghost use mathlib.Core.List.{List};
-ghost use Prim.Native.Nat.{ℕ, _+_, _≤_};
+ghost use mathlib.Core.Bool.{true};
+ghost use Prim.Native.Nat.{ℕ, _<_, _/_};
+ghost use lib.ListN.{length};
+ghost use Rattle.jer.specs.Table.{Table, rowCount};
 ghost use Rattle.jer.specs.Valid.{unused, goodBlock, goodName, goodAlone};
-ghost use Rattle.types.specs.Rows.{table};
+ghost use Rattle.types.specs.Rows.{table, rowOf};
+ghost use Rattle.types.specs.Bytes.{Ascii};
 
-// The n fields from i on are 0.
-pub fn unused(rows: &[u32], r: usize, i: usize, n: usize) -> bool
-    requires { ⌜ i + n ≤ 8 ⌝ }
-    ensures { λ b. ⌜ ((ns : List ℕ) → b ≡ unused (table (now (rows .entry)) ns) r i n) ⌝ }
+// Fields 5 to 7 are 0.
+fn end_unused(rows: &[u32], r: usize) -> bool
+    requires { ⌜ r < length (now rows) / 8 ⌝ }
+    ensures { λ b. ⌜ ((ns : List ℕ) → b ≡ unused (table (now (rows .entry)) ns) r 5 3) ⌝ }
 {
-    let end = i + n;
-    let mut k = i;
-    while k < end {
-        if field(rows, r, k) != 0 {
-            return false;
-        }
-        k += 1;
-    }
-    true
+    let k = r * 8;
+    (rows[k + 5] == 0) & (rows[k + 6] == 0) & (rows[k + 7] == 0)
 }
 
-// A type's block of members, with at least so many.
-pub fn good_block(rows: &[u32], r: usize, least: u32) -> bool
-    ensures { λ b. ⌜ ((ns : List ℕ) → b ≡ goodBlock (table (now (rows .entry)) ns) r least) ⌝ }
+// Fields 2 to 4 are 0.
+fn bare(row: Row) -> bool
+    ensures { λ b. ⌜ ((t : Table) (r : ℕ) → row ≡ rowOf t r → b ≡ unused t r 2 3) ⌝ }
 {
-    let row = Row::at(rows, r);
+    (row.first == 0) & (row.members == 0) & (row.root == 0)
+}
+
+// A type's block of members, by its row and the table's count of rows.
+fn block(row: Row, count: usize, least: u32) -> bool
+    ensures { λ b. ⌜ ((t : Table) (r : ℕ) → row ≡ rowOf t r → count ≡ rowCount t → b ≡ goodBlock t r least) ⌝ }
+{
     let many = (least <= row.members) & (row.members <= 64);
-    let inside = wide(row.first) + wide(row.members) <= row_count(rows);
+    let inside = wide(row.first) + wide(row.members) <= count;
     let root = (least <= row.root) & (row.root <= row.members);
     many & inside & root & (row.extensible() | (row.root == row.members))
 }
 
-pub fn good_name(rows: &[u32], names: &[u8], m: usize) -> bool
+// The name in the member's row m.
+fn good_name(rows: &[u32], names: &[u8], ascii: bool, m: usize) -> bool
+    requires { ⌜ (m < length (now rows) / 8) × (ascii ≡ true → Ascii (now names)) ⌝ }
     ensures { λ b. ⌜ b ≡ goodName (table (now (rows .entry)) (now (names .entry))) m ⌝ }
 {
-    let start = wide(field(rows, m, 3));
-    let len = wide(field(rows, m, 4));
-    (1 <= len) & (len <= 128) & (start + len <= names.len()) & utf8(name_in(rows, names, m))
-}
-
-pub fn good_alone(rows: &[u32], names: &[u8], r: usize) -> bool
-    ensures { λ b. ⌜ b ≡ goodAlone (table (now (rows .entry)) (now (names .entry))) r ⌝ }
-{
-    if !unused(rows, r, 5, 3) {
+    let row = row_in(rows, m);
+    let start = wide(row.members);
+    let n = wide(row.root);
+    if n == 0 {
         return false;
     }
-    let row = Row::at(rows, r);
+    if 128 < n {
+        return false;
+    }
+    let end = start + n;
+    if names.len() < end {
+        return false;
+    }
+    if ascii {
+        return true;
+    }
+    utf8(&names[start..end])
+}
+
+// Row r by itself.
+pub fn good_alone(rows: &[u32], names: &[u8], ascii: bool, r: usize) -> bool
+    requires { ⌜ (r < length (now rows) / 8) × (ascii ≡ true → Ascii (now names)) ⌝ }
+    ensures { λ b. ⌜ b ≡ goodAlone (table (now (rows .entry)) (now (names .entry))) r ⌝ }
+{
+    if !end_unused(rows, r) {
+        return false;
+    }
+    let row = row_in(rows, r);
+    if !row.good_marks() {
+        return false;
+    }
+    let count = row_count(rows);
     let kind = row.kind;
     match kind {
-        Row::BOOLEAN | Row::INTEGER | Row::NULL | Row::UTF8_STRING => unused(rows, r, 1, 4),
-        Row::ENUMERATED => ((row.marks == 0) | (row.marks == Row::EXTENSIBLE))
-            & good_block(rows, r, 1),
-        Row::OCTET_STRING => (row.marks <= Row::FORM) & unused(rows, r, 2, 3),
-        Row::SEQUENCE => {
-            let marks = row.marks <= Row::FORM + Row::EXTENSIBLE;
-            marks & good_block(rows, r, 0) & ((row.members != 0) | (row.first == 0))
-        }
-        Row::SEQUENCE_OF => {
-            let element = wide(row.first) < row_count(rows);
-            unused(rows, r, 1, 1) & element & unused(rows, r, 3, 2)
-        }
-        Row::CHOICE => (row.marks <= Row::FORM + Row::EXTENSIBLE) & good_block(rows, r, 1),
+        Row::BOOLEAN | Row::INTEGER | Row::NULL | Row::OCTET_STRING | Row::UTF8_STRING => bare(row),
+        Row::ENUMERATED | Row::CHOICE => block(row, count, 1),
+        Row::SEQUENCE => block(row, count, 0) & ((row.members != 0) | (row.first == 0)),
+        Row::SEQUENCE_OF => (wide(row.first) < count) & ((row.members == 0) & (row.root == 0)),
         Row::MEMBER => {
-            let inside = wide(row.first) < row_count(rows);
-            (r != 0) & (row.marks <= Row::OPTIONAL) & inside & good_name(rows, names, r)
+            let inside = wide(row.first) < count;
+            (r != 0) & inside & good_name(rows, names, ascii, r)
         }
         _ => false,
     }

@@ -1,9 +1,10 @@
 // Bytes: a part of a slice, whether two slices hold the same, and UTF-8.
 ghost use mathlib.Core.Path.{_≡_};
+ghost use mathlib.Core.Bool.{true};
 ghost use lib.ListN.{take, drop};
 ghost use Rattle.json.specs.Utf8.{utf8, start, dueStep, dueNext, dueEnd};
 ghost use Rattle.jer.specs.Table.{sameBytes};
-ghost use Rattle.types.specs.Bytes.{dueOf};
+ghost use Rattle.types.specs.Bytes.{dueOf, Ascii};
 
 // The n bytes from `at` on, or as many of them as there are.
 pub fn part(s: &[u8], at: usize, n: usize) -> &[u8]
@@ -114,4 +115,17 @@ pub fn utf8(s: &[u8]) -> bool
         i += 1;
     }
     due.ended()
+}
+
+// Every byte is ASCII.
+pub fn all_ascii(s: &[u8]) -> bool
+    ensures { λ b. ⌜ (b ≡ true → Ascii (now (s .entry))) ⌝ }
+{
+    let mut all = true;
+    let mut i = 0;
+    while i < s.len() {
+        all = all & (s[i] <= 0x7F);
+        i += 1;
+    }
+    all
 }

@@ -8,6 +8,7 @@ mod alone; // alone.rt: each row by itself
 mod members; // members.rt: rules that the members of a type keep one by one
 mod rules; // rules.rt: each row by those it points to, each type by its other rules
 mod passes; // passes.rt: sizes, and one pass over the rows
+mod sure; // sure.rt: the second and the third pass at once, if surely good
 
 use jer::Judged;
 use jer::Refusal;
@@ -15,6 +16,8 @@ use jer::Which;
 use passes::Pass;
 use passes::good_sizes;
 use passes::passed;
+use passes::passed_alone;
+use sure::sure;
 ghost use Rattle.jer.specs.Contracts.{TableCall};
 ghost use Rattle.types.specs.Rows.{table};
 
@@ -25,11 +28,16 @@ pub fn check(rows: &[u32], names: &[u8]) -> Judged
     if !good_sizes(rows, names) {
         return Judged::Refused(Refusal::AtRow(Which::TypeTable, 0));
     }
-    match passed(rows, names, Pass::Alone) {
+    match passed_alone(rows, names) {
         Judged::Refused(e) => Judged::Refused(e),
-        Judged::Good => match passed(rows, names, Pass::Pointers) {
-            Judged::Refused(e) => Judged::Refused(e),
-            Judged::Good => passed(rows, names, Pass::Rules),
-        },
+        Judged::Good => {
+            if sure(rows, names) {
+                return Judged::Good;
+            }
+            match passed(rows, names, Pass::Pointers) {
+                Judged::Refused(e) => Judged::Refused(e),
+                Judged::Good => passed(rows, names, Pass::Rules),
+            }
+        }
     }
 }

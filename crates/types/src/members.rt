@@ -1,7 +1,7 @@
 // Rules that a type's members keep one by one: one loop over the members, and one over those before a member.
 use crate::bytes::same_bytes;
 use crate::row::Row;
-use crate::row::field;
+use crate::row::count_of;
 use crate::row::may_miss;
 use crate::row::member_at;
 use crate::row::member_row;
@@ -85,7 +85,7 @@ pub fn keeps(rows: &[u32], names: &[u8], rule: Rule, r: usize, i: u32) -> bool
 pub fn all_keep(rows: &[u32], names: &[u8], rule: Rule, r: usize) -> bool
     ensures { λ b. ⌜ b ≡ every (keeps rule (table (now (rows .entry)) (now (names .entry))) r) 0 (countOf (table (now (rows .entry)) (now (names .entry))) r) ⌝ }
 {
-    let count = field(rows, r, 3);
+    let count = count_of(rows, r);
     let mut i: u32 = 0;
     while i < count {
         if !keeps(rows, names, rule, r, i) {

@@ -1,5 +1,6 @@
 // The sizes of a type table, and one pass over its rows.
 use crate::alone::good_alone;
+use crate::bytes::all_ascii;
 use crate::row::row_count;
 use crate::rules::good_pointers;
 use crate::rules::good_rules;
@@ -7,7 +8,7 @@ use jer::Judged;
 use jer::Refusal;
 use jer::Which;
 ghost use mathlib.Core.Path.{_≡_};
-ghost use Rattle.jer.specs.Valid.{goodSizes, pass};
+ghost use Rattle.jer.specs.Valid.{goodAlone, goodSizes, pass};
 ghost use Rattle.types.specs.Rows.{table};
 ghost use Rattle.types.specs.Check.{goodIn, rowJudged};
 
@@ -16,9 +17,8 @@ const NUMBERS: usize = 32768;
 
 const NAMES: usize = 65536;
 
-// Each row by itself; by the kinds of the rows it points to; each type by its other rules.
+// After each row by itself: by the kinds of the rows it points to; each type by its other rules.
 pub enum Pass {
-    Alone,
     Pointers,
     Rules,
 }
@@ -34,10 +34,25 @@ pub fn good_in(rows: &[u32], names: &[u8], p: Pass, r: usize) -> bool
     ensures { λ b. ⌜ b ≡ goodIn p (table (now (rows .entry)) (now (names .entry))) r ⌝ }
 {
     match p {
-        Pass::Alone => good_alone(rows, names, r),
         Pass::Pointers => good_pointers(rows, names, r),
         Pass::Rules => good_rules(rows, names, r),
     }
+}
+
+// The first pass: each row by itself.
+pub fn passed_alone(rows: &[u32], names: &[u8]) -> Judged
+    ensures { λ j. ⌜ j ≡ rowJudged (pass (table (now (rows .entry)) (now (names .entry))) (goodAlone (table (now (rows .entry)) (now (names .entry))))) ⌝ }
+{
+    let ascii = all_ascii(names);
+    let count = row_count(rows);
+    let mut r = 0;
+    while r < count {
+        if !good_alone(rows, names, ascii, r) {
+            return Judged::Refused(Refusal::AtRow(Which::TypeTable, r));
+        }
+        r += 1;
+    }
+    Judged::Good
 }
 
 // One pass upwards: refusal 1 at the first row that fails.

@@ -2,8 +2,10 @@
 use crate::bytes::part;
 ghost use mathlib.Core.Path.{_≡_};
 ghost use mathlib.Core.List.{List};
-ghost use Prim.Native.Nat.{ℕ, _<_};
-ghost use Rattle.jer.specs.Table.{Table, rowCount, field, isType, formMark, extensible, isBase64, isArray, isUnwrapped, memberRow, optional, typeAt, nameIn, mayMiss};
+ghost use Prim.Native.Nat.{ℕ, _<_, _/_};
+ghost use lib.ListN.{length};
+ghost use Rattle.jer.specs.Table.{Table, rowCount, field, kindOf, isType, marksFor, marked, extensible, isBase64, isArray, isUnwrapped, firstOf, elementOf, countOf, rootOf, memberRow, optional, typeIn, typeAt, nameStart, nameLength, nameIn, mayMiss};
+ghost use Rattle.jer.specs.Valid.{goodMarks};
 ghost use Rattle.types.specs.Rows.{table, rowOf};
 
 // Fields 0 to 4; the last three have another use in a member's row.
@@ -19,7 +21,7 @@ pub struct Row {
 }
 
 // Field i of row r, or 0 past the end.
-pub fn field(rows: &[u32], r: usize, i: usize) -> u32
+fn field(rows: &[u32], r: usize, i: usize) -> u32
     ensures { λ n. ⌜ ((ns : List ℕ) → n ≡ field (table (now (rows .entry)) ns) r i) ⌝ }
 {
     let end = rows.len();
@@ -46,6 +48,62 @@ pub fn row_count(rows: &[u32]) -> usize
     rows.len() / 8
 }
 
+// The kind of row r.
+pub fn kind_of(rows: &[u32], r: usize) -> u32
+    ensures { λ n. ⌜ ((ns : List ℕ) → n ≡ kindOf (table (now (rows .entry)) ns) r) ⌝ }
+{
+    field(rows, r, 0)
+}
+
+// The first member's row of the type at r.
+pub fn first_of(rows: &[u32], r: usize) -> usize
+    ensures { λ n. ⌜ ((ns : List ℕ) → n ≡ firstOf (table (now (rows .entry)) ns) r) × (n < 4294967296) ⌝ }
+{
+    wide(field(rows, r, 2))
+}
+
+// The row of its elements' type.
+pub fn element_of(rows: &[u32], r: usize) -> usize
+    ensures { λ n. ⌜ ((ns : List ℕ) → n ≡ elementOf (table (now (rows .entry)) ns) r) ⌝ }
+{
+    wide(field(rows, r, 2))
+}
+
+// How many members it has.
+pub fn count_of(rows: &[u32], r: usize) -> u32
+    ensures { λ n. ⌜ ((ns : List ℕ) → n ≡ countOf (table (now (rows .entry)) ns) r) ⌝ }
+{
+    field(rows, r, 3)
+}
+
+// How many of them are root.
+pub fn root_of(rows: &[u32], r: usize) -> u32
+    ensures { λ n. ⌜ ((ns : List ℕ) → n ≡ rootOf (table (now (rows .entry)) ns) r) ⌝ }
+{
+    field(rows, r, 4)
+}
+
+// The type's row in the member's row m.
+pub fn type_in(rows: &[u32], m: usize) -> usize
+    ensures { λ n. ⌜ ((ns : List ℕ) → n ≡ typeIn (table (now (rows .entry)) ns) m) ⌝ }
+{
+    wide(field(rows, m, 2))
+}
+
+// Where the name in the member's row m starts.
+pub fn name_start(rows: &[u32], m: usize) -> usize
+    ensures { λ n. ⌜ ((ns : List ℕ) → n ≡ nameStart (table (now (rows .entry)) ns) m) × (n < 4294967296) ⌝ }
+{
+    wide(field(rows, m, 3))
+}
+
+// Its length.
+pub fn name_length(rows: &[u32], m: usize) -> usize
+    ensures { λ n. ⌜ ((ns : List ℕ) → n ≡ nameLength (table (now (rows .entry)) ns) m) × (n < 4294967296) ⌝ }
+{
+    wide(field(rows, m, 4))
+}
+
 impl Row {
     // Kinds, field 0.
     pub const BOOLEAN: u32 = 0;
@@ -68,12 +126,30 @@ impl Row {
 
     pub const MEMBER: u32 = 9;
 
-    // Marks, field 1: BASE64, ARRAY or UNWRAPPED by kind; extensible; of a member, OPTIONAL.
-    pub const FORM: u32 = 1;
+    // Marks, field 1.
+    pub const BASE64: u32 = 1;
+
+    pub const ARRAY: u32 = 1;
+
+    pub const UNWRAPPED: u32 = 1;
 
     pub const EXTENSIBLE: u32 = 2;
 
     pub const OPTIONAL: u32 = 1;
+
+    // The sum of the marks that a row of the kind may carry.
+    pub fn marks_for(kind: u32) -> u32
+        ensures { λ m. ⌜ m ≡ marksFor kind ⌝ }
+    {
+        match kind {
+            Row::ENUMERATED => Row::EXTENSIBLE,
+            Row::OCTET_STRING => Row::BASE64,
+            Row::SEQUENCE => Row::ARRAY + Row::EXTENSIBLE,
+            Row::CHOICE => Row::UNWRAPPED + Row::EXTENSIBLE,
+            Row::MEMBER => Row::OPTIONAL,
+            _ => 0,
+        }
+    }
 
     // Row r, with 0 past the end.
     pub fn at(rows: &[u32], r: usize) -> Row
@@ -94,34 +170,44 @@ impl Row {
         self.kind <= Row::CHOICE
     }
 
-    pub fn form(self) -> bool
-        ensures { λ b. ⌜ ((t : Table) (r : ℕ) → self ≡ rowOf t r → b ≡ formMark t r) ⌝ }
+    // It carries no mark but those of its kind.
+    pub fn good_marks(self) -> bool
+        ensures { λ b. ⌜ ((t : Table) (r : ℕ) → self ≡ rowOf t r → b ≡ goodMarks t r) ⌝ }
     {
-        self.marks % 2 == Row::FORM
+        let may = Row::marks_for(self.kind);
+        (self.marks % 2 <= may % 2) & (self.marks / 2 <= may / 2)
+    }
+
+    // It carries the mark.
+    fn marked(self, mark: u32) -> bool
+        requires { ⌜ 0 < mark ⌝ }
+        ensures { λ b. ⌜ ((t : Table) (r : ℕ) → self ≡ rowOf t r → b ≡ marked t r mark) ⌝ }
+    {
+        self.marks / mark % 2 == 1
     }
 
     pub fn extensible(self) -> bool
         ensures { λ b. ⌜ ((t : Table) (r : ℕ) → self ≡ rowOf t r → b ≡ extensible t r) ⌝ }
     {
-        self.marks / Row::EXTENSIBLE % 2 == 1
+        self.marked(Row::EXTENSIBLE)
     }
 
     pub fn is_base64(self) -> bool
         ensures { λ b. ⌜ ((t : Table) (r : ℕ) → self ≡ rowOf t r → b ≡ isBase64 t r) ⌝ }
     {
-        (self.kind == Row::OCTET_STRING) & self.form()
+        (self.kind == Row::OCTET_STRING) & self.marked(Row::BASE64)
     }
 
     pub fn is_array(self) -> bool
         ensures { λ b. ⌜ ((t : Table) (r : ℕ) → self ≡ rowOf t r → b ≡ isArray t r) ⌝ }
     {
-        (self.kind == Row::SEQUENCE) & self.form()
+        (self.kind == Row::SEQUENCE) & self.marked(Row::ARRAY)
     }
 
     pub fn is_unwrapped(self) -> bool
         ensures { λ b. ⌜ ((t : Table) (r : ℕ) → self ≡ rowOf t r → b ≡ isUnwrapped t r) ⌝ }
     {
-        (self.kind == Row::CHOICE) & self.form()
+        (self.kind == Row::CHOICE) & self.marked(Row::UNWRAPPED)
     }
 
     // Of the row of a member.
@@ -132,11 +218,26 @@ impl Row {
     }
 }
 
+// Row r, which is inside: its fields are read without a test for each.
+pub fn row_in(rows: &[u32], r: usize) -> Row
+    requires { ⌜ r < length (now rows) / 8 ⌝ }
+    ensures { λ w. ⌜ ((ns : List ℕ) → w ≡ rowOf (table (now (rows .entry)) ns) r) ⌝ }
+{
+    let k = r * 8;
+    Row {
+        kind: rows[k],
+        marks: rows[k + 1],
+        first: rows[k + 2],
+        members: rows[k + 3],
+        root: rows[k + 4],
+    }
+}
+
 // The row of the member at the position i of the type at r.
 pub fn member_row(rows: &[u32], r: usize, i: u32) -> usize
     ensures { λ m. ⌜ ((ns : List ℕ) → m ≡ memberRow (table (now (rows .entry)) ns) r i) ⌝ }
 {
-    wide(field(rows, r, 2)) + wide(i)
+    first_of(rows, r) + wide(i)
 }
 
 // Its own row.
@@ -150,19 +251,19 @@ pub fn member_at(rows: &[u32], r: usize, i: u32) -> Row
 pub fn type_at(rows: &[u32], r: usize, i: u32) -> usize
     ensures { λ m. ⌜ ((ns : List ℕ) → m ≡ typeAt (table (now (rows .entry)) ns) r i) ⌝ }
 {
-    wide(field(rows, member_row(rows, r, i), 2))
+    type_in(rows, member_row(rows, r, i))
 }
 
 // OPTIONAL, or an addition.
 pub fn may_miss(rows: &[u32], r: usize, i: u32) -> bool
     ensures { λ b. ⌜ ((ns : List ℕ) → b ≡ mayMiss (table (now (rows .entry)) ns) r i) ⌝ }
 {
-    member_at(rows, r, i).optional() | (field(rows, r, 4) <= i)
+    member_at(rows, r, i).optional() | (root_of(rows, r) <= i)
 }
 
 // The name in the member's row m.
 pub fn name_in<'a>(rows: &[u32], names: &'a [u8], m: usize) -> &'a [u8]
     ensures { λ s. ⌜ now s ≡ nameIn (table (now (rows .entry)) (now (names .entry))) m ⌝ }
 {
-    part(names, wide(field(rows, m, 3)), wide(field(rows, m, 4)))
+    part(names, name_start(rows, m), name_length(rows, m))
 }

@@ -1,6 +1,6 @@
 // The JSON token that a value of a type begins with, and the types that take null for themselves.
 use crate::row::Row;
-use crate::row::field;
+use crate::row::count_of;
 use crate::row::type_at;
 ghost use mathlib.Core.Path.{_≡_};
 ghost use mathlib.Core.List.{List};
@@ -38,7 +38,7 @@ pub fn token_of(rows: &[u32], r: usize) -> u32
         Row::INTEGER => NUMBER,
         Row::NULL => NULL,
         Row::ENUMERATED | Row::OCTET_STRING | Row::UTF8_STRING => STRING,
-        Row::SEQUENCE => if row.form() { ARRAY } else { OBJECT },
+        Row::SEQUENCE => if row.is_array() { ARRAY } else { OBJECT },
         Row::SEQUENCE_OF => ARRAY,
         _ => OBJECT,
     }
@@ -48,7 +48,7 @@ pub fn token_of(rows: &[u32], r: usize) -> u32
 pub fn alternative(rows: &[u32], r: usize, token: u32) -> Found
     ensures { λ f. ⌜ ((ns : List ℕ) (k : Token) → token ≡ tokenCode k → f ≡ foundOf (alternative (table (now (rows .entry)) ns) r k)) ⌝ }
 {
-    let count = field(rows, r, 3);
+    let count = count_of(rows, r);
     let mut i: u32 = 0;
     while i < count {
         if token_of(rows, type_at(rows, r, i)) == token {

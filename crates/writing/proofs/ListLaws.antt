@@ -7,7 +7,7 @@ use native.Mathlib.Omega.{arith}
 use native.Mathlib.Numerals.{add-one}
 use lib.Dec.{eqb}
 use lib.ListN.{length, drop, length-append}
-use Rattle.jer.specs.Table.{Table, field, elementOf}
+use Rattle.jer.specs.Table.{Table, elementOf}
 use Rattle.jer.specs.Value.{Val, vList, Vals, vcons}
 use Rattle.jer.specs.Rows.{ValueRow}
 use Rattle.jer.specs.Judge.{Took, took, wrong, andThen, Taker, takeItems, sized, takeList, takeValue}
@@ -15,10 +15,6 @@ use Rattle.jer.specs.Write.{joined, brackets, write, itemTexts}
 use Rattle.writing.specs.Text.{Puts, textOf, bracketText, Writes, comma, endedAs}
 use Rattle.writing.proofs.PutLaws.{puts-none, puts-append, puts-as}
 use Rattle.writing.proofs.TextLaws.{Value, NoValue, then-as, then-then, closed, ends, text-ended, text-wrong, joined-more}
-
-pub element-is : (t : Table) (r : ℕ) {x : ℕ} → x ≡ field t r 2 → x ≡ elementOf t r
-unfolding elementOf
-element-is t r e = e
 
 -- what the items give, after the texts xs of those before them
 unfoldable pub itemsText : Table → ℕ → ValueRow → ℕ → List (List ℕ) → Took Vals → Took (List ℕ)

@@ -7,7 +7,7 @@ use native.Mathlib.Omega.{arith}
 use lib.Dec.{eqb}
 use lib.ListN.{length, getD}
 use lib.Seq.{drop-nil}
-use Rattle.jer.specs.Table.{Table, field, kindOf, isUnwrapped, typeAt, mayMiss}
+use Rattle.jer.specs.Table.{Table, kindOf, isUnwrapped, typeAt, mayMiss}
 use Rattle.jer.specs.Rows.{ValueRow, row}
 use Rattle.jer.specs.Judge.{isAbsent, rowsIn}
 use Rattle.writing.specs.Rows.{rowsFrom, absentNext, nullNext}
@@ -48,8 +48,8 @@ module _ (t : Table) (r i : ℕ) {ws : List ValueRow} where
   absent-none e = rw e
 
 module _ (t : Table) (r : ℕ) {ws : List ValueRow} where
-  pub null-row : {w : ValueRow} {us : List ValueRow} {k c m : ℕ} {u : Bool} → ws ≡ w ∷ us → k ≡ kindOf t r → u ≡ isUnwrapped t r → c ≡ field t m 0 → m ≡ typeAt t r (w .a) → (eqb k 3 || (u && eqb c 3)) ≡ nullNext t r ws
-  unfolding nullNext kindOf
+  pub null-row : {w : ValueRow} {us : List ValueRow} {k c m : ℕ} {u : Bool} → ws ≡ w ∷ us → k ≡ kindOf t r → u ≡ isUnwrapped t r → c ≡ kindOf t m → m ≡ typeAt t r (w .a) → (eqb k 3 || (u && eqb c 3)) ≡ nullNext t r ws
+  unfolding nullNext
   null-row e f g h k = rw (e, f, g, h, k)
 
   pub null-none : ws ≡ [] → false ≡ nullNext t r ws

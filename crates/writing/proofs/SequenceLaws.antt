@@ -8,7 +8,7 @@ use native.Mathlib.Nat.{add-zero}
 use native.Mathlib.Numerals.{add-one}
 use lib.Dec.{eqb}
 use lib.ListN.{length, drop}
-use Rattle.jer.specs.Table.{Table, field, isArray, countOf, typeAt, sameBytes}
+use Rattle.jer.specs.Table.{Table, isArray, countOf, typeAt, sameBytes}
 use Rattle.jer.specs.Value.{Val, vSeq, Parts, absent, present, countPresent}
 use Rattle.jer.specs.Rows.{ValueRow}
 use Rattle.jer.specs.Judge.{Took, took, wrong, andThen, Taker, takeParts, takeSequence, takeValue}
@@ -22,10 +22,6 @@ use Rattle.writing.proofs.RestLaws.{next-rows}
 use Rattle.writing.proofs.NullLaws.{value-null}
 use Rattle.writing.proofs.TextLaws.{Value, NoValue, value-none, then-as, then-then, closed, ends, text-ended, text-wrong}
 use Rattle.writing.proofs.PartLaws.{after, whole, enclosed, whole-start, whole-end, whole-absent, whole-null, whole-part, after-length, after-kept, lead-joined}
-
-pub count-is : (t : Table) (r : ℕ) {x : ℕ} → x ≡ field t r 3 → x ≡ countOf t r
-unfolding countOf
-count-is t r e = e
 
 -- whether an ARRAY's element is null, by what the code asked
 pub null-is : (t : Table) (ws : List ValueRow) (b : Bool) {e x : ℕ} {n c : Bool} → e ≡ x → n ≡ nullNext t e ws → (b && n) ≡ c → (b && nullNext t x ws) ≡ c

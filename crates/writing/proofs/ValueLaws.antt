@@ -11,7 +11,7 @@ use lib.ListN.{drop}
 use borrow.Author.Tests.{ne-eqb, lt-ltb, le-ltb, ltb-true}
 use Rattle.json.specs.Bytes.{pick}
 use Rattle.json.proofs.SoundRows.{pick-within, _⨾_, only}
-use Rattle.jer.specs.Table.{Table, field, CHOICE, kindOf, isUnwrapped, countOf, memberRow, typeAt, nameIn, nameAt}
+use Rattle.jer.specs.Table.{Table, CHOICE, kindOf, isUnwrapped, countOf, memberRow, typeAt, nameIn, nameAt}
 use Rattle.jer.specs.Value.{Val, vChoice}
 use Rattle.jer.specs.Rows.{ValueRow, row}
 use Rattle.jer.specs.Judge.{Took, took, wrong, andThen, Taker, sized, inBracket, takeSequence, takeList, takeChoice, takeRow, onRow, takeUnwrapped, takeValue}
@@ -22,10 +22,6 @@ use Rattle.writing.specs.Text.{Puts, textOf, valueText, bracketText, Wri
 use Rattle.writing.proofs.PutLaws.{puts-append, puts-as}
 use Rattle.writing.proofs.NullLaws.{unwrapped-write}
 use Rattle.writing.proofs.TextLaws.{Value, NoValue, value-none, closed, ends, text-ended, text-wrong}
-
-pub kind-is : (t : Table) (r : ℕ) {x : ℕ} → x ≡ field t r 0 → x ≡ kindOf t r
-unfolding kindOf
-kind-is t r e = e
 
 -- a CHOICE's row, by the test that the code made
 pub right-is : (k a b : ℕ) {c d : ℕ} {g : Bool} → c ≡ d → (eqb k 8 && (ltb a c && eqb b 0)) ≡ g → (eqb k CHOICE && (ltb a d && eqb b 0)) ≡ g

@@ -11,7 +11,7 @@ use crate::taken::ended;
 use types::bytes::part;
 use types::bytes::utf8;
 use types::row::Row;
-use types::row::field;
+use types::row::count_of;
 use types::row::member_row;
 use types::row::name_in;
 use types::row::wide;
@@ -93,7 +93,7 @@ pub fn leaf(
             let name = name_in(types, names, member_row(types, r, w.a));
             let end = put_string(text, k, Form::Escaped, name);
             ended(
-                (w.a < field(types, r, 3)) & (w.b == 0),
+                (w.a < count_of(types, r)) & (w.b == 0),
                 w.size,
                 q,
                 q + 1,

@@ -1,6 +1,6 @@
 // The rows of the value table.
 use types::row::Row;
-use types::row::field;
+use types::row::kind_of;
 use types::row::may_miss;
 use types::row::type_at;
 ghost use mathlib.Core.Path.{_≡_};
@@ -67,7 +67,7 @@ pub fn null_at(types: &[u32], values: &[u32], r: usize, q: usize) -> bool
     match row_at(values, q) {
         Found::Row(w) => {
             let row = Row::at(types, r);
-            let chosen = field(types, type_at(types, r, w.a), 0);
+            let chosen = kind_of(types, type_at(types, r, w.a));
             (row.kind == Row::NULL) | (row.is_unwrapped() & (chosen == Row::NULL))
         }
         Found::End => false,

@@ -15,11 +15,12 @@ use crate::rows::row_at;
 use crate::taken::Taken;
 use crate::taken::ended;
 use types::row::Row;
-use types::row::field;
+use types::row::count_of;
+use types::row::element_of;
+use types::row::kind_of;
 use types::row::member_row;
 use types::row::name_in;
 use types::row::type_at;
-use types::row::wide;
 ghost use mathlib.Core.Path.{_≡_};
 ghost use mathlib.Core.Bool.{false};
 ghost use mathlib.Core.List.{[]};
@@ -53,7 +54,7 @@ pub fn value(
     let Found::Row(w) = row_at(values, q) else {
         return Taken::Wrong(q);
     };
-    let right = (w.kind == Row::CHOICE) & ((w.a < field(types, r, 3)) & (w.b == 0));
+    let right = (w.kind == Row::CHOICE) & ((w.a < count_of(types, r)) & (w.b == 0));
     if !right {
         return Taken::Wrong(q);
     }
@@ -84,7 +85,7 @@ fn plain(
         return Taken::Wrong(q);
     };
     let kind = w.kind;
-    if kind != field(types, r, 0) {
+    if kind != kind_of(types, r) {
         return Taken::Wrong(q);
     }
     if kind < Row::SEQUENCE {
@@ -105,7 +106,7 @@ fn plain(
     if kind != Row::CHOICE {
         return Taken::Wrong(q);
     }
-    if field(types, r, 3) <= w.a {
+    if count_of(types, r) <= w.a {
         return Taken::Wrong(q);
     }
     choice(types, names, values, pool, text, w, r, q, o, k, depth - 1)
@@ -128,7 +129,7 @@ fn list(
     requires { ⌜ Wrapped (table (now types) (now names)) × (q < length (now values)) ⌝ }
     ensures { λ a. ⌜ Writes (bracketText (takeList (table (now (types .entry)) (now (names .entry))) r (valueRow w) (rowsFrom (now (values .entry)) (suc q)) q o) depth (table (now (types .entry)) (now (names .entry))) (now (pool .entry)) r) k (now (text .entry)) (now (text .exit)) a ⌝ }
 {
-    let e = wide(field(types, r, 2));
+    let e = element_of(types, r);
     let mut i: u32 = 0;
     let mut next = q + 1;
     let mut used = o;
@@ -167,7 +168,7 @@ fn sequence(
     ensures { λ a. ⌜ Writes (bracketText (takeSequence (table (now (types .entry)) (now (names .entry))) r (valueRow w) (rowsFrom (now (values .entry)) (suc q)) q o) depth (table (now (types .entry)) (now (names .entry))) (now (pool .entry)) r) k (now (text .entry)) (now (text .exit)) a ⌝ }
 {
     let array = Row::at(types, r).is_array();
-    let count = field(types, r, 3);
+    let count = count_of(types, r);
     let mut i: u32 = 0;
     let mut present: u32 = 0;
     let mut kept: u32 = 0;

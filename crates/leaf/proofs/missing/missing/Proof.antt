@@ -30,8 +30,8 @@ add-put-row c = search needs
 type-at-requires-2 : tie.Need-type-at-requires-2
 type-at-requires-2 c κs = search needs
 
-field-requires : tie.Need-field-requires
-field-requires c κs = search needs
+kind-of-requires : tie.Need-kind-of-requires
+kind-of-requires c κs = search needs
 
 put-row-requires-2 : tie.Need-put-row-requires-2
 put-row-requires-2 c κs = search needs
@@ -48,7 +48,7 @@ returns c = let a = c .before .before .before .before .before .before .before .b
     let m = c .before .before .before .before .before .before .before .before .before .before .before .before .before .before .before .before .before .before .type-at in
     let w = c .before .before .before .before .before .before .before .before .before .before .before .before .before .before .before .before .before .at in
     λ ns pool o. let t = table (a .types .now) ns in
-    missing-two t (a .row) (a .p) (a .member) (a .next) (m .ensures ns) (missing-choice t (m .result) (a .p) (a .member) (c .before .before .before .before .before .before .before .before .before .before .before .before .before .before .before .before .is-unwrapped .ensures t (m .result) (w .ensures ns)) (c .before .before .before .before .before .before .before .before .before .before .before .before .before .before .before .if1 .taken) (sym (c .before .before .before .before .before .before .before .before .before .before .before .before .k .given .1) ∙ c .before .before .before .before .before .before .before .before .before .before .before .before .before .before .alternative .ensures ns tNull refl)) (w .ensures ns) (c .before .before .before .before .before .type-at2 .ensures ns) (c .before .before .before .before .field .ensures ns) (c .before .before .before .before .before .before .before .before .before .put-row .ensures) (c .before .before .before .put-row2 .ensures) (c .read .ensures)
+    missing-two t (a .row) (a .p) (a .member) (a .next) (m .ensures ns) (missing-choice t (m .result) (a .p) (a .member) (c .before .before .before .before .before .before .before .before .before .before .before .before .before .before .before .before .is-unwrapped .ensures t (m .result) (w .ensures ns)) (c .before .before .before .before .before .before .before .before .before .before .before .before .before .before .before .if1 .taken) (sym (c .before .before .before .before .before .before .before .before .before .before .before .before .k .given .1) ∙ c .before .before .before .before .before .before .before .before .before .before .before .before .before .before .alternative .ensures ns tNull refl)) (w .ensures ns) (c .before .before .before .before .before .type-at2 .ensures ns) (c .before .before .before .before .kind-of .ensures ns) (c .before .before .before .before .before .before .before .before .before .put-row .ensures) (c .before .before .before .put-row2 .ensures) (c .read .ensures)
 
 enum-told : tie.Need-enum-told
 enum-told c = search needs
@@ -116,7 +116,7 @@ missing-spec =
     put-row-requires
     add-put-row
     type-at-requires-2
-    field-requires
+    kind-of-requires
     put-row-requires-2
     read-requires
     same-length

@@ -6,8 +6,8 @@ use borrow.Author.Needs.{needs}
 use Rattle.leaf.proofs.strings.string.Statement.{statement}
 use Rattle.leaf.proofs.strings.string.Tie as tie
 
-field-requires : tie.Need-field-requires
-field-requires c κs = search needs
+kind-of-requires : tie.Need-kind-of-requires
+kind-of-requires c κs = search needs
 
 item-requires : tie.Need-item-requires
 item-requires c κs = search needs
@@ -60,7 +60,7 @@ same-length c = search needs
 returns : tie.Need-returns
 returns c = let a = c .before .before .before .before .before .before .before .before .before .before .before .args in
     let ns = a .names .now in
-    stepped (string-item (table (a .types .now) ns) (a .s .now) (a .row) (a .p) (c .before .before .before .before .before .field .ensures ns) (c .before .before .before .before .match .keys1)) (c .before .before .item .ensures (a .pool .now) (a .o))
+    stepped (string-item (table (a .types .now) ns) (a .s .now) (a .row) (a .p) (c .before .before .before .before .before .kind-of .ensures ns) (c .before .before .before .before .match .keys1)) (c .before .before .item .ensures (a .pool .now) (a .o))
 
 same-length-2 : tie.Need-same-length-2
 same-length-2 c = search needs
@@ -68,7 +68,7 @@ same-length-2 c = search needs
 returns-2 : tie.Need-returns-2
 returns-2 c = let a = c .before .before .before .before .before .before .before .before .before .before .before .before .before .before .args in
     let ns = a .names .now in
-    refuses (octets-bad (table (a .types .now) ns) (a .s .now) (a .row) (a .p) (c .before .before .before .before .before .before .before .before .field .ensures ns) (c .before .before .before .before .before .before .before .match .keys2) (sym (c .before .enum-told .given .1) ∙ c .before .before .before .before .before .octets-at .ensures .0 ns)) (c .refused .ensures)
+    refuses (octets-bad (table (a .types .now) ns) (a .s .now) (a .row) (a .p) (c .before .before .before .before .before .before .before .before .kind-of .ensures ns) (c .before .before .before .before .before .before .before .match .keys2) (sym (c .before .enum-told .given .1) ∙ c .before .before .before .before .before .octets-at .ensures .0 ns)) (c .refused .ensures)
 
 same-length-3 : tie.Need-same-length-3
 same-length-3 c = search needs
@@ -79,7 +79,7 @@ same-length-4 c = search needs
 returns-3 : tie.Need-returns-3
 returns-3 c = let a = c .before .before .before .before .before .before .before .before .before .before .before .before .before .before .before .before .before .before .before .args in
     let ns = a .names .now in
-    octets-read (table (a .types .now) ns) (a .s .now) (a .row) (a .p) (c .before .before .before .before .before .before .before .before .before .before .before .before .before .field .ensures ns) (c .before .before .before .string-end .ensures) (c .before .before .bytes .ensures .0) (c .before .before .bytes .ensures .1) (c .before .before .before .before .before .before .before .before .before .before .before .before .match .keys2) (sym (c .before .before .before .before .before .before .n .given .1) ∙ c .before .before .before .before .before .before .before .before .before .before .octets-at .ensures .0 ns) (c .before .before .before .before .before .before .before .before .before .before .octets-at .ensures .1 ns)
+    octets-read (table (a .types .now) ns) (a .s .now) (a .row) (a .p) (c .before .before .before .before .before .before .before .before .before .before .before .before .before .kind-of .ensures ns) (c .before .before .before .string-end .ensures) (c .before .before .bytes .ensures .0) (c .before .before .bytes .ensures .1) (c .before .before .before .before .before .before .before .before .before .before .before .before .match .keys2) (sym (c .before .before .before .before .before .before .n .given .1) ∙ c .before .before .before .before .before .before .before .before .before .before .octets-at .ensures .0 ns) (c .before .before .before .before .before .before .before .before .before .before .octets-at .ensures .1 ns)
 
 same-length-5 : tie.Need-same-length-5
 same-length-5 c = search needs
@@ -90,19 +90,19 @@ same-length-6 c = search needs
 returns-4 : tie.Need-returns-4
 returns-4 c = let a = c .before .before .before .before .before .before .before .before .before .before .before .before .before .before .before .before .before .before .args in
     let ns = a .names .now in
-    utf8-read (table (a .types .now) ns) (a .s .now) (a .row) (a .p) (c .before .before .before .before .before .before .before .before .before .before .before .before .field .ensures ns) (c .before .before .before .string-end2 .ensures ∙ c .before .before .before .before .before .before .before .copy .ensures .1 .0) (c .before .before .bytes2 .ensures .0) (c .before .before .bytes2 .ensures .1) (c .before .before .before .before .before .before .before .before .before .before .before .match .keys3) (c .before .before .before .before .before .before .before .copy .ensures .0) (λ h. c .before .before .before .before .before .before .before .before .wide .ensures .0 ∙ c .before .before .before .before .before .before .before .before .before .narrow .ensures h) (c .before .before .before .before .before .before .before .copy .ensures .1 .1)
+    utf8-read (table (a .types .now) ns) (a .s .now) (a .row) (a .p) (c .before .before .before .before .before .before .before .before .before .before .before .before .kind-of .ensures ns) (c .before .before .before .string-end2 .ensures ∙ c .before .before .before .before .before .before .before .copy .ensures .1 .0) (c .before .before .bytes2 .ensures .0) (c .before .before .bytes2 .ensures .1) (c .before .before .before .before .before .before .before .before .before .before .before .match .keys3) (c .before .before .before .before .before .before .before .copy .ensures .0) (λ h. c .before .before .before .before .before .before .before .before .wide .ensures .0 ∙ c .before .before .before .before .before .before .before .before .before .narrow .ensures h) (c .before .before .before .before .before .before .before .copy .ensures .1 .1)
 
 returns-5 : tie.Need-returns-5
 returns-5 c = let a = c .before .before .before .before .before .before .before .before .args in
     let ns = a .names .now in
     let m = c .before .match .rest in
-    refuses (string-other (table (a .types .now) ns) (a .s .now) (a .row) (a .p) (c .before .before .field .ensures ns) (m .0 .0 .1) (m .0 .1) (m .1)) (c .refused2 .ensures)
+    refuses (string-other (table (a .types .now) ns) (a .s .now) (a .row) (a .p) (c .before .before .kind-of .ensures ns) (m .0 .0 .1) (m .0 .1) (m .1)) (c .refused2 .ensures)
 
 pub string-spec : {M : Type 1} → statement M
 string-spec =
     tie.close
     (tie.spec
-    field-requires
+    kind-of-requires
     item-requires
     octets-at-requires
     enum-told

@@ -5,15 +5,15 @@ use borrow.Author.Needs.{needs}
 use Rattle.leaf.proofs.words.boolean.Statement.{statement}
 use Rattle.leaf.proofs.words.boolean.Tie as tie
 
-field-requires : tie.Need-field-requires
-field-requires c κs = search needs
+kind-of-requires : tie.Need-kind-of-requires
+kind-of-requires c κs = search needs
 
 refused-requires : tie.Need-refused-requires
 refused-requires c κs = search needs
 
 returns : tie.Need-returns
 returns c = let a = c .before .before .before .before .before .before .args in
-    λ ns pool o. refuses (boolean-other (table (a .types .now) ns) (a .s .now) (a .row) (a .p) (c .before .before .field .ensures ns) (c .before .if1 .taken)) (c .refused .ensures)
+    λ ns pool o. refuses (boolean-other (table (a .types .now) ns) (a .s .now) (a .row) (a .p) (c .before .before .kind-of .ensures ns) (c .before .if1 .taken)) (c .refused .ensures)
 
 byte-at-requires : tie.Need-byte-at-requires
 byte-at-requires c κs = search needs
@@ -35,13 +35,13 @@ same-length c = search needs
 
 returns-2 : tie.Need-returns-2
 returns-2 c = let a = c .before .before .before .before .before .before .before .before .before .before .before .before .args in
-    λ ns pool o. boolean-read (table (a .types .now) ns) (a .s .now) (a .row) (a .p) (c .before .before .before .before .before .before .before .before .field .ensures ns) (c .before .run .ensures) (c .read .ensures) (c .before .before .before .before .before .before .before .if1 .left) (c .before .before .before .before .before .before .byte-at .ensures .0) (c .before .before .before .before .put-row .ensures)
+    λ ns pool o. boolean-read (table (a .types .now) ns) (a .s .now) (a .row) (a .p) (c .before .before .before .before .before .before .before .before .kind-of .ensures ns) (c .before .run .ensures) (c .read .ensures) (c .before .before .before .before .before .before .before .if1 .left) (c .before .before .before .before .before .before .byte-at .ensures .0) (c .before .before .before .before .put-row .ensures)
 
 pub boolean-spec : {M : Type 1} → statement M
 boolean-spec =
     tie.close
     (tie.spec
-    field-requires
+    kind-of-requires
     refused-requires
     returns
     byte-at-requires

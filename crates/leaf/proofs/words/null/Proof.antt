@@ -5,15 +5,15 @@ use borrow.Author.Needs.{needs}
 use Rattle.leaf.proofs.words.null.Statement.{statement}
 use Rattle.leaf.proofs.words.null.Tie as tie
 
-field-requires : tie.Need-field-requires
-field-requires c κs = search needs
+kind-of-requires : tie.Need-kind-of-requires
+kind-of-requires c κs = search needs
 
 refused-requires : tie.Need-refused-requires
 refused-requires c κs = search needs
 
 returns : tie.Need-returns
 returns c = let a = c .before .before .before .before .before .before .args in
-    λ ns pool o. refuses (null-other (table (a .types .now) ns) (a .s .now) (a .row) (a .p) (c .before .before .field .ensures ns) (c .before .if1 .taken)) (c .refused .ensures)
+    λ ns pool o. refuses (null-other (table (a .types .now) ns) (a .s .now) (a .row) (a .p) (c .before .before .kind-of .ensures ns) (c .before .if1 .taken)) (c .refused .ensures)
 
 put-row-requires : tie.Need-put-row-requires
 put-row-requires c κs = search needs
@@ -29,13 +29,13 @@ same-length c = search needs
 
 returns-2 : tie.Need-returns-2
 returns-2 c = let a = c .before .before .before .before .before .before .before .before .before .before .before .args in
-    λ ns pool o. null-read (table (a .types .now) ns) (a .s .now) (a .row) (a .p) (c .before .before .before .before .before .before .before .field .ensures ns) (c .before .run .ensures) (c .read .ensures) (c .before .before .before .before .before .before .if1 .left) (c .before .before .before .before .put-row .ensures)
+    λ ns pool o. null-read (table (a .types .now) ns) (a .s .now) (a .row) (a .p) (c .before .before .before .before .before .before .before .kind-of .ensures ns) (c .before .run .ensures) (c .read .ensures) (c .before .before .before .before .before .before .if1 .left) (c .before .before .before .before .put-row .ensures)
 
 pub null-spec : {M : Type 1} → statement M
 null-spec =
     tie.close
     (tie.spec
-    field-requires
+    kind-of-requires
     refused-requires
     returns
     put-row-requires

@@ -6,15 +6,15 @@ use borrow.Author.Needs.{needs}
 use Rattle.leaf.proofs.words.number.Statement.{statement}
 use Rattle.leaf.proofs.words.number.Tie as tie
 
-field-requires : tie.Need-field-requires
-field-requires c κs = search needs
+kind-of-requires : tie.Need-kind-of-requires
+kind-of-requires c κs = search needs
 
 refused-requires : tie.Need-refused-requires
 refused-requires c κs = search needs
 
 returns : tie.Need-returns
 returns c = let a = c .before .before .before .before .before .before .args in
-    λ ns pool o. refuses (number-other (table (a .types .now) ns) (a .s .now) (a .row) (a .p) (c .before .before .field .ensures ns) (c .before .if1 .taken)) (c .refused .ensures)
+    λ ns pool o. refuses (number-other (table (a .types .now) ns) (a .s .now) (a .row) (a .p) (c .before .before .kind-of .ensures ns) (c .before .if1 .taken)) (c .refused .ensures)
 
 integer-at-requires : tie.Need-integer-at-requires
 integer-at-requires c κs = search needs
@@ -30,7 +30,7 @@ refused-requires-2 c κs = search needs
 
 returns-2 : tie.Need-returns-2
 returns-2 c = let a = c .before .before .before .before .before .before .before .before .before .args in
-    λ ns pool o. refuses (number-bad (table (a .types .now) ns) (a .s .now) (a .row) (a .p) (c .before .before .before .before .before .field .ensures ns) (c .before .before .before .before .if1 .left) (sym (c .before .enum-told .given .1) ∙ c .before .before .before .integer-at .ensures)) (c .refused2 .ensures)
+    λ ns pool o. refuses (number-bad (table (a .types .now) ns) (a .s .now) (a .row) (a .p) (c .before .before .before .before .before .kind-of .ensures ns) (c .before .before .before .before .if1 .left) (sym (c .before .enum-told .given .1) ∙ c .before .before .before .integer-at .ensures)) (c .refused2 .ensures)
 
 put-row-requires : tie.Need-put-row-requires
 put-row-requires c κs = search needs
@@ -46,13 +46,13 @@ same-length c = search needs
 
 returns-3 : tie.Need-returns-3
 returns-3 c = let a = c .before .before .before .before .before .before .before .before .before .before .before .before .before .before .before .args in
-    λ ns pool o. number-read (table (a .types .now) ns) (a .s .now) (a .row) (a .p) (c .before .before .before .before .before .before .before .before .before .before .before .field .ensures ns) (c .before .run .ensures) (c .read .ensures) (c .before .before .before .before .before .before .before .before .before .before .if1 .left) (sym (c .before .before .before .before .before .before .before .low .given .1) ∙ c .before .before .before .before .before .before .before .before .before .integer-at .ensures) (c .before .before .before .before .put-row .ensures)
+    λ ns pool o. number-read (table (a .types .now) ns) (a .s .now) (a .row) (a .p) (c .before .before .before .before .before .before .before .before .before .before .before .kind-of .ensures ns) (c .before .run .ensures) (c .read .ensures) (c .before .before .before .before .before .before .before .before .before .before .if1 .left) (sym (c .before .before .before .before .before .before .before .low .given .1) ∙ c .before .before .before .before .before .before .before .before .before .integer-at .ensures) (c .before .before .before .before .put-row .ensures)
 
 pub number-spec : {M : Type 1} → statement M
 number-spec =
     tie.close
     (tie.spec
-    field-requires
+    kind-of-requires
     refused-requires
     returns
     integer-at-requires

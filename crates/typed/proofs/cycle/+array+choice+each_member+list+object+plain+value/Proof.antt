@@ -21,7 +21,7 @@ use Rattle.typed.proofs.ListLaws.{Near, near-first, near-after, near-pa
 use Rattle.typed.proofs.SequenceLaws.{Elements, elements-start, elements-absent, elements-lost, elements-null, elements-refused, elements-more, near-absent, near-follows, near-there, InOrder, order-start, order-missing, order-absent, order-refused, order-more, order-end, object-ok, object-no, member-is, there-place, object-scanned, object-stopped, scan-near}
 use Rattle.scan.specs.declared.Ended.{Ended}
 use Rattle.scan.specs.Enums.{endedOf}
-use Rattle.typed.proofs.PlainLaws.{element-is, count-is, array-kind, object-kind, unwrapped-kind, value-plain, value-none, value-refused, value-picked, plain-leaf, plain-deep, plain-list, plain-array, plain-no-array, plain-choice, plain-object, plain-no-object, token-inside, token-array, token-object, string-not, string-code, positive, sequence-is, choice-not-one, choice-none, choice-refused, choice-picked, missing-small, missing-no, bounded-reads, bounded-near, leaf-near}
+use Rattle.typed.proofs.PlainLaws.{array-kind, object-kind, unwrapped-kind, value-plain, value-none, value-refused, value-picked, plain-leaf, plain-deep, plain-list, plain-array, plain-no-array, plain-choice, plain-object, plain-no-object, token-inside, token-array, token-object, string-not, string-code, positive, sequence-is, choice-not-one, choice-none, choice-refused, choice-picked, missing-small, missing-no, bounded-reads, bounded-near, leaf-near}
 use Rattle.typed.proofs.CycleLaws.{passed, failed, given-below, given-type, given-part, given-one, over-ok, over-no, list-ok, list-no, array-no, array-end, found-some, found-none, at-row, at-place, one-near, unknown-reads, unknown-over}
 use Rattle.places.proofs.MeaningNames.{alternative-found, position-found}
 use Rattle.types.specs.declared.row.Row.{Row}
@@ -75,7 +75,8 @@ use Rattle.tokens.proofs.cursor.Cursor.skip_space.Reads as skip-space-reads
 use Rattle.types.proofs.row.Row.at.Reads as at-reads
 use Rattle.types.proofs.row.Row.is_array.Reads as is-array-reads
 use Rattle.types.proofs.row.Row.is_unwrapped.Reads as is-unwrapped-reads
-use Rattle.types.proofs.row.field.Reads as field-reads
+use Rattle.types.proofs.row.count_of.Reads as count-of-reads
+use Rattle.types.proofs.row.element_of.Reads as element-of-reads
 use Rattle.types.proofs.row.type_at.Reads as type-at-reads
 use Rattle.types.proofs.row.wide.Reads as wide-reads
 use Rattle.types.proofs.token.alternative.Reads as alternative-reads
@@ -152,16 +153,16 @@ abbrev value-below : ℕ → In 5 value-kinds.ps
 value-below t = and 5 value-kinds.ps (falls 5 value-kinds.ps _<_ μ-value t) value.Pre
 
 abbrev array-calls : ℕ → array-lts.Claims
-array-calls t = (field-reads.Asked, field-reads.Learnt, first-part-reads.Asked, first-part-reads.Learnt, element-found-reads.Asked, element-found-reads.Learnt, put-row-reads.Asked, put-row-reads.Learnt, missing-reads.Asked, missing-reads.Learnt, with-reads.Asked, with-reads.Learnt, type-at-reads.Asked, type-at-reads.Learnt, value-below t, value.Post, after-part-reads.Asked, after-part-reads.Learnt, ones-reads.Asked, ones-reads.Learnt, close-array-reads.Asked, close-array-reads.Learnt)
+array-calls t = (count-of-reads.Asked, count-of-reads.Learnt, first-part-reads.Asked, first-part-reads.Learnt, element-found-reads.Asked, element-found-reads.Learnt, put-row-reads.Asked, put-row-reads.Learnt, missing-reads.Asked, missing-reads.Learnt, with-reads.Asked, with-reads.Learnt, type-at-reads.Asked, type-at-reads.Learnt, value-below t, value.Post, after-part-reads.Asked, after-part-reads.Learnt, ones-reads.Asked, ones-reads.Learnt, close-array-reads.Asked, close-array-reads.Learnt)
 
 abbrev choice-calls : ℕ → choice-lts.Claims
 choice-calls t = (one-at-reads.Asked, one-at-reads.Learnt, refused-reads.Asked, refused-reads.Learnt, position-reads.Asked, position-reads.Learnt, unknown-reads.Asked, unknown-reads.Learnt, type-at-reads.Asked, type-at-reads.Learnt, value-place-reads.Asked, value-place-reads.Learnt, value-below t, value.Post, skip-space-reads.Asked, skip-space-reads.Learnt, advance-reads.Asked, advance-reads.Learnt, close-reads.Asked, close-reads.Learnt)
 
 abbrev each-member-calls : ℕ → each-member-lts.Claims
-each-member-calls t = (field-reads.Asked, field-reads.Learnt, wide-reads.Asked, wide-reads.Learnt, bit-reads.Asked, bit-reads.Learnt, member-found-reads.Asked, member-found-reads.Learnt, refused-reads.Asked, refused-reads.Learnt, put-row-reads.Asked, put-row-reads.Learnt, type-at-reads.Asked, type-at-reads.Learnt, value-below t, value.Post, with-reads.Asked, with-reads.Learnt, ones-reads.Asked, ones-reads.Learnt, close-reads.Asked, close-reads.Learnt)
+each-member-calls t = (count-of-reads.Asked, count-of-reads.Learnt, wide-reads.Asked, wide-reads.Learnt, bit-reads.Asked, bit-reads.Learnt, member-found-reads.Asked, member-found-reads.Learnt, refused-reads.Asked, refused-reads.Learnt, put-row-reads.Asked, put-row-reads.Learnt, type-at-reads.Asked, type-at-reads.Learnt, value-below t, value.Post, with-reads.Asked, with-reads.Learnt, ones-reads.Asked, ones-reads.Learnt, close-reads.Asked, close-reads.Learnt)
 
 abbrev list-calls : ℕ → list-lts.Claims
-list-calls t = (field-reads.Asked, field-reads.Learnt, wide-reads.Asked, wide-reads.Learnt, first-part-reads.Asked, first-part-reads.Learnt, narrow-reads.Asked, narrow-reads.Learnt, close-reads.Asked, close-reads.Learnt, value-below t, value.Post, after-part-reads.Asked, after-part-reads.Learnt)
+list-calls t = (element-of-reads.Asked, element-of-reads.Learnt, first-part-reads.Asked, first-part-reads.Learnt, narrow-reads.Asked, narrow-reads.Learnt, close-reads.Asked, close-reads.Learnt, value-below t, value.Post, after-part-reads.Asked, after-part-reads.Learnt)
 
 abbrev object-calls : ℕ → object-lts.Claims
 object-calls t = (scan-reads.Asked, scan-reads.Learnt, each-member-below t, each-member.Post)
@@ -180,8 +181,8 @@ abbrev array-μ-loop : array-lts.MeasureT-loop
 array-μ-loop types names s rows₀ pool₀ row p i o d count next₀ k₀ present₀ n₀ m₀ rows pool next k present n m =
     count - k
 
-array-field-requires : (t : ℕ) → array-lts.Need-field-requires (array-calls t) (array-at t) array.Post array-Inv-loop array-μ-loop
-array-field-requires t c κs = search needs
+array-count-of-requires : (t : ℕ) → array-lts.Need-count-of-requires (array-calls t) (array-at t) array.Post array-Inv-loop array-μ-loop
+array-count-of-requires t c κs = search needs
 
 array-first-part-requires : (t : ℕ) → array-lts.Need-first-part-requires (array-calls t) (array-at t) array.Post array-Inv-loop array-μ-loop
 array-first-part-requires t c κs = search needs
@@ -196,7 +197,7 @@ array-loop-holds t c =
     let d = entry .args .d in
     let followsOf′ = followsOf (c .first-part .result) in
     let first-part-said = c .first-part .ensures in
-    (count-is tab (entry .args .row) (c .before .field .ensures names), omega (arith, (entry .pre .1 .0) .sane .few (entry .args .row) ((entry .pre .1 .0) .typed), count-is tab (entry .args .row) (c .before .field .ensures names)), near-first s 0x5D (entry .args .p) (65539 + d) followsOf′ ((entry .pre .1 .0) .short) (entry .pre .1 .1 .0) (omega (arith, entry .pre .1 .1 .1)) first-part-said, elements-start (λ q u. readAt (d - 1) tab s q u) (d - 1) tab s (entry .args .row) (entry .args .p) (firstPart s 0x5D (entry .args .p)) followsOf′ (entry .args .i) (entry .args .o) (entry .args .rows .now) (entry .args .pool .now) first-part-said, omega arith)
+    (c .before .count-of .ensures names, omega (arith, (entry .pre .1 .0) .sane .few (entry .args .row) ((entry .pre .1 .0) .typed), c .before .count-of .ensures names), near-first s 0x5D (entry .args .p) (65539 + d) followsOf′ ((entry .pre .1 .0) .short) (entry .pre .1 .1 .0) (omega (arith, entry .pre .1 .1 .1)) first-part-said, elements-start (λ q u. readAt (d - 1) tab s q u) (d - 1) tab s (entry .args .row) (entry .args .p) (firstPart s 0x5D (entry .args .p)) followsOf′ (entry .args .i) (entry .args .o) (entry .args .rows .now) (entry .args .pool .now) first-part-said, omega arith)
 
 array-element-found-requires : (t : ℕ) → array-lts.Need-element-found-requires (array-calls t) (array-at t) array.Post array-Inv-loop array-μ-loop
 array-element-found-requires t c κs =
@@ -638,8 +639,8 @@ abbrev each-member-μ-loop : each-member-lts.MeasureT-loop
 each-member-μ-loop types names s rows₀ pool₀ met row p next i o d places count k₀ present₀ n₀ m₀ rows pool k present n m =
     count - k
 
-each-member-field-requires : (t : ℕ) → each-member-lts.Need-field-requires (each-member-calls t) (each-member-at t) each-member.Post each-member-Inv-loop each-member-μ-loop
-each-member-field-requires t c κs = search needs
+each-member-count-of-requires : (t : ℕ) → each-member-lts.Need-count-of-requires (each-member-calls t) (each-member-at t) each-member.Post each-member-Inv-loop each-member-μ-loop
+each-member-count-of-requires t c κs = search needs
 
 each-member-loop-holds : (t : ℕ) → each-member-lts.Need-loop-holds (each-member-calls t) (each-member-at t) each-member.Post each-member-Inv-loop each-member-μ-loop
 each-member-loop-holds t c =
@@ -648,7 +649,7 @@ each-member-loop-holds t c =
     let names = entry .args .names .now in
     let tab = table (entry .args .types .now) names in
     let s = entry .args .s .now in
-    (count-is tab (entry .args .row) (c .field .ensures names), omega (arith, (entry .pre .1 .0) .sane .few (entry .args .row) ((entry .pre .1 .0) .typed), count-is tab (entry .args .row) (c .field .ensures names)), order-start (λ q u. readAt (entry .args .d - 1) tab s q u) tab s (entry .args .row) (entry .args .p) (entry .args .met) (entry .args .t6) (entry .args .i) (entry .args .o) (entry .args .rows .now) (entry .args .pool .now), omega arith)
+    (c .count-of .ensures names, omega (arith, (entry .pre .1 .0) .sane .few (entry .args .row) ((entry .pre .1 .0) .typed), c .count-of .ensures names), order-start (λ q u. readAt (entry .args .d - 1) tab s q u) tab s (entry .args .row) (entry .args .p) (entry .args .met) (entry .args .t6) (entry .args .i) (entry .args .o) (entry .args .rows .now) (entry .args .pool .now), omega arith)
 
 each-member-wide-requires : (t : ℕ) → each-member-lts.Need-wide-requires (each-member-calls t) (each-member-at t) each-member.Post each-member-Inv-loop each-member-μ-loop
 each-member-wide-requires t c κs = search needs
@@ -879,11 +880,8 @@ abbrev list-μ-loop : list-lts.MeasureT-loop
 list-μ-loop types names s rows₀ pool₀ row p i o d element next₀ count₀ n₀ m₀ rows pool next count n m =
     length s - count
 
-list-field-requires : (t : ℕ) → list-lts.Need-field-requires (list-calls t) (list-at t) list.Post list-Inv-loop list-μ-loop
-list-field-requires t c κs = search needs
-
-list-wide-requires : (t : ℕ) → list-lts.Need-wide-requires (list-calls t) (list-at t) list.Post list-Inv-loop list-μ-loop
-list-wide-requires t c κs = search needs
+list-element-of-requires : (t : ℕ) → list-lts.Need-element-of-requires (list-calls t) (list-at t) list.Post list-Inv-loop list-μ-loop
+list-element-of-requires t c κs = search needs
 
 list-first-part-requires : (t : ℕ) → list-lts.Need-first-part-requires (list-calls t) (list-at t) list.Post list-Inv-loop list-μ-loop
 list-first-part-requires t c κs = search needs
@@ -891,7 +889,7 @@ list-first-part-requires t c κs = search needs
 list-loop-holds : (t : ℕ) → list-lts.Need-loop-holds (list-calls t) (list-at t) list.Post list-Inv-loop list-μ-loop
 list-loop-holds t c =
     let c₅ = c .before .before .before .before .before in
-    let entry = c₅ .before .before .before in
+    let entry = c₅ .before .before in
     let names = entry .args .names .now in
     let tab = table (entry .args .types .now) names in
     let s = entry .args .s .now in
@@ -899,7 +897,7 @@ list-loop-holds t c =
     let followsOf′ = followsOf (c .first-part .result) in
     let first-part-said = c .first-part .ensures in
     let elementOf′ = elementOf tab (entry .args .row) in
-    (element-is tab (entry .args .row) (c .before .before .field .ensures names) (c .before .wide .ensures .0), near-first s 0x5D (entry .args .p) (65539 + d) followsOf′ ((entry .pre .1 .0) .short) (entry .pre .1 .1 .0) (omega (arith, entry .pre .1 .1 .1)) first-part-said, loop-start (λ q. readAt (d - 1) tab s elementOf′ q) s tab elementOf′ (firstPart s 0x5D (entry .args .p)) followsOf′ (entry .args .i) (entry .args .o) (entry .args .rows .now) (entry .args .pool .now) first-part-said)
+    (c .before .element-of .ensures names, near-first s 0x5D (entry .args .p) (65539 + d) followsOf′ ((entry .pre .1 .0) .short) (entry .pre .1 .1 .0) (omega (arith, entry .pre .1 .1 .1)) first-part-said, loop-start (λ q. readAt (d - 1) tab s elementOf′ q) s tab elementOf′ (firstPart s 0x5D (entry .args .p)) followsOf′ (entry .args .i) (entry .args .o) (entry .args .rows .now) (entry .args .pool .now) first-part-said)
 
 list-enum-known-next : (t : ℕ) → list-lts.Need-enum-known-next (list-calls t) (list-at t) list.Post list-Inv-loop list-μ-loop
 list-enum-known-next t c = search needs
@@ -921,7 +919,7 @@ list-returns t c =
     let c₅ = c .before .before .before .before .before in
     let c₁₀ = c₅ .before .before .before .before .before in
     let c₁₅ = c₁₀ .before .before .before .before .before in
-    let entry = c₁₅ .before .before in
+    let entry = c₁₅ .before in
     let loop = c₅ .before .before .before .loop in
     let tab = table (entry .args .types .now) (entry .args .names .now) in
     let d = entry .args .d in
@@ -949,7 +947,7 @@ list-returns-2 t c =
     let c₅ = c .before .before .before .before .before in
     let c₁₀ = c₅ .before .before .before .before .before in
     let c₁₅ = c₁₀ .before .before .before .before .before in
-    let entry = c₁₅ .before .before .before in
+    let entry = c₁₅ .before .before in
     let loop = c₅ .before .before .before .before .loop in
     let tab = table (entry .args .types .now) (entry .args .names .now) in
     let d = entry .args .d in
@@ -973,8 +971,7 @@ list-value-requires : (t : ℕ) → list-lts.Need-value-requires (list-calls t) 
 list-value-requires t c κs =
     let c₅ = c .before .before .before .before .before in
     let c₁₀ = c₅ .before .before .before .before .before in
-    let c₁₅ = c₁₀ .before .before .before .before .before in
-    let entry = c₁₅ in
+    let entry = c₁₀ .before .before .before .before in
     let loop = c₅ .before .loop in
     let if1-no = c .before .before .if1 .left in
     (omega arith, given-part (entry .pre .1 .0) (entry .pre .1 .1 .1) (rw (loop .inv .0) ((entry .pre .1 .0) .sane .element (entry .args .row) (entry .pre .1 .1 .2))) (omega (arith, near-part (65539 + entry .args .d) (ap followsOf (c .before .before .before .before .next2 .given .1)) (loop .inv .1))) (omega (arith, loop .inv .2 .sofar .fewRows, if1-no, (entry .pre .1 .0) .short)) (omega (arith, loop .inv .2 .sofar .fewBytes, if1-no, (entry .pre .1 .0) .short)))
@@ -994,7 +991,7 @@ list-returns-3 t c =
     let c₁₀ = c₅ .before .before .before .before .before in
     let c₁₅ = c₁₀ .before .before .before .before .before in
     let c₂₀ = c₁₅ .before .before .before .before .before in
-    let entry = c₂₀ .before .before .before in
+    let entry = c₂₀ .before .before in
     let loop = c₁₀ .before .before .before .before .loop in
     let next2 = c₁₀ .before .before .next2 in
     let tab = table (entry .args .types .now) (entry .args .names .now) in
@@ -1010,7 +1007,7 @@ list-after-part-requires t c κs =
     let c₁₀ = c₅ .before .before .before .before .before in
     let c₁₅ = c₁₀ .before .before .before .before .before in
     let c₂₀ = c₁₅ .before .before .before .before .before in
-    let entry = c₂₀ .before .before .before in
+    let entry = c₂₀ .before .before in
     ((entry .pre .1 .0) .short, omega (arith, passed (c₅ .before .before .value .ensures) (c .before .end .given .1) .near, near-part (65539 + entry .args .d) (ap followsOf (c₁₀ .before .before .next2 .given .1)) (c₁₀ .before .before .before .before .loop .inv .1), (entry .pre .1 .0) .rowRoom))
 
 list-add-count : (t : ℕ) → list-lts.Need-add-count (list-calls t) (list-at t) list.Post list-Inv-loop list-μ-loop
@@ -1019,7 +1016,7 @@ list-add-count t c =
     let c₁₀ = c₅ .before .before .before .before .before in
     let c₁₅ = c₁₀ .before .before .before .before .before in
     let c₂₀ = c₁₅ .before .before .before .before .before in
-    omega (arith, c₁₀ .before .if1 .left, (c₂₀ .before .before .before .before .pre .1 .0) .short)
+    omega (arith, c₁₀ .before .if1 .left, (c₂₀ .before .before .before .pre .1 .0) .short)
 
 list-add-n : (t : ℕ) → list-lts.Need-add-n (list-calls t) (list-at t) list.Post list-Inv-loop list-μ-loop
 list-add-n t c =
@@ -1027,7 +1024,7 @@ list-add-n t c =
     let c₁₀ = c₅ .before .before .before .before .before in
     let c₁₅ = c₁₀ .before .before .before .before .before in
     let c₂₀ = c₁₅ .before .before .before .before .before in
-    omega (arith, passed (c₅ .before .before .before .value .ensures) (c .before .before .end .given .1) .fewRows, c₁₅ .loop .inv .2 .sofar .fewRows, c₁₀ .before .if1 .left, (c₂₀ .before .before .before .before .pre .1 .0) .short)
+    omega (arith, passed (c₅ .before .before .before .value .ensures) (c .before .before .end .given .1) .fewRows, c₁₅ .loop .inv .2 .sofar .fewRows, c₁₀ .before .if1 .left, (c₂₀ .before .before .before .pre .1 .0) .short)
 
 list-add-m : (t : ℕ) → list-lts.Need-add-m (list-calls t) (list-at t) list.Post list-Inv-loop list-μ-loop
 list-add-m t c =
@@ -1035,7 +1032,7 @@ list-add-m t c =
     let c₁₀ = c₅ .before .before .before .before .before in
     let c₁₅ = c₁₀ .before .before .before .before .before in
     let c₂₀ = c₁₅ .before .before .before .before .before in
-    omega (arith, passed (c₅ .before .before .before .value .ensures) (c .before .before .end .given .1) .fewBytes, c₁₅ .loop .inv .2 .sofar .fewBytes, c₁₀ .before .if1 .left, (c₂₀ .before .before .before .before .pre .1 .0) .short)
+    omega (arith, passed (c₅ .before .before .before .value .ensures) (c .before .before .end .given .1) .fewBytes, c₁₅ .loop .inv .2 .sofar .fewBytes, c₁₀ .before .if1 .left, (c₂₀ .before .before .before .pre .1 .0) .short)
 
 list-loop-less : (t : ℕ) → list-lts.Need-loop-less (list-calls t) (list-at t) list.Post list-Inv-loop list-μ-loop
 list-loop-less t c = search needs
@@ -1047,7 +1044,7 @@ list-loop-again t c =
     let c₁₅ = c₁₀ .before .before .before .before .before in
     let c₂₀ = c₁₅ .before .before .before .before .before in
     let loop = c₁₅ .loop in
-    let entry = c₂₀ .before .before .before .before in
+    let entry = c₂₀ .before .before .before in
     let value₂ = c₅ .before .before .before .value in
     let next2 = c₁₀ .before .before .before .next2 in
     let loop-inv = loop .inv .0 in
@@ -1427,7 +1424,7 @@ pub +array+choice+each-member+list+object+plain+value-spec : {M : Type 1} → st
     close μ-array μ-choice μ-each-member μ-list μ-object μ-plain μ-value (λ t. array-lts.spec (array-calls t) (array-at t) array.Post
     array-Inv-loop
     array-μ-loop
-    (array-field-requires t)
+    (array-count-of-requires t)
     (array-first-part-requires t)
     (array-loop-holds t)
     (array-element-found-requires t)
@@ -1510,7 +1507,7 @@ pub +array+choice+each-member+list+object+plain+value-spec : {M : Type 1} → st
     each-member.Post
     each-member-Inv-loop
     each-member-μ-loop
-    (each-member-field-requires t)
+    (each-member-count-of-requires t)
     (each-member-loop-holds t)
     (each-member-wide-requires t)
     (each-member-mul-wide t)
@@ -1557,8 +1554,7 @@ pub +array+choice+each-member+list+object+plain+value-spec : {M : Type 1} → st
     (λ t. list-lts.spec (list-calls t) (list-at t) list.Post
     list-Inv-loop
     list-μ-loop
-    (list-field-requires t)
-    (list-wide-requires t)
+    (list-element-of-requires t)
     (list-first-part-requires t)
     (list-loop-holds t)
     (list-enum-known-next t)

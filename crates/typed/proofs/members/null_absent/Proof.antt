@@ -1,4 +1,5 @@
-use Rattle.jer.specs.Read.{nullAbsent}
+use Rattle.types.specs.Rows.{table}
+use Rattle.typed.proofs.FoundLaws.{null-told}
 use borrow.Author.Needs.{needs}
 use Rattle.typed.proofs.members.null_absent.Statement.{statement}
 use Rattle.typed.proofs.members.null_absent.Tie as tie
@@ -16,8 +17,9 @@ null-taken-requires : tie.Need-null-taken-requires
 null-taken-requires c κs = search needs
 
 returns : tie.Need-returns
-unfolding nullAbsent
-returns c = λ ns. rw (c .before .before .optional .ensures _ _ _ (c .before .before .before .member-at .ensures ns), c .null-taken .ensures ns, c .before .type-at .ensures ns)
+returns c =
+    let a = c .before .before .before .before .before .args in
+    λ ns. null-told (table (a .types .now) ns) (a .row) (a .k) (c .before .before .optional .ensures _ _ _ (c .before .before .before .member-at .ensures ns)) (c .before .type-at .ensures ns) (c .null-taken .ensures ns)
 
 pub null-absent-spec : {M : Type 1} → statement M
 null-absent-spec =

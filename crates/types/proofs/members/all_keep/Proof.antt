@@ -19,13 +19,13 @@ Inv-loop rows names rule r count i₀ i = every (keeps rule (table rows names) r
 abbrev μ-loop : tie.MeasureT-loop
 μ-loop rows names rule r count i₀ i = count - i
 
-field-requires : tie.Need-field-requires Inv-loop μ-loop
-field-requires c κs = search needs
+count-of-requires : tie.Need-count-of-requires Inv-loop μ-loop
+count-of-requires c κs = search needs
 
 loop-holds : tie.Need-loop-holds Inv-loop μ-loop
 loop-holds c =
     let a = c .before .before .before .args in
-    all-starts (a .rule) (table (a .rows .now) (a .names .now)) (a .r) (c .field .ensures (a .names .now))
+    all-starts (a .rule) (table (a .rows .now) (a .names .now)) (a .r) (c .count-of .ensures (a .names .now))
 
 keeps-requires : tie.Need-keeps-requires Inv-loop μ-loop
 keeps-requires c κs = search needs
@@ -34,7 +34,7 @@ returns : tie.Need-returns Inv-loop μ-loop
 returns c =
     let a = c .before .before .before .before .before .before .before .args in
     let t = table (a .rows .now) (a .names .now) in
-    every-fails (keeps (a .rule) t (a .r)) (c .before .before .before .loop .i) (c .before .before .before .before .field .result)
+    every-fails (keeps (a .rule) t (a .r)) (c .before .before .before .loop .i) (c .before .before .before .before .count-of .result)
     (c .before .before .loop-test .taken) (c .before .keeps .ensures) (not-true (c .before .keeps .result) (c .if1 .taken))
     (c .before .before .before .loop .inv)
 
@@ -48,7 +48,7 @@ loop-again : tie.Need-loop-again Inv-loop μ-loop
 loop-again c =
     let a = c .before .before .before .before .before .before .before .args in
     let t = table (a .rows .now) (a .names .now) in
-    every-next (keeps (a .rule) t (a .r)) (c .before .before .before .loop .i) (c .before .before .before .before .field .result)
+    every-next (keeps (a .rule) t (a .r)) (c .before .before .before .loop .i) (c .before .before .before .before .count-of .result)
     (c .before .before .loop-test .taken) (c .before .keeps .ensures) (not-false (c .before .keeps .result) (c .if1 .left))
     (c .before .before .before .loop .inv)
 
@@ -56,7 +56,7 @@ returns-2 : tie.Need-returns-2 Inv-loop μ-loop
 returns-2 c =
     let a = c .before .before .before .before .before .args in
     let t = table (a .rows .now) (a .names .now) in
-    every-ends (keeps (a .rule) t (a .r)) (c .before .loop .i) (c .before .before .field .result) (c .loop-test .left) (c .before .loop .inv)
+    every-ends (keeps (a .rule) t (a .r)) (c .before .loop .i) (c .before .before .count-of .result) (c .loop-test .left) (c .before .loop .inv)
 
 pub all-keep-spec : {M : Type 1} → statement M
 all-keep-spec =
@@ -64,7 +64,7 @@ all-keep-spec =
     (tie.spec
     Inv-loop
     μ-loop
-    field-requires
+    count-of-requires
     loop-holds
     keeps-requires
     returns

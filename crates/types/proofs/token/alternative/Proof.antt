@@ -17,13 +17,13 @@ Inv-loop rows r token count i₀ i = (ns : List ℕ) (k : Token) → token ≡ t
 abbrev μ-loop : tie.MeasureT-loop
 μ-loop rows r token count i₀ i = count - i
 
-field-requires : tie.Need-field-requires Inv-loop μ-loop
-field-requires c κs = search needs
+count-of-requires : tie.Need-count-of-requires Inv-loop μ-loop
+count-of-requires c κs = search needs
 
 loop-holds : tie.Need-loop-holds Inv-loop μ-loop
 loop-holds c =
     let a = c .before .before .args in
-    λ ns k e. alternative-starts (table (a .rows .now) ns) (a .r) k (c .field .ensures ns)
+    λ ns k e. alternative-starts (table (a .rows .now) ns) (a .r) k (c .count-of .ensures ns)
 
 type-at-requires : tie.Need-type-at-requires Inv-loop μ-loop
 type-at-requires c κs = search needs
@@ -37,7 +37,7 @@ returns c =
     let a = c .before .before .before .before .before .before .before .args in
     λ ns k e. let t = table (a .rows .now) ns in
     ap foundOf
-    (first-found (picks t (a .r) k) (c .before .before .before .before .loop .i) (c .before .before .before .before .before .field .result) (c .before .before .before .loop-test .taken) refl
+    (first-found (picks t (a .r) k) (c .before .before .before .before .loop .i) (c .before .before .before .before .before .count-of .result) (c .before .before .before .loop-test .taken) refl
     (picks-yes t (a .r) k (c .before .before .before .before .loop .i) (c .before .before .type-at .ensures ns) (c .before .token-of .ensures ns) e (c .if1 .taken))
     (c .before .before .before .before .loop .inv ns k e))
 
@@ -51,7 +51,7 @@ loop-again : tie.Need-loop-again Inv-loop μ-loop
 loop-again c =
     let a = c .before .before .before .before .before .before .before .args in
     λ ns k e. let t = table (a .rows .now) ns in
-    first-next (picks t (a .r) k) (c .before .before .before .before .loop .i) (c .before .before .before .before .before .field .result)
+    first-next (picks t (a .r) k) (c .before .before .before .before .loop .i) (c .before .before .before .before .before .count-of .result)
     (c .before .before .before .loop-test .taken) refl
     (picks-no t (a .r) k (c .before .before .before .before .loop .i) (c .before .before .type-at .ensures ns) (c .before .token-of .ensures ns) e (c .if1 .left))
     (c .before .before .before .before .loop .inv ns k e)
@@ -61,7 +61,7 @@ unfolding foundOf
 returns-2 c =
     let a = c .before .before .before .before .args in
     λ ns k e. ap foundOf
-    (first-ends (picks (table (a .rows .now) ns) (a .r) k) (c .before .loop .i) (c .before .before .field .result) (c .loop-test .left) (c .before .loop .inv ns k e))
+    (first-ends (picks (table (a .rows .now) ns) (a .r) k) (c .before .loop .i) (c .before .before .count-of .result) (c .loop-test .left) (c .before .loop .inv ns k e))
 
 pub alternative-spec : {M : Type 1} → statement M
 alternative-spec =
@@ -69,7 +69,7 @@ alternative-spec =
     (tie.spec
     Inv-loop
     μ-loop
-    field-requires
+    count-of-requires
     loop-holds
     type-at-requires
     token-of-requires

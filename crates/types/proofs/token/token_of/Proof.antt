@@ -12,8 +12,8 @@ use Rattle.types.proofs.token.token_of.Tie as tie
 at-requires : tie.Need-at-requires
 at-requires c κs = search needs
 
-form-requires : tie.Need-form-requires
-form-requires c κs = search needs
+is-array-requires : tie.Need-is-array-requires
+is-array-requires c κs = search needs
 
 returns : tie.Need-returns
 unfolding tokenOf tokenCode pick
@@ -38,14 +38,14 @@ returns-4 c =
     let a = c .before .before .before .before .before .args in
     λ ns. token-array (table (a .rows .now) ns) (a .r)
     (kind-is (table (a .rows .now) ns) (a .r) (c .before .before .before .at .ensures ns) (c .before .before .match .keys5))
-    (sym (c .before .form .ensures _ _ (c .before .before .before .at .ensures ns)) ∙ c .if1 .taken)
+    (sym (c .before .is-array .ensures _ _ (c .before .before .before .at .ensures ns)) ∙ c .if1 .taken)
 
 returns-5 : tie.Need-returns-5
 returns-5 c =
     let a = c .before .before .before .before .before .args in
     λ ns. token-object (table (a .rows .now) ns) (a .r)
     (kind-is (table (a .rows .now) ns) (a .r) (c .before .before .before .at .ensures ns) (c .before .before .match .keys5))
-    (sym (c .before .form .ensures _ _ (c .before .before .before .at .ensures ns)) ∙ c .if1 .left)
+    (sym (c .before .is-array .ensures _ _ (c .before .before .before .at .ensures ns)) ∙ c .if1 .left)
 
 returns-6 : tie.Need-returns-6
 unfolding tokenOf tokenCode pick
@@ -76,7 +76,7 @@ token-of-spec =
     tie.close
     (tie.spec
     at-requires
-    form-requires
+    is-array-requires
     returns
     returns-2
     returns-3

@@ -1,5 +1,4 @@
 use Rattle.types.specs.Rows.{table}
-use Rattle.writing.proofs.SequenceLaws.{count-is}
 use Rattle.writing.proofs.LeafLaws.{bool-ends, int-ends, enum-ends, null-ends}
 use borrow.Author.Needs.{needs}
 use Rattle.writing.proofs.leaf.leaf.Statement.{statement}
@@ -42,8 +41,8 @@ put-string-requires : tie.Need-put-string-requires
 put-string-requires c κs = search needs
 
 -- src/leaf.rt:75:26
-field-requires : tie.Need-field-requires
-field-requires c κs = search needs
+count-of-requires : tie.Need-count-of-requires
+count-of-requires c κs = search needs
 
 -- src/leaf.rt:75:71
 add-ended-3 : tie.Need-add-ended-3
@@ -97,7 +96,7 @@ same-length-3 c = search needs
 returns-3 : tie.Need-returns-3
 returns-3 c = let a = c .before .before .before .before .before .before .before .before .before .before .before .before .before .before .before .args in
     let w = a .w in
-    λ i ws. enum-ends i (table (a .types .now) (a .names .now)) (a .pool .now) (a .r) (w .a) (w .b) (w .size) ws (a .q) (a .o) (c .before .before .before .before .before .before .before .before .before .before .before .before .before .before .before .pre .0) (c .before .before .before .before .before .before .before .before .before .before .match .keys3) (count-is _ (a .r) (c .before .before .before .field .ensures (a .names .now))) (c .before .before .before .before .before .before .before .before .before .member-row .ensures (a .names .now)) (c .before .before .before .before .before .before .before .before .name-in .ensures) (c .before .before .before .before .before .before .put-string .ensures) (c .ended3 .ensures)
+    λ i ws. enum-ends i (table (a .types .now) (a .names .now)) (a .pool .now) (a .r) (w .a) (w .b) (w .size) ws (a .q) (a .o) (c .before .before .before .before .before .before .before .before .before .before .before .before .before .before .before .pre .0) (c .before .before .before .before .before .before .before .before .before .before .match .keys3) (c .before .before .before .count-of .ensures (a .names .now)) (c .before .before .before .before .before .before .before .before .before .member-row .ensures (a .names .now)) (c .before .before .before .before .before .before .before .before .name-in .ensures) (c .before .before .before .before .before .before .put-string .ensures) (c .ended3 .ensures)
 
 -- src/leaf.rt:58:1
 same-length-4 : tie.Need-same-length-4
@@ -130,7 +129,7 @@ leaf-spec =
     member-row-requires
     name-in-requires
     put-string-requires
-    field-requires
+    count-of-requires
     add-ended-3
     ended-requires-3
     put-null-requires

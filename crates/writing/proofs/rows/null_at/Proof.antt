@@ -23,8 +23,8 @@ type-at-requires : tie.Need-type-at-requires
 type-at-requires c κs = search needs
 
 -- src/rows.rt:70:17
-field-requires : tie.Need-field-requires
-field-requires c κs = search needs
+kind-of-requires : tie.Need-kind-of-requires
+kind-of-requires c κs = search needs
 
 -- src/rows.rt:71:40
 is-unwrapped-requires : tie.Need-is-unwrapped-requires
@@ -40,7 +40,7 @@ returns c =
     let a = c .before .before .before .before .before .before .before .before .before .before .before .args in
     let found = rw (c .before .before .before .before .before .before .w .given .1) at (c .before .before .before .before .before .before .before .before .row-at .ensures) in
     let type = c .before .before .before .before .at .ensures in
-    λ ns. null-row (table (a .types .now) ns) (a .r) (found .0) (ap (λ (w : Row). w .kind) (type ns)) (c .is-unwrapped .ensures _ _ (type ns)) (c .before .before .field .ensures ns) (c .before .before .before .type-at .ensures ns)
+    λ ns. null-row (table (a .types .now) ns) (a .r) (found .0) (ap (λ (w : Row). w .kind) (type ns)) (c .is-unwrapped .ensures _ _ (type ns)) (c .before .before .kind-of .ensures ns) (c .before .before .before .type-at .ensures ns)
 
 -- src/rows.rt:64:1
 returns-2 : tie.Need-returns-2
@@ -57,7 +57,7 @@ null-at-spec =
     enum-known-w
     at-requires
     type-at-requires
-    field-requires
+    kind-of-requires
     is-unwrapped-requires
     enum-told
     returns

@@ -8,9 +8,9 @@ use Rattle.jer.specs.Judge.{rowsIn}
 use Rattle.types.specs.Rows.{table}
 use Rattle.writing.specs.Rows.{valueRow}
 use Rattle.writing.proofs.TextLaws.{gives-wrong, writes-is, writes-as, writes-none, value-got, value-wrong}
-use Rattle.writing.proofs.ListLaws.{Items, element-is, items-start, items-next, items-wrong, items-end}
-use Rattle.writing.proofs.SequenceLaws.{Members, count-is, null-is, members-start, members-absent, members-null, members-part, members-wrong, members-end}
-use Rattle.writing.proofs.ValueLaws.{kind-is, right-is, text-none, row-text, plain-other, plain-deep, plain-b, plain-kind, plain-position, plain-seq, plain-list, plain-choice, choice-ends, choice-wrong, unwrapped-bad, chosen-plain, unwrapped-ends, unwrapped-wrong}
+use Rattle.writing.proofs.ListLaws.{Items, items-start, items-next, items-wrong, items-end}
+use Rattle.writing.proofs.SequenceLaws.{Members, null-is, members-start, members-absent, members-null, members-part, members-wrong, members-end}
+use Rattle.writing.proofs.ValueLaws.{right-is, text-none, row-text, plain-other, plain-deep, plain-b, plain-kind, plain-position, plain-seq, plain-list, plain-choice, choice-ends, choice-wrong, unwrapped-bad, chosen-plain, unwrapped-ends, unwrapped-wrong}
 use borrow.Author.Needs.{needs}
 use borrow.Fn.Kinds.{In}
 use borrow.Fn.PlainCycle.{Measures, is, falls, and}
@@ -35,11 +35,12 @@ use Rattle.writing.proofs.value.+choice+judged+list+plain+sequence+valu
 use Rattle.types.proofs.row.Row.at.Reads as at-reads
 use Rattle.types.proofs.row.Row.is_array.Reads as is-array-reads
 use Rattle.types.proofs.row.Row.is_unwrapped.Reads as is-unwrapped-reads
-use Rattle.types.proofs.row.field.Reads as field-reads
+use Rattle.types.proofs.row.count_of.Reads as count-of-reads
+use Rattle.types.proofs.row.element_of.Reads as element-of-reads
+use Rattle.types.proofs.row.kind_of.Reads as kind-of-reads
 use Rattle.types.proofs.row.member_row.Reads as member-row-reads
 use Rattle.types.proofs.row.name_in.Reads as name-in-reads
 use Rattle.types.proofs.row.type_at.Reads as type-at-reads
-use Rattle.types.proofs.row.wide.Reads as wide-reads
 use Rattle.writing.proofs.leaf.leaf.Reads as leaf-reads
 use Rattle.writing.proofs.put.kept_after.Reads as kept-after-reads
 use Rattle.writing.proofs.put.put_byte.Reads as put-byte-reads
@@ -117,16 +118,16 @@ abbrev judged-calls : ℕ → judged-lts.Claims
 judged-calls t = (value-below t, value.Post)
 
 abbrev list-calls : ℕ → list-lts.Claims
-list-calls t = (field-reads.Asked, field-reads.Learnt, wide-reads.Asked, wide-reads.Learnt, put-byte-reads.Asked, put-byte-reads.Learnt, put-comma-reads.Asked, put-comma-reads.Learnt, value-below t, value.Post, ended-reads.Asked, ended-reads.Learnt)
+list-calls t = (element-of-reads.Asked, element-of-reads.Learnt, put-byte-reads.Asked, put-byte-reads.Learnt, put-comma-reads.Asked, put-comma-reads.Learnt, value-below t, value.Post, ended-reads.Asked, ended-reads.Learnt)
 
 abbrev plain-calls : ℕ → plain-lts.Claims
-plain-calls t = (row-at-reads.Asked, row-at-reads.Learnt, field-reads.Asked, field-reads.Learnt, leaf-reads.Asked, leaf-reads.Learnt, sequence-below t, sequence.Post, list-below t, list.Post, choice-below t, choice.Post)
+plain-calls t = (row-at-reads.Asked, row-at-reads.Learnt, kind-of-reads.Asked, kind-of-reads.Learnt, leaf-reads.Asked, leaf-reads.Learnt, sequence-below t, sequence.Post, list-below t, list.Post, count-of-reads.Asked, count-of-reads.Learnt, choice-below t, choice.Post)
 
 abbrev sequence-calls : ℕ → sequence-lts.Claims
-sequence-calls t = (at-reads.Asked, at-reads.Learnt, is-array-reads.Asked, is-array-reads.Learnt, field-reads.Asked, field-reads.Learnt, put-opening-reads.Asked, put-opening-reads.Learnt, type-at-reads.Asked, type-at-reads.Learnt, absent-at-reads.Asked, absent-at-reads.Learnt, null-at-reads.Asked, null-at-reads.Learnt, judged-below t, judged.Post, put-lead-reads.Asked, put-lead-reads.Learnt, value-below t, value.Post, kept-after-reads.Asked, kept-after-reads.Learnt, put-closing-reads.Asked, put-closing-reads.Learnt, ended-reads.Asked, ended-reads.Learnt)
+sequence-calls t = (at-reads.Asked, at-reads.Learnt, is-array-reads.Asked, is-array-reads.Learnt, count-of-reads.Asked, count-of-reads.Learnt, put-opening-reads.Asked, put-opening-reads.Learnt, type-at-reads.Asked, type-at-reads.Learnt, absent-at-reads.Asked, absent-at-reads.Learnt, null-at-reads.Asked, null-at-reads.Learnt, judged-below t, judged.Post, put-lead-reads.Asked, put-lead-reads.Learnt, value-below t, value.Post, kept-after-reads.Asked, kept-after-reads.Learnt, put-closing-reads.Asked, put-closing-reads.Learnt, ended-reads.Asked, ended-reads.Learnt)
 
 abbrev value-calls : ℕ → value-lts.Claims
-value-calls t = (at-reads.Asked, at-reads.Learnt, is-unwrapped-reads.Asked, is-unwrapped-reads.Learnt, plain-below t, plain.Post, row-at-reads.Asked, row-at-reads.Learnt, field-reads.Asked, field-reads.Learnt, type-at-reads.Asked, type-at-reads.Learnt, ended-reads.Asked, ended-reads.Learnt)
+value-calls t = (at-reads.Asked, at-reads.Learnt, is-unwrapped-reads.Asked, is-unwrapped-reads.Learnt, plain-below t, plain.Post, row-at-reads.Asked, row-at-reads.Learnt, count-of-reads.Asked, count-of-reads.Learnt, type-at-reads.Asked, type-at-reads.Learnt, ended-reads.Asked, ended-reads.Learnt)
 
 -- src/value.rt:244:9
 choice-put-byte-requires : (t : ℕ) → choice-lts.Need-put-byte-requires (choice-calls t) (choice-at t) choice.Post
@@ -215,12 +216,8 @@ abbrev list-μ-loop : list-lts.MeasureT-loop
 list-μ-loop types names values pool text₀ w r q o k depth e i₀ next₀ used₀ p₀ text i next used p = w .a - i
 
 -- src/value.rt:131:18
-list-field-requires : (t : ℕ) → list-lts.Need-field-requires (list-calls t) (list-at t) list.Post list-Inv-loop list-μ-loop
-list-field-requires t c κs = search needs
-
--- src/value.rt:131:9
-list-wide-requires : (t : ℕ) → list-lts.Need-wide-requires (list-calls t) (list-at t) list.Post list-Inv-loop list-μ-loop
-list-wide-requires t c κs = search needs
+list-element-of-requires : (t : ℕ) → list-lts.Need-element-of-requires (list-calls t) (list-at t) list.Post list-Inv-loop list-μ-loop
+list-element-of-requires t c κs = search needs
 
 -- src/value.rt:133:20
 list-add-next : (t : ℕ) → list-lts.Need-add-next (list-calls t) (list-at t) list.Post list-Inv-loop list-μ-loop
@@ -232,8 +229,8 @@ list-put-byte-requires t c κs = search needs
 
 -- src/value.rt:136:5
 list-loop-holds : (t : ℕ) → list-lts.Need-loop-holds (list-calls t) (list-at t) list.Post list-Inv-loop list-μ-loop
-list-loop-holds t c = let a = c .before .before .before .before .before .before .before .before .before .before .before .args in
-    (c .before .before .before .before .wide .ensures .0 ∙ element-is (table (a .types .now) (a .names .now)) (a .r) (c .before .before .before .before .before .field .ensures (a .names .now)), refl, items-start (omega arith))
+list-loop-holds t c = let a = c .before .before .before .before .before .before .before .before .before .before .args in
+    (c .before .before .before .before .element-of .ensures (a .names .now), refl, items-start (omega arith))
 
 -- src/value.rt:137:13
 list-put-comma-requires : (t : ℕ) → list-lts.Need-put-comma-requires (list-calls t) (list-at t) list.Post list-Inv-loop list-μ-loop
@@ -253,7 +250,7 @@ list-same-length t c = search needs
 
 -- src/value.rt:139:32
 list-returns : (t : ℕ) → list-lts.Need-returns (list-calls t) (list-at t) list.Post list-Inv-loop list-μ-loop
-list-returns t c = let a = c .before .before .before .before .before .before .before .before .before .before .before .before .before .before .before .before .before .before .before .before .before .before .before .before .before .args in
+list-returns t c = let a = c .before .before .before .before .before .before .before .before .before .before .before .before .before .before .before .before .before .before .before .before .before .before .before .before .args in
     let inv = c .before .before .before .before .before .before .before .before .before .before .before .before .before .loop .inv in
     gives-wrong (items-wrong (inv .2) (c .before .before .before .before .before .before .before .before .before .before .before .if1 .taken) (value-wrong (rowsIn (a .values .now)) (inv .0) (c .before .before .before .before .before .before .before .before .before .before .before .before .before .loop .next) (c .before .before .before .before .before .value .ensures) (c .before .b .given .1)))
 
@@ -271,7 +268,7 @@ list-loop-less t c = search needs
 
 -- src/value.rt:136:5
 list-loop-again : (t : ℕ) → list-lts.Need-loop-again (list-calls t) (list-at t) list.Post list-Inv-loop list-μ-loop
-list-loop-again t c = let a = c .before .before .before .before .before .before .before .before .before .before .before .before .before .before .before .before .before .before .before .before .before .before .before .before .before .args in
+list-loop-again t c = let a = c .before .before .before .before .before .before .before .before .before .before .before .before .before .before .before .before .before .before .before .before .before .before .before .before .args in
     let inv = c .before .before .before .before .before .before .before .before .before .before .before .before .before .loop .inv in
     let v = value-got (rowsIn (a .values .now)) (inv .0) (c .before .before .before .before .before .before .before .before .before .before .before .before .before .loop .next) (c .before .before .before .before .before .value .ensures) (c .before .row .given .1) in
     (inv .0, search needs, items-next (inv .2) (c .before .before .before .before .before .before .before .before .before .before .before .if1 .taken) (c .before .before .before .before .before .before .before .before .before .put-comma .ensures) v)
@@ -311,8 +308,8 @@ plain-returns t c = let a = c .before .before .before .before .before .before .b
     gives-wrong (text-none _ _ _ _ (a .q) _ (rw (c .enum-told .given .1) at (c .before .before .row-at .ensures)))
 
 -- src/value.rt:87:16
-plain-field-requires : (t : ℕ) → plain-lts.Need-field-requires (plain-calls t) (plain-at t) plain.Post
-plain-field-requires t c κs = search needs
+plain-kind-of-requires : (t : ℕ) → plain-lts.Need-kind-of-requires (plain-calls t) (plain-at t) plain.Post
+plain-kind-of-requires t c κs = search needs
 
 -- src/value.rt:88:9
 plain-returns-2 : (t : ℕ) → plain-lts.Need-returns-2 (plain-calls t) (plain-at t) plain.Post
@@ -320,7 +317,7 @@ plain-returns-2 t c = let a = c .before .before .before .before .before .before 
     let t = table (a .types .now) (a .names .now) in
     let w = c .before .before .before .w .given .0 .0 in
     let found = rw (c .before .before .before .w .given .1) at (c .before .before .before .before .before .row-at .ensures) in
-    let kind = kind-is t (a .r) (c .before .field .ensures (a .names .now)) in
+    let kind = (c .before .kind-of .ensures (a .names .now)) in
     gives-wrong (plain-other (a .depth) t (a .pool .now) (a .r) (w .kind) (w .a) (w .b) (w .size) (a .q) (a .o) (c .before .before .before .before .before .before .before .before .before .before .before .pre .1 .1) (found .0) (λ e. c .if1 .taken (e ∙ sym kind)))
 
 -- src/value.rt:91:9
@@ -329,7 +326,7 @@ plain-leaf-requires t c κs = let a = c .before .before .before .before .before 
     let t = table (a .types .now) (a .names .now) in
     let w = c .before .before .before .before .before .w .given .0 .0 in
     let found = rw (c .before .before .before .before .before .w .given .1) at (c .before .before .before .before .before .before .before .row-at .ensures) in
-    let kind = kind-is t (a .r) (c .before .before .before .field .ensures (a .names .now)) in
+    let kind = (c .before .before .before .kind-of .ensures (a .names .now)) in
     (c .before .before .if1 .left ∙ kind, omega (arith, c .before .if2 .taken), found .2)
 
 -- src/value.rt:91:9
@@ -382,7 +379,7 @@ plain-returns-6 t c = let a = c .before .before .before .before .before .before 
     let t = table (a .types .now) (a .names .now) in
     let w = c .before .before .before .before .before .before .before .before .before .before .before .before .w .given .0 .0 in
     let found = rw (c .before .before .before .before .before .before .before .before .before .before .before .before .w .given .1) at (c .before .before .before .before .before .before .before .before .before .before .before .before .before .before .row-at .ensures) in
-    let kind = kind-is t (a .r) (c .before .before .before .before .before .before .before .before .before .before .field .ensures (a .names .now)) in
+    let kind = (c .before .before .before .before .before .before .before .before .before .before .kind-of .ensures (a .names .now)) in
     writes-as (plain-seq (a .depth) t (a .pool .now) (a .r) (w .kind) (w .a) (w .b) (w .size) (a .q) (a .o) (c .before .before .before .before .before .before .before .before .before .before .before .before .before .before .before .before .before .before .before .before .pre .1 .1) (found .0) (c .before .before .before .before .before .before .before .if3 .left) (c .before .before .before .before .before .before .before .before .before .if1 .left ∙ kind) (c .before .before .before .before .before .if4 .left) (c .before .before .before .before .if5 .taken)) (c .before .before .sequence .ensures)
 
 -- src/value.rt:103:70
@@ -407,7 +404,7 @@ plain-returns-7 t c = let a = c .before .before .before .before .before .before 
     let t = table (a .types .now) (a .names .now) in
     let w = c .before .before .before .before .before .before .before .before .before .before .before .before .before .w .given .0 .0 in
     let found = rw (c .before .before .before .before .before .before .before .before .before .before .before .before .before .w .given .1) at (c .before .before .before .before .before .before .before .before .before .before .before .before .before .before .before .row-at .ensures) in
-    let kind = kind-is t (a .r) (c .before .before .before .before .before .before .before .before .before .before .before .field .ensures (a .names .now)) in
+    let kind = (c .before .before .before .before .before .before .before .before .before .before .before .kind-of .ensures (a .names .now)) in
     writes-as (plain-list (a .depth) t (a .pool .now) (a .r) (w .kind) (w .a) (w .b) (w .size) (a .q) (a .o) (c .before .before .before .before .before .before .before .before .before .before .before .before .before .before .before .before .before .before .before .before .before .pre .1 .1) (found .0) (c .before .before .before .before .before .before .before .before .if3 .left) (c .before .before .before .before .before .before .before .before .before .before .if1 .left ∙ kind) (c .before .before .before .before .before .before .if4 .left) (c .before .before .before .before .if6 .taken)) (c .before .before .list .ensures)
 
 -- src/value.rt:106:9
@@ -419,8 +416,8 @@ plain-returns-8 t c = let a = c .before .before .before .before .before .before 
     gives-wrong (plain-kind (a .depth) t (a .pool .now) (a .r) (w .kind) (w .a) (w .b) (w .size) (a .q) (a .o) (c .before .before .before .before .before .before .before .before .before .before .before .before .before .before .before .before .before .before .pre .1 .1) (found .0) (c .before .before .before .before .before .before .if2 .left) (c .before .before .if5 .left) (c .before .if6 .left) (c .if7 .taken))
 
 -- src/value.rt:108:8
-plain-field-requires-2 : (t : ℕ) → plain-lts.Need-field-requires-2 (plain-calls t) (plain-at t) plain.Post
-plain-field-requires-2 t c κs = search needs
+plain-count-of-requires : (t : ℕ) → plain-lts.Need-count-of-requires (plain-calls t) (plain-at t) plain.Post
+plain-count-of-requires t c κs = search needs
 
 -- src/value.rt:109:9
 plain-returns-9 : (t : ℕ) → plain-lts.Need-returns-9 (plain-calls t) (plain-at t) plain.Post
@@ -428,7 +425,7 @@ plain-returns-9 t c = let a = c .before .before .before .before .before .before 
     let t = table (a .types .now) (a .names .now) in
     let w = c .before .before .before .before .before .before .before .before .before .before .before .before .before .w .given .0 .0 in
     let found = rw (c .before .before .before .before .before .before .before .before .before .before .before .before .before .w .given .1) at (c .before .before .before .before .before .before .before .before .before .before .before .before .before .before .before .row-at .ensures) in
-    gives-wrong (plain-position (a .depth) t (a .pool .now) (a .r) (w .kind) (w .a) (w .b) (w .size) (a .q) (a .o) (c .before .before .before .before .before .before .before .before .before .before .before .before .before .before .before .before .before .before .before .before .before .pre .1 .1) (found .0) (c .before .before .before .before .before .before .before .before .before .if2 .left) (c .before .before .before .before .before .if5 .left) (c .before .before .before .before .if6 .left) (omega (arith, count-is t (a .r) (c .before .before .field2 .ensures (a .names .now)), c .if8 .taken)))
+    gives-wrong (plain-position (a .depth) t (a .pool .now) (a .r) (w .kind) (w .a) (w .b) (w .size) (a .q) (a .o) (c .before .before .before .before .before .before .before .before .before .before .before .before .before .before .before .before .before .before .before .before .before .pre .1 .1) (found .0) (c .before .before .before .before .before .before .before .before .before .if2 .left) (c .before .before .before .before .before .if5 .left) (c .before .before .before .before .if6 .left) (omega (arith, c .before .before .count-of .ensures (a .names .now), c .if8 .taken)))
 
 -- src/value.rt:111:61
 plain-sub-choice : (t : ℕ) → plain-lts.Need-sub-choice (plain-calls t) (plain-at t) plain.Post
@@ -452,8 +449,8 @@ plain-returns-10 t c = let a = c .before .before .before .before .before .before
     let t = table (a .types .now) (a .names .now) in
     let w = c .before .before .before .before .before .before .before .before .before .before .before .before .before .before .before .before .before .w .given .0 .0 in
     let found = rw (c .before .before .before .before .before .before .before .before .before .before .before .before .before .before .before .before .before .w .given .1) at (c .before .before .before .before .before .before .before .before .before .before .before .before .before .before .before .before .before .before .before .row-at .ensures) in
-    let kind = kind-is t (a .r) (c .before .before .before .before .before .before .before .before .before .before .before .before .before .before .before .field .ensures (a .names .now)) in
-    writes-as (plain-choice (a .depth) t (a .pool .now) (a .r) (w .kind) (w .a) (w .b) (w .size) (a .q) (a .o) (c .before .before .before .before .before .before .before .before .before .before .before .before .before .before .before .before .before .before .before .before .before .before .before .before .before .pre .1 .1) (found .0) (c .before .before .before .before .before .before .before .before .before .before .before .before .if3 .left) (c .before .before .before .before .before .before .before .before .before .before .before .before .before .before .if1 .left ∙ kind) (c .before .before .before .before .before .before .before .before .before .before .if4 .left) (c .before .before .before .before .before .before .before .if7 .left) (omega (arith, count-is t (a .r) (c .before .before .before .before .before .before .field2 .ensures (a .names .now)), c .before .before .before .before .if8 .left))) (c .before .before .choice .ensures)
+    let kind = (c .before .before .before .before .before .before .before .before .before .before .before .before .before .before .before .kind-of .ensures (a .names .now)) in
+    writes-as (plain-choice (a .depth) t (a .pool .now) (a .r) (w .kind) (w .a) (w .b) (w .size) (a .q) (a .o) (c .before .before .before .before .before .before .before .before .before .before .before .before .before .before .before .before .before .before .before .before .before .before .before .before .before .pre .1 .1) (found .0) (c .before .before .before .before .before .before .before .before .before .before .before .before .if3 .left) (c .before .before .before .before .before .before .before .before .before .before .before .before .before .before .if1 .left ∙ kind) (c .before .before .before .before .before .before .before .before .before .before .if4 .left) (c .before .before .before .before .before .before .before .if7 .left) (omega (arith, c .before .before .before .before .before .before .count-of .ensures (a .names .now), c .before .before .before .before .if8 .left))) (c .before .before .choice .ensures)
 
 abbrev sequence-Inv-loop : sequence-lts.InvT-loop
 sequence-Inv-loop types names values pool text₀ w r q o k depth array count i₀ present₀ kept₀ next₀ used₀ p₀ text i present kept next used p =
@@ -471,8 +468,8 @@ sequence-is-array-requires : (t : ℕ) → sequence-lts.Need-is-array-requires (
 sequence-is-array-requires t c κs = search needs
 
 -- src/value.rt:170:9
-sequence-field-requires : (t : ℕ) → sequence-lts.Need-field-requires (sequence-calls t) (sequence-at t) sequence.Post sequence-Inv-loop sequence-μ-loop
-sequence-field-requires t c κs = search needs
+sequence-count-of-requires : (t : ℕ) → sequence-lts.Need-count-of-requires (sequence-calls t) (sequence-at t) sequence.Post sequence-Inv-loop sequence-μ-loop
+sequence-count-of-requires t c κs = search needs
 
 -- src/value.rt:174:20
 sequence-add-next : (t : ℕ) → sequence-lts.Need-add-next (sequence-calls t) (sequence-at t) sequence.Post sequence-Inv-loop sequence-μ-loop
@@ -486,7 +483,7 @@ sequence-put-opening-requires t c κs = search needs
 sequence-loop-holds : (t : ℕ) → sequence-lts.Need-loop-holds (sequence-calls t) (sequence-at t) sequence.Post sequence-Inv-loop sequence-μ-loop
 sequence-loop-holds t c = let a = c .before .before .before .before .before .before .before .before .before .before .before .before .args in
     let t = table (a .types .now) (a .names .now) in
-    (count-is t (a .r) (c .before .before .before .before .field .ensures (a .names .now)), omega arith, refl, members-start (sym (c .before .before .before .before .before .is-array .ensures t (a .r) (c .before .before .before .before .before .before .at .ensures (a .names .now)))) (omega arith))
+    (c .before .before .before .before .count-of .ensures (a .names .now), omega arith, refl, members-start (sym (c .before .before .before .before .before .is-array .ensures t (a .r) (c .before .before .before .before .before .before .at .ensures (a .names .now)))) (omega arith))
 
 -- src/value.rt:178:13
 sequence-type-at-requires : (t : ℕ) → sequence-lts.Need-type-at-requires (sequence-calls t) (sequence-at t) sequence.Post sequence-Inv-loop sequence-μ-loop
@@ -682,8 +679,8 @@ value-returns-2 t c = let a = c .before .before .before .before .before .before 
     gives-wrong (text-none _ _ _ _ (a .q) _ (rw (c .enum-told .given .1) at (c .before .before .row-at .ensures)))
 
 -- src/value.rt:56:51
-value-field-requires : (t : ℕ) → value-lts.Need-field-requires (value-calls t) (value-at t) value.Post
-value-field-requires t c κs = search needs
+value-count-of-requires : (t : ℕ) → value-lts.Need-count-of-requires (value-calls t) (value-at t) value.Post
+value-count-of-requires t c κs = search needs
 
 -- src/value.rt:58:9
 value-returns-3 : (t : ℕ) → value-lts.Need-returns-3 (value-calls t) (value-at t) value.Post
@@ -693,7 +690,7 @@ value-returns-3 t c = let a = c .before .before .before .before .before .before 
     let unwrapped = sym (c .before .before .before .before .before .before .before .before .before .before .is-unwrapped .ensures t (a .r) (c .before .before .before .before .before .before .before .before .before .before .before .at .ensures (a .names .now))) ∙ not-false _ (c .before .before .before .before .before .before .before .before .before .if1 .left) in
     let w = c .before .before .before .before .before .before .w .given .0 .0 in
     let found = rw (c .before .before .before .before .before .before .w .given .1) at (c .before .before .before .before .before .before .before .before .row-at .ensures) in
-    let right = right-is (w .kind) (w .a) (w .b) (count-is t (a .r) (c .before .before .before .field .ensures (a .names .now))) (not-true _ (c .if2 .taken)) in
+    let right = right-is (w .kind) (w .a) (w .b) (c .before .before .before .count-of .ensures (a .names .now)) (not-true _ (c .if2 .taken)) in
     gives-wrong (unwrapped-bad (a .depth) t (a .pool .now) rows (a .r) (a .q) (a .o) (valueRow w) unwrapped (found .0) right)
 
 -- src/value.rt:60:9
@@ -714,7 +711,7 @@ value-plain-requires-2 t c κs = let a = c .before .before .before .before .befo
     let unwrapped = sym (c .before .before .before .before .before .before .before .before .before .before .before .before .is-unwrapped .ensures t (a .r) (c .before .before .before .before .before .before .before .before .before .before .before .before .before .at .ensures (a .names .now))) ∙ not-false _ (c .before .before .before .before .before .before .before .before .before .before .before .if1 .left) in
     let w = c .before .before .before .before .before .before .before .before .w .given .0 .0 in
     let found = rw (c .before .before .before .before .before .before .before .before .w .given .1) at (c .before .before .before .before .before .before .before .before .before .before .row-at .ensures) in
-    let right = right-is (w .kind) (w .a) (w .b) (count-is t (a .r) (c .before .before .before .before .before .field .ensures (a .names .now))) (not-false _ (c .before .before .if2 .left)) in
+    let right = right-is (w .kind) (w .a) (w .b) (c .before .before .before .before .before .count-of .ensures (a .names .now)) (not-false _ (c .before .before .if2 .left)) in
     (omega (arith, c .before .before .before .before .before .before .before .before .before .before .before .before .before .before .before .before .before .before .before .pre .0), (c .before .before .before .before .before .before .before .before .before .before .before .before .before .before .before .before .before .before .before .pre .1, ap (isUnwrapped t) (c .before .type-at .ensures (a .names .now)) ∙ chosen-plain (a .depth) t (a .pool .now) rows (a .r) (a .q) (a .o) (valueRow w) unwrapped (found .0) (c .before .before .before .before .before .before .before .before .before .before .before .before .before .before .before .before .before .before .before .pre .1) right))
 
 -- src/value.rt:62:22
@@ -741,7 +738,7 @@ value-returns-4 t c = let a = c .before .before .before .before .before .before 
     let unwrapped = sym (c .before .before .before .before .before .before .before .before .before .before .before .before .before .before .before .before .before .before .is-unwrapped .ensures t (a .r) (c .before .before .before .before .before .before .before .before .before .before .before .before .before .before .before .before .before .before .before .at .ensures (a .names .now))) ∙ not-false _ (c .before .before .before .before .before .before .before .before .before .before .before .before .before .before .before .before .before .if1 .left) in
     let w = c .before .before .before .before .before .before .before .before .before .before .before .before .before .before .w .given .0 .0 in
     let found = rw (c .before .before .before .before .before .before .before .before .before .before .before .before .before .before .w .given .1) at (c .before .before .before .before .before .before .before .before .before .before .before .before .before .before .before .before .row-at .ensures) in
-    let right = right-is (w .kind) (w .a) (w .b) (count-is t (a .r) (c .before .before .before .before .before .before .before .before .before .before .before .field .ensures (a .names .now))) (not-false _ (c .before .before .before .before .before .before .before .before .if2 .left)) in
+    let right = right-is (w .kind) (w .a) (w .b) (c .before .before .before .before .before .before .before .before .before .before .before .count-of .ensures (a .names .now)) (not-false _ (c .before .before .before .before .before .before .before .before .if2 .left)) in
     gives-wrong (unwrapped-wrong (a .depth) t (a .pool .now) rows (a .r) (a .q) (a .o) (valueRow w) unwrapped (found .0) (c .before .before .before .before .before .before .before .before .before .before .before .before .before .before .before .before .before .before .before .before .before .before .before .before .before .pre .1) right (value-wrong rows (c .before .before .before .before .before .before .before .type-at .ensures (a .names .now)) (a .q + 1) (c .before .before .before .before .before .plain2 .ensures) (c .before .b .given .1)))
 
 -- src/value.rt:35:1
@@ -756,7 +753,7 @@ value-returns-5 t c = let a = c .before .before .before .before .before .before 
     let unwrapped = sym (c .before .before .before .before .before .before .before .before .before .before .before .before .before .before .before .before .before .before .before .is-unwrapped .ensures t (a .r) (c .before .before .before .before .before .before .before .before .before .before .before .before .before .before .before .before .before .before .before .before .at .ensures (a .names .now))) ∙ not-false _ (c .before .before .before .before .before .before .before .before .before .before .before .before .before .before .before .before .before .before .if1 .left) in
     let w = c .before .before .before .before .before .before .before .before .before .before .before .before .before .before .before .w .given .0 .0 in
     let found = rw (c .before .before .before .before .before .before .before .before .before .before .before .before .before .before .before .w .given .1) at (c .before .before .before .before .before .before .before .before .before .before .before .before .before .before .before .before .before .row-at .ensures) in
-    let right = right-is (w .kind) (w .a) (w .b) (count-is t (a .r) (c .before .before .before .before .before .before .before .before .before .before .before .before .field .ensures (a .names .now))) (not-false _ (c .before .before .before .before .before .before .before .before .before .if2 .left)) in
+    let right = right-is (w .kind) (w .a) (w .b) (c .before .before .before .before .before .before .before .before .before .before .before .before .count-of .ensures (a .names .now)) (not-false _ (c .before .before .before .before .before .before .before .before .before .if2 .left)) in
     writes-is (c .ended .ensures) (unwrapped-ends (a .depth) t (a .pool .now) rows (a .r) (a .q) (a .o) (valueRow w) unwrapped (found .0) (c .before .before .before .before .before .before .before .before .before .before .before .before .before .before .before .before .before .before .before .before .before .before .before .before .before .before .pre .1) right (value-got rows (c .before .before .before .before .before .before .before .before .type-at .ensures (a .names .now)) (a .q + 1) (c .before .before .before .before .before .before .plain2 .ensures) (c .before .before .row .given .1)))
 
 pub +choice+judged+list+plain+sequence+value-spec : {M : Type 1} → statement M
@@ -785,8 +782,7 @@ pub +choice+judged+list+plain+sequence+value-spec : {M : Type 1} → statement M
     (λ t. list-lts.spec (list-calls t) (list-at t) list.Post
     list-Inv-loop
     list-μ-loop
-    (list-field-requires t)
-    (list-wide-requires t)
+    (list-element-of-requires t)
     (list-add-next t)
     (list-put-byte-requires t)
     (list-loop-holds t)
@@ -808,7 +804,7 @@ pub +choice+judged+list+plain+sequence+value-spec : {M : Type 1} → statement M
     (plain-enum-known-w t)
     (plain-enum-told t)
     (plain-returns t)
-    (plain-field-requires t)
+    (plain-kind-of-requires t)
     (plain-returns-2 t)
     (plain-leaf-requires t)
     (plain-same-length t)
@@ -824,7 +820,7 @@ pub +choice+judged+list+plain+sequence+value-spec : {M : Type 1} → statement M
     (plain-same-length-3 t)
     (plain-returns-7 t)
     (plain-returns-8 t)
-    (plain-field-requires-2 t)
+    (plain-count-of-requires t)
     (plain-returns-9 t)
     (plain-sub-choice t)
     (plain-choice-requires t)
@@ -835,7 +831,7 @@ pub +choice+judged+list+plain+sequence+value-spec : {M : Type 1} → statement M
     sequence-μ-loop
     (sequence-at-requires t)
     (sequence-is-array-requires t)
-    (sequence-field-requires t)
+    (sequence-count-of-requires t)
     (sequence-add-next t)
     (sequence-put-opening-requires t)
     (sequence-loop-holds t)
@@ -880,7 +876,7 @@ pub +choice+judged+list+plain+sequence+value-spec : {M : Type 1} → statement M
     (value-enum-known-w t)
     (value-enum-told t)
     (value-returns-2 t)
-    (value-field-requires t)
+    (value-count-of-requires t)
     (value-returns-3 t)
     (value-type-at-requires t)
     (value-add-plain t)

@@ -1,0 +1,20 @@
+use Rattle.types.specs.Rows.{table}
+use Rattle.types.proofs.SureLaws.{fits-told}
+use borrow.Author.Needs.{needs}
+use Rattle.types.proofs.sure.fits.Statement.{statement}
+use Rattle.types.proofs.sure.fits.Tie as tie
+
+row-in-requires : tie.Need-row-in-requires
+row-in-requires c κs = search needs
+
+returns : tie.Need-returns
+returns c =
+    let a = c .before .before .before .before .before .args in
+    λ ns. fits-told (table (a .rows .now) ns) (a .m) (a .marks) (a .types) (c .before .before .before .row-in .ensures ns)
+
+pub fits-spec : {M : Type 1} → statement M
+fits-spec =
+    tie.close
+    (tie.spec
+    row-in-requires
+    returns)
