@@ -16,7 +16,7 @@ use Rattle.jer.specs.Table.{Table, BOOLEAN, INTEGER, ENUMERATED, NULL, S
 use Rattle.jer.specs.Value.{Val, vBool, vInt, vEnum, vNull, vBytes, vChoice, Vals, vcons, Parts, absent, present, countVals, countPresent}
 use Rattle.jer.specs.Rows.{ValueRow, row, absentRow, bit, poolOf, itemPool, partPool, above, rowsOf, itemRows, partRows}
 use Rattle.jer.specs.Judge.{Took, wrong, Taker, isAbsent, takeParts, takeItems, rightRow, leaf, stringRow, sized, inBracket, takeSequence, takeList, takeChoice, takeRow, onRow, takeUnwrapped, takeValue}
-use Rattle.jer.specs.Fits.{Octets, noOctets, octet, Fits, fBool, fInt, fEnum, fNull, fOctets, fText, fSeq, fList, fWrapped, fUnwrapped, FitsItems, noItem, item, FitsParts, noMember, absentMember, presentMember}
+use Rattle.jer.specs.Fits.{Octets, noOctets, octet, Fits, fLeaf, fBool, fInt, fEnum, fNull, fOctets, fText, fSeq, fList, fWrapped, fUnwrapped, FitsItems, noItem, item, FitsParts, noMember, absentMember, presentMember}
 use Rattle.jer.proofs.ValidRows.{both, unwrapped-kind}
 use Rattle.jer.proofs.JudgeTakes.{inner, take-plain, take-unwrapped}
 use Rattle.jer.proofs.JudgeSpent.{After, after-then, after-if, WordRows, wordRow, Left, Spent, spent-none, spent-row, spent-append}
@@ -26,12 +26,7 @@ use Rattle.jer.proofs.JudgeSpent.{After, after-then, after-if, WordRows
 -- one bracket more may be open
 mutual
   fits-more : {t : Table} {d r : ℕ} {v : Val} → Fits t d r v → Fits t (suc d) r v
-  fits-more (fBool k) = fBool k
-  fits-more (fInt k l) = fInt k l
-  fits-more (fEnum k l) = fEnum k l
-  fits-more (fNull k) = fNull k
-  fits-more (fOctets k h) = fOctets k h
-  fits-more (fText k u) = fText k u
+  fits-more (fLeaf f) = fLeaf f
   fits-more (fSeq k f) = fSeq k (parts-more f)
   fits-more (fList k f) = fList k (items-more f)
   fits-more (fWrapped k c l f) = fWrapped k c l (fits-more f)
@@ -113,7 +108,7 @@ module _ (t : Table) (pool : List ℕ) (os : Octets pool) where
     module _ (k : w .kind ≡ kindOf t r) where
       bool-sound : kindOf t r ≡ BOOLEAN → After (Taken d r (w ∷ ws) q o) (leaf (ltb (w .a) 2) (vBool (eqb (w .a) 1)) w ws q o)
       unfolding rowsOf poolOf
-      bool-sound c = leaf-sound _ _ (λ g x y. record { fits = fBool c; spent = spent-one _ (row-is w k (bit-of (w .a) (ltb-true _ _ g)) x y) })
+      bool-sound c = leaf-sound _ _ (λ g x y. record { fits = fLeaf (fBool c); spent = spent-one _ (row-is w k (bit-of (w .a) (ltb-true _ _ g)) x y) })
 
       int-sound : kindOf t r ≡ INTEGER → After (Taken d r (w ∷ ws) q o) (rightRow (eqb (w .size) 1) (vInt (w .b * 2 ^ 32 + w .a)) ws q o)
       unfolding rowsOf poolOf
@@ -124,15 +119,15 @@ module _ (t : Table) (pool : List ℕ) (os : Octets pool) where
               let low : w .a ≡ (w .b * 2 ^ 32 + w .a) % 2 ^ 32 = rw (mul-add-mod-self-right (w .b) (2 ^ 32) (w .a), mod-eq-of-lt x) in
               let high : w .b ≡ (w .b * 2 ^ 32 + w .a) / 2 ^ 32 = rw (mul-add-div-right (lit< tt) (w .b) (w .a), div-eq-of-lt x) (omega arith) in
               let n : w .b * 2 ^ 32 + w .a < 2 ^ 64 = omega arith in
-              record { fits = fInt c n; spent = spent-one _ (row-is w k low high (eqb-true _ _ e)) }
+              record { fits = fLeaf (fInt c n); spent = spent-one _ (row-is w k low high (eqb-true _ _ e)) }
 
       enum-sound : kindOf t r ≡ ENUMERATED → After (Taken d r (w ∷ ws) q o) (leaf (ltb (w .a) (countOf t r)) (vEnum (w .a)) w ws q o)
       unfolding rowsOf poolOf
-      enum-sound c = leaf-sound _ _ (λ g x y. record { fits = fEnum c (ltb-true _ _ g); spent = spent-one _ (row-is w k refl x y) })
+      enum-sound c = leaf-sound _ _ (λ g x y. record { fits = fLeaf (fEnum c (ltb-true _ _ g)); spent = spent-one _ (row-is w k refl x y) })
 
       null-sound : kindOf t r ≡ NULL → After (Taken d r (w ∷ ws) q o) (leaf (eqb (w .a) 0) vNull w ws q o)
       unfolding rowsOf poolOf
-      null-sound c = leaf-sound _ _ (λ g x y. record { fits = fNull c; spent = spent-one _ (row-is w k (eqb-true _ _ g) x y) })
+      null-sound c = leaf-sound _ _ (λ g x y. record { fits = fLeaf (fNull c); spent = spent-one _ (row-is w k (eqb-true _ _ g) x y) })
 
       string-taken : let s = take (w .b) (drop o pool) in Fits t d r (vBytes s) → w .a ≡ o → o + w .b ≤ length pool → w .size ≡ 1 → Taken d r (w ∷ ws) q o (vBytes s) ws (suc q) (o + w .b)
       unfolding rowsOf poolOf
@@ -262,8 +257,8 @@ module _ (t : Table) (pool : List ℕ) (os : Octets pool) where
       ⨾ (λ i. int-sound d r w ws q o l k (omega arith))
       ⨾ (λ i. enum-sound d r w ws q o l k (omega arith))
       ⨾ (λ i. null-sound d r w ws q o l k (omega arith))
-      ⨾ (λ i. string-sound d r w ws q o l k false (λ s h u. fOctets (omega arith) h))
-      ⨾ (λ i. string-sound d r w ws q o l k true (λ s h u. fText (omega arith) u))
+      ⨾ (λ i. string-sound d r w ws q o l k false (λ s h u. fLeaf (fOctets (omega arith) h)))
+      ⨾ (λ i. string-sound d r w ws q o l k true (λ s h u. fLeaf (fText (omega arith) u)))
       ⨾ (λ i. bracket-sound r (w ∷ ws) q o _ _ n (λ x f s b. seq-sound x f r w ws q o l k (eqb-true _ _ b) s (omega arith)))
       ⨾ (λ i. bracket-sound r (w ∷ ws) q o _ _ n (λ x f s b. list-sound x f r w ws q o l k (eqb-true _ _ b) s (omega arith)))
       ⨾ (λ i. bracket-sound r (w ∷ ws) q o _ _ n (λ x f s b.

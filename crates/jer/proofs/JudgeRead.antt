@@ -18,7 +18,7 @@ use Rattle.jer.specs.declared.Cause.the-variants.{UnknownName, RepeatedN
 use Rattle.jer.specs.Answer.{Res, ok, no, bind, at}
 use Rattle.jer.specs.Octets.{unhex, unbase64}
 use Rattle.jer.specs.Read.{Meaning, Element, Entry, readInt, readItem, readOctets, octetsOf, readString, atKind, picked, unwrapping, lookup, namesGood, nullAbsent, withAbsent, withPresent, readMember, readMembers, readObject, nullValue, missingElement, readElement, surplus, readElements, readItems, readArray, readChosen, readChoice, readBraces, read, elements, entries}
-use Rattle.jer.specs.Fits.{Octets, Fits, fBool, fInt, fEnum, fNull, fOctets, fText, fSeq, fList, fWrapped, fUnwrapped, FitsItems, noItem, item, FitsParts, noMember, absentMember, presentMember}
+use Rattle.jer.specs.Fits.{Octets, Fits, fLeaf, fBool, fInt, fEnum, fNull, fOctets, fText, fSeq, fList, fWrapped, fUnwrapped, FitsItems, noItem, item, FitsParts, noMember, absentMember, presentMember}
 use Rattle.jer.proofs.Sane.{Sane}
 use Rattle.jer.proofs.ValidLaws.{position-some, alternative-some}
 use Rattle.jer.proofs.ValidRows.{both, array-kind}
@@ -53,9 +53,9 @@ module _ (t : Table) (d : ℕ) where
 
   int-fits : (r p : ℕ) (m : Bool) (n : ℕ) → kindOf t r ≡ INTEGER → Gives (Fits t d r) (readInt p m n)
   unfolding readInt
-  int-fits r p false n k = gives-if (Fits t d r) (ltb n (2 ^ 63)) _ _ (λ e. let l : n < 2 ^ 64 = omega (arith, ltb-true) in fInt k l) (λ e. tt)
-  int-fits r p true zero k = let l : 0 < 2 ^ 64 = omega arith in fInt k l
-  int-fits r p true (suc n) k = gives-if (Fits t d r) (leb (suc n) (2 ^ 63)) _ _ (λ e. let l : 2 ^ 64 - suc n < 2 ^ 64 = omega arith in fInt k l) (λ e. tt)
+  int-fits r p false n k = gives-if (Fits t d r) (ltb n (2 ^ 63)) _ _ (λ e. let l : n < 2 ^ 64 = omega (arith, ltb-true) in fLeaf (fInt k l)) (λ e. tt)
+  int-fits r p true zero k = let l : 0 < 2 ^ 64 = omega arith in fLeaf (fInt k l)
+  int-fits r p true (suc n) k = gives-if (Fits t d r) (leb (suc n) (2 ^ 63)) _ _ (λ e. let l : 2 ^ 64 - suc n < 2 ^ 64 = omega arith in fLeaf (fInt k l)) (λ e. tt)
 
   item-fits : (r p : ℕ) (s : List ℕ) → kindOf t r ≡ ENUMERATED → Gives (Fits t d r) (readItem t r p (position t r s))
   unfolding readItem
@@ -63,7 +63,7 @@ module _ (t : Table) (d : ℕ) where
     where
       go : (x : Option ℕ) → position t r s ≡ x → Gives (Fits t d r) (readItem t r p x)
       go none e = gives-if (Fits t d r) (extensible t r) _ _ (λ c. tt) (λ c. tt)
-      go (some i) e = fEnum k (position-some t r s i e .0)
+      go (some i) e = fLeaf (fEnum k (position-some t r s i e .0))
 
   octets-fits : (r p : ℕ) (s : List ℕ) → kindOf t r ≡ OCTET-STRING → Gives (Fits t d r) (readOctets p (octetsOf t r s))
   unfolding readOctets octetsOf
@@ -71,7 +71,7 @@ module _ (t : Table) (d : ℕ) where
     where
       of : (x : Option (List ℕ)) → Holds Octets x → Gives (Fits t d r) (readOctets p x)
       of none h = tt
-      of (some os) h = fOctets k h
+      of (some os) h = fLeaf (fOctets k h)
 
       go : (c : Bool) → Gives (Fits t d r) (readOctets p (elim c [ true ↦ unbase64 s | false ↦ unhex s ]))
       go true = of (unbase64 s) (unbase64-octets s)
@@ -81,7 +81,7 @@ module _ (t : Table) (d : ℕ) where
   unfolding readString
   string-fits p s u r =
       pick-within (Gives (Fits t d r)) (kindOf t r) _ _
-      ((λ i. item-fits r p s (only i)) ⨾ (λ i. octets-fits r p s (only i)) ⨾ (λ i. fText (only i) u) ⨾ tt)
+      ((λ i. item-fits r p s (only i)) ⨾ (λ i. octets-fits r p s (only i)) ⨾ (λ i. fLeaf (fText (only i) u)) ⨾ tt)
       tt
 
 -- ---- null
@@ -103,10 +103,10 @@ null-value t d r = go (isUnwrapped t r) refl
   where
     chosen : (x : Option ℕ) → isUnwrapped t r ≡ true → alternative t r tNull ≡ x → Holds (Fits t d r) (elim x as (λ _. Option Val) [ none ↦ none | some i ↦ some (vChoice i vNull) ])
     chosen none c e = tt
-    chosen (some i) c e = let a = alternative-some t r tNull i e in fUnwrapped c (a .0) (fNull (null-kind t (typeAt t r i) (a .1)))
+    chosen (some i) c e = let a = alternative-some t r tNull i e in fUnwrapped c (a .0) (fLeaf (fNull (null-kind t (typeAt t r i) (a .1))))
 
     itself : (c : Bool) → eqb (kindOf t r) NULL ≡ c → Holds (Fits t d r) (elim c as (λ _. Option Val) [ true ↦ some vNull | false ↦ none ])
-    itself true e = fNull (eqb-true _ _ e)
+    itself true e = fLeaf (fNull (eqb-true _ _ e))
     itself false e = tt
 
     go : (c : Bool) → isUnwrapped t r ≡ c → Holds (Fits t d r) (nullValue t r)
@@ -269,11 +269,11 @@ module _ (t : Table) (g : Sane t) where
 
   null-read : (d p : ℕ) → Means t d (read (jnull p) t)
   unfolding read
-  null-read d p = unwrapping-fits d tNull p _ (λ r c. at-kind t d r NULL p _ (λ k. fNull k))
+  null-read d p = unwrapping-fits d tNull p _ (λ r c. at-kind t d r NULL p _ (λ k. fLeaf (fNull k)))
 
   bool-read : (d p : ℕ) (b : Bool) → Means t d (read (jbool p b) t)
   unfolding read
-  bool-read d p b = unwrapping-fits d tBoolean p _ (λ r c. at-kind t d r BOOLEAN p _ (λ k. fBool k))
+  bool-read d p b = unwrapping-fits d tBoolean p _ (λ r c. at-kind t d r BOOLEAN p _ (λ k. fLeaf (fBool k)))
 
   int-read : (d p : ℕ) (m : Bool) (n : ℕ) → Means t d (read (jint p m n) t)
   unfolding read

@@ -1,7 +1,7 @@
 -- The rows of a well-formed value are taken, and give the value.
 use Prim.Native.Nat.{ℕ, zero, suc, _+_, _-_, _/_, _%_, _^_, _≤_, _<_}
 use mathlib.Core.Path.{_≡_, refl, sym, ap, _∙_}
-use mathlib.Core.List.{List, _∷_, _++_, append-assoc}
+use mathlib.Core.List.{List, [], _∷_, _++_, append-assoc}
 use mathlib.Core.Bool.{Bool, true, false, _||_, not}
 use mathlib.Core.Option.{Option, some}
 use native.Mathlib.Omega.{arith}
@@ -12,21 +12,24 @@ use borrow.Author.Tests.{eq-eqb, ne-eqb, lt-ltb, le-leb}
 use Rattle.json.specs.Bytes.{pick}
 use Rattle.json.specs.Utf8.{utf8}
 use Rattle.jer.specs.Table.{Table, BOOLEAN, INTEGER, ENUMERATED, NULL, OCTET-STRING, UTF8String, SEQUENCE, SEQUENCE-OF, CHOICE, kindOf, isUnwrapped, elementOf, countOf, typeAt, mayMiss}
-use Rattle.jer.specs.Value.{Val, vBool, vInt, vEnum, vNull, vBytes, vSeq, vList, vChoice, Vals, vnil, vcons, Parts, pnil, absent, present, countVals, countPresent}
-use Rattle.jer.specs.Rows.{ValueRow, row, bit, poolOf, itemPool, partPool, above, rowsOf, itemRows, partRows}
+use Rattle.jer.specs.Value.{Leaf, lBool, lInt, lEnum, lNull, lBytes, Val, vLeaf, vBool, vInt, vEnum, vNull, vBytes, vSeq, vList, vChoice, Vals, vnil, vcons, Parts, pnil, absent, present, countVals, countPresent}
+use Rattle.jer.specs.Rows.{ValueRow, row, bit, leafRow, poolOf, itemPool, partPool, above, rowsOf, itemRows, partRows}
 use Rattle.jer.specs.Judge.{took, andThen, Taker, isAbsent, takeParts, takeItems, rightRow, leaf, stringRow, sized, inBracket, takeSequence, takeList, takeChoice, takeRow, onRow, takeUnwrapped, takeValue}
-use Rattle.jer.specs.Fits.{Fits, fBool, fInt, fEnum, fNull, fOctets, fText, fSeq, fList, fWrapped, fUnwrapped, FitsItems, noItem, item, FitsParts, noMember, absentMember, presentMember}
+use Rattle.jer.specs.Fits.{FitsLeaf, Fits, fLeaf, fBool, fInt, fEnum, fNull, fOctets, fText, fSeq, fList, fWrapped, fUnwrapped, FitsItems, noItem, item, FitsParts, noMember, absentMember, presentMember}
 use Rattle.jer.proofs.Sane.{Sane}
 use Rattle.jer.proofs.ValidRows.{unwrapped-kind}
 use Rattle.jer.proofs.JudgeTakes.{Stands, stands-first, stands-later, inner, take-plain, take-unwrapped}
 
+leaf-kind : {t : Table} {r : ℕ} {l : Leaf} → FitsLeaf t r l → kindOf t r ≤ 8
+leaf-kind (fBool k) = omega arith
+leaf-kind (fInt k h) = omega arith
+leaf-kind (fEnum k h) = omega arith
+leaf-kind (fNull k) = omega arith
+leaf-kind (fOctets k h) = omega arith
+leaf-kind (fText k h) = omega arith
+
 pub fits-kind : {t : Table} {d r : ℕ} {v : Val} → Fits t d r v → kindOf t r ≤ 8
-fits-kind (fBool k) = omega arith
-fits-kind (fInt k h) = omega arith
-fits-kind (fEnum k h) = omega arith
-fits-kind (fNull k) = omega arith
-fits-kind (fOctets k h) = omega arith
-fits-kind (fText k h) = omega arith
+fits-kind (fLeaf f) = leaf-kind f
 fits-kind (fSeq k h) = omega arith
 fits-kind (fList k h) = omega arith
 fits-kind (fWrapped k u h f) = omega arith
@@ -39,13 +42,16 @@ record Headed (t : Table) (r : ℕ) (ws : List ValueRow) : Type 0 where
   all : ws ≡ first ∷ rest
   kind : first .kind ≡ kindOf t r
 
+headed-leaf : (l : Leaf) (t : Table) (r o : ℕ) → Headed t r (leafRow l (kindOf t r) o ∷ [])
+headed-leaf (lBool b) t r o = record { first = _; rest = _; all = refl; kind = refl }
+headed-leaf (lInt n) t r o = record { first = _; rest = _; all = refl; kind = refl }
+headed-leaf (lEnum i) t r o = record { first = _; rest = _; all = refl; kind = refl }
+headed-leaf lNull t r o = record { first = _; rest = _; all = refl; kind = refl }
+headed-leaf (lBytes s) t r o = record { first = _; rest = _; all = refl; kind = refl }
+
 headed : (v : Val) (t : Table) (r o : ℕ) → Headed t r (rowsOf v t r o)
 unfolding rowsOf above
-headed (vBool b) t r o = record { first = _; rest = _; all = refl; kind = refl }
-headed (vInt n) t r o = record { first = _; rest = _; all = refl; kind = refl }
-headed (vEnum i) t r o = record { first = _; rest = _; all = refl; kind = refl }
-headed vNull t r o = record { first = _; rest = _; all = refl; kind = refl }
-headed (vBytes s) t r o = record { first = _; rest = _; all = refl; kind = refl }
+headed (vLeaf l) t r o = headed-leaf l t r o
 headed (vSeq ps) t r o = record { first = _; rest = _; all = refl; kind = refl }
 headed (vList vs) t r o = record { first = _; rest = _; all = refl; kind = refl }
 headed (vChoice i v) t r o = record { first = _; rest = _; all = refl; kind = refl }
@@ -267,16 +273,19 @@ module _ (t : Table) (pool : List ℕ) where
       let e = rw x at (sym (take-plain t pool d (typeAt t r i) (a ++ ws) (suc q) o p) ∙ f ws (suc q) o h) in
       rw (unwrapped-kind t r c) (unwrapped-row d r i (suc (length a)) (a ++ ws) q o c l ∙ choice-taken _ t pool r (a ++ ws) q o _ ws _ _ (omega arith) v e)
 
+takes-leaf : (t : Table) (pool : List ℕ) (d : ℕ) {r : ℕ} {l : Leaf} → FitsLeaf t r l → Takes t pool d r (vLeaf l)
+takes-leaf t pool d (fBool k) = takes-bool t pool _ _ _ k
+takes-leaf t pool d (fInt k l) = takes-int t pool _ _ _ k
+takes-leaf t pool d (fEnum k l) = takes-enum t pool _ _ _ k l
+takes-leaf t pool d (fNull k) = takes-null t pool _ _ k
+takes-leaf t pool d (fOctets k h) = takes-octets t pool _ _ _ k
+takes-leaf t pool d (fText k u) = takes-text t pool _ _ _ k u
+
 module _ (t : Table) (g : Sane t) (pool : List ℕ) where
   mutual
     -- where the strings of a well-formed value stand in the pool, its rows are taken for it, and none of those after them
     pub takes-rows : {d r : ℕ} {v : Val} → Fits t d r v → Takes t pool d r v
-    takes-rows (fBool k) = takes-bool t pool _ _ _ k
-    takes-rows (fInt k l) = takes-int t pool _ _ _ k
-    takes-rows (fEnum k l) = takes-enum t pool _ _ _ k l
-    takes-rows (fNull k) = takes-null t pool _ _ k
-    takes-rows (fOctets k h) = takes-octets t pool _ _ _ k
-    takes-rows (fText k u) = takes-text t pool _ _ _ k u
+    takes-rows (fLeaf f) = takes-leaf t pool _ f
     takes-rows (fSeq k f) = takes-seq t pool _ _ _ k (takes-parts f)
     takes-rows (fList k f) = takes-list t pool _ _ _ k (takes-items f)
     takes-rows (fWrapped k c l f) = takes-wrapped t pool _ _ _ _ k c l (takes-rows f)

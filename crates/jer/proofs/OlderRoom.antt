@@ -8,7 +8,7 @@ use lib.Dec.{ltb}
 use lib.ListN.{length, length-append}
 use borrow.Author.Tests.{leb-true, le-leb}
 use Rattle.jer.specs.Table.{Table, elementOf, countOf, typeAt}
-use Rattle.jer.specs.Value.{Val, vBool, vInt, vEnum, vNull, vBytes, vSeq, vList, vChoice, Vals, vnil, vcons, Parts, pnil, absent, present}
+use Rattle.jer.specs.Value.{Val, vLeaf, vSeq, vList, vChoice, Vals, vnil, vcons, Parts, pnil, absent, present}
 use Rattle.jer.specs.Rows.{ValueRow, numbers, rowsOf, poolOf, itemPool, partPool}
 use Rattle.jer.specs.Cut.{cut, cutItems, cutParts, cutChosen}
 use Rattle.jer.specs.Calls.{rowNumbers, roomy}
@@ -26,11 +26,7 @@ mutual
   unfolding cut
 
   value-rows : (v : Val) (t : Table) (r : ℕ) → rowsIn (cut v t r) ≤ rowsIn v
-  value-rows (vBool b) t r = omega arith
-  value-rows (vInt n) t r = omega arith
-  value-rows (vEnum i) t r = omega arith
-  value-rows vNull t r = omega arith
-  value-rows (vBytes s) t r = omega arith
+  value-rows (vLeaf l) t r = omega arith
   value-rows (vSeq ps) t r = omega (arith, part-rows ps t r 0 (countOf t r))
   value-rows (vList vs) t r = omega (arith, item-rows vs t (elementOf t r))
   value-rows (vChoice i v) t r = chosen-rows (ltb i (countOf t r)) i (cut v t (typeAt t r i)) v (value-rows v t (typeAt t r i))
@@ -60,11 +56,7 @@ mutual
   unfolding cut poolOf
 
   pub cut-pool : (v : Val) (t : Table) (r : ℕ) → length (poolOf (cut v t r)) ≤ length (poolOf v)
-  cut-pool (vBool b) t r = omega arith
-  cut-pool (vInt n) t r = omega arith
-  cut-pool (vEnum i) t r = omega arith
-  cut-pool vNull t r = omega arith
-  cut-pool (vBytes s) t r = omega arith
+  cut-pool (vLeaf l) t r = omega arith
   cut-pool (vSeq ps) t r = part-pool ps t r 0 (countOf t r)
   cut-pool (vList vs) t r = item-pool vs t (elementOf t r)
   cut-pool (vChoice i v) t r = chosen-pool (ltb i (countOf t r)) i (cut v t (typeAt t r i)) v (cut-pool v t (typeAt t r i))

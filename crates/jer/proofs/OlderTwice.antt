@@ -7,8 +7,8 @@ use native.Mathlib.Omega.{arith}
 use lib.Dec.{ltb}
 use borrow.Author.Tests.{ltb-true, ltb-false, lt-ltb, le-ltb}
 use Rattle.jer.specs.Table.{Table, SEQUENCE-OF, kindOf, elementOf, countOf, typeAt}
-use Rattle.jer.specs.Value.{Val, vBool, vInt, vEnum, vNull, vBytes, vSeq, vList, vChoice, Vals, vnil, vcons, Parts, pnil, absent, present}
-use Rattle.jer.specs.Fits.{Fits, fBool, fInt, fEnum, fNull, fOctets, fText, fSeq, fList, fWrapped, fUnwrapped, FitsItems, noItem, item, FitsParts, noMember, absentMember, presentMember}
+use Rattle.jer.specs.Value.{Val, vLeaf, vSeq, vList, vChoice, Vals, vnil, vcons, Parts, pnil, absent, present}
+use Rattle.jer.specs.Fits.{Fits, fLeaf, fSeq, fList, fWrapped, fUnwrapped, FitsItems, noItem, item, FitsParts, noMember, absentMember, presentMember}
 use Rattle.jer.specs.Cut.{ByAdditions, cut, cutItems, cutParts, cutChosen, lacks, lacksItems, lacksParts, lacksChosen}
 use Rattle.jer.proofs.OlderAgrees.{cut-none}
 
@@ -37,11 +37,7 @@ unless-two {c = c} {d = d} f e (both {a = x} {b = y} u w) h = both (e x c ∙ rw
 
 abbrev mutual
   pub Shaped : Val → Table → ℕ → Type 0
-  Shaped (vBool b) t r = Unit {0}
-  Shaped (vInt n) t r = Unit {0}
-  Shaped (vEnum i) t r = Unit {0}
-  Shaped vNull t r = Unit {0}
-  Shaped (vBytes s) t r = Unit {0}
+  Shaped (vLeaf l) t r = Unit {0}
   Shaped (vSeq ps) t r = ShapedParts ps t r 0
   Shaped (vList vs) t r = (kindOf t r ≡ SEQUENCE-OF) × ShapedItems vs t (elementOf t r)
   Shaped (vChoice i v) t r = i < countOf t r → Shaped v t (typeAt t r i)
@@ -65,11 +61,7 @@ mutual
   unfolding cut
 
   pub cut-shaped : (v : Val) (t u : Table) (r s : ℕ) → Shaped v t r → Shaped (cut v u s) t r
-  cut-shaped (vBool b) t u r s h = tt
-  cut-shaped (vInt n) t u r s h = tt
-  cut-shaped (vEnum i) t u r s h = tt
-  cut-shaped vNull t u r s h = tt
-  cut-shaped (vBytes b) t u r s h = tt
+  cut-shaped (vLeaf l) t u r s h = tt
   cut-shaped (vSeq ps) t u r s h = parts-shaped ps t u r s 0 0 (countOf u s) h
   cut-shaped (vList vs) t u r s h = (h .0, items-shaped vs t u (elementOf t r) (elementOf u s) (h .1))
   cut-shaped (vChoice i v) t u r s h = chosen-shaped (ltb i (countOf u s)) i (cut v u (typeAt u s i)) v t r (λ l. cut-shaped v t u (typeAt t r i) (typeAt u s i) (h l)) h
@@ -89,12 +81,7 @@ mutual
 module _ {new old : Table} {R : ℕ → ℕ → Type 0} (pair : ByAdditions new old R) where
   mutual
     pub fits-shaped : {d a : ℕ} {v : Val} → Fits new d a v → (b : ℕ) → R a b → Shaped v old b
-    fits-shaped (fBool k) b r = tt
-    fits-shaped (fInt k l) b r = tt
-    fits-shaped (fEnum k l) b r = tt
-    fits-shaped (fNull k) b r = tt
-    fits-shaped (fOctets k o) b r = tt
-    fits-shaped (fText k u) b r = tt
+    fits-shaped (fLeaf f) b r = tt
     fits-shaped (fSeq k f) b r = fits-parts f b r
     fits-shaped (fList {r = a} k f) b r = let e = sym (pair .kinds a b r) ∙ k in (e, fits-items f (elementOf old b) (pair .elements a b r e))
     fits-shaped (fWrapped {r = a} {i = i} k u l f) b r = λ h. fits-shaped f (typeAt old b i) (pair .types a b i r h)
@@ -146,11 +133,7 @@ module _ {mid old : Table} {S : ℕ → ℕ → Type 0} (pair : ByAdditions mid 
     unfolding cut lacks
 
     pub cut-twice : (v : Val) (b c : ℕ) → S b c → Shaped v old c → Twice v b c
-    cut-twice (vBool x) b c s h = same
-    cut-twice (vInt n) b c s h = same
-    cut-twice (vEnum i) b c s h = same
-    cut-twice vNull b c s h = same
-    cut-twice (vBytes x) b c s h = same
+    cut-twice (vLeaf l) b c s h = same
     cut-twice (vSeq ps) b c s h = unless-map vSeq (λ x. refl) (parts-twice ps b c 0 (countOf mid b) (countOf old c) s (omega arith) (omega arith) h)
     cut-twice (vList vs) b c s h = unless-map vList (λ x. refl) (items-twice vs (elementOf mid b) (elementOf old c) (pair .elements b c s (h .0)) (h .1))
     cut-twice (vChoice i v) b c s h = choice-twice b c i v s (λ l. cut-twice v (typeAt mid b i) (typeAt old c i) (pair .types b c i s l) (h l))

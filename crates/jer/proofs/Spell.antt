@@ -10,25 +10,20 @@ use Rattle.jer.specs.Table.{Table, SEQUENCE, kindOf, isType, marksOf, el
 use Rattle.jer.specs.Value.{Val, vSeq, vList, vChoice, Vals, Parts, absent}
 use Rattle.jer.specs.Answer.{ok}
 use Rattle.jer.specs.Read.{read}
-use Rattle.jer.specs.Fits.{Fits, fBool, fInt, fEnum, fNull, fOctets, fText, fSeq, fList, fWrapped, fUnwrapped, FitsItems, noItem, item, FitsParts, noMember, absentMember, presentMember}
+use Rattle.jer.specs.Fits.{Fits, fLeaf, fSeq, fList, fWrapped, fUnwrapped, FitsItems, noItem, item, FitsParts, noMember, absentMember, presentMember}
 use Rattle.jer.specs.Write.{write}
 use Rattle.jer.specs.Cut.{ByAdditions, absents, grow, growItems, growParts}
 use Rattle.jer.proofs.Sane.{Sane}
 use Rattle.jer.proofs.SpellLists.{unpadded}
 use Rattle.jer.proofs.SpellPaired.{kind-type}
-use Rattle.jer.proofs.SpellLeaf.{Spelled, spell-null, spell-bool, spell-int, spell-enum, spell-octets, spell-text}
+use Rattle.jer.proofs.SpellLeaf.{Spelled, spell-leaf}
 use Rattle.jer.proofs.SpellParts.{SpelledItems, SpelledElements, SpelledMembers, spell-no-item, spell-item, spell-list, spell-no-element, spell-null-element, spell-element, spell-no-member, spell-absent-member, spell-member, spell-sequence}
 use Rattle.jer.proofs.SpellChoice.{spell-wrapped, spell-unwrapped}
 
 module _ {new old : Table} {R : ℕ → ℕ → Type 0} (pair : ByAdditions new old R) (gn : Sane new) (gO : Sane old) where
   mutual
     pub spell : {d b : ℕ} {v : Val} → Fits old d b v → (p : ℕ) → Spelled pair d p b v
-    spell (fBool k) p = spell-bool pair k
-    spell (fInt k h) p = spell-int pair k h
-    spell (fEnum k u) p = spell-enum pair gn gO k u
-    spell (fNull k) p = spell-null pair k
-    spell (fOctets k h) p = spell-octets pair k h
-    spell (fText k h) p = spell-text pair k h
+    spell (fLeaf f) p = spell-leaf pair gn gO f
     spell (fSeq {r = b} k fs) p = let t = kind-type old b SEQUENCE k (omega arith) in spell-sequence pair gn gO k (spellElements fs t (suc p)) (spellMembers fs t (suc p))
     spell (fList k fs) p = spell-list pair k (spellItems fs (suc p))
     spell (fWrapped k w u f) p = spell-wrapped pair gn gO k w u (λ q. spell f q)
@@ -74,12 +69,7 @@ mutual
 
   -- under its own table a value has no additions to be absent
   pub grow-same : {t : Table} {d r : ℕ} {v : Val} → Fits t d r v → grow v t r ≡ v
-  grow-same (fBool k) = refl
-  grow-same (fInt k h) = refl
-  grow-same (fEnum k u) = refl
-  grow-same (fNull k) = refl
-  grow-same (fOctets k h) = refl
-  grow-same (fText k h) = refl
+  grow-same (fLeaf f) = refl
   grow-same (fSeq k fs) = ap vSeq (grow-parts fs _ (omega arith))
   grow-same (fList k fs) = ap vList (grow-items fs)
   grow-same (fWrapped {i = i} k w u f) = ap (vChoice i) (grow-same f)

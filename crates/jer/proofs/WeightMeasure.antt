@@ -6,7 +6,7 @@ use mathlib.Core.Bool.{true}
 use native.Mathlib.Omega.{arith}
 use lib.ListN.{length, length-append}
 use Rattle.jer.specs.Table.{Table, isType, elementOf, typeAt, sameBytes}
-use Rattle.jer.specs.Value.{Val, vBool, vInt, vEnum, vNull, vBytes, vSeq, vList, vChoice, Vals, vnil, vcons, Parts, pnil, absent, present}
+use Rattle.jer.specs.Value.{Val, vLeaf, vSeq, vList, vChoice, Vals, vnil, vcons, Parts, pnil, absent, present}
 use Rattle.jer.specs.Answer.{ok}
 use Rattle.jer.specs.Read.{Meaning}
 use Rattle.jer.specs.Rows.{rowsOf, itemRows, partRows, poolOf, above}
@@ -25,11 +25,7 @@ pub record Held (n w rows pool text : ℕ) : Type 0 where
 -- the number of rows does not depend on the table or the pool
 abbrev mutual
   pub rowsIn : Val → ℕ
-  rowsIn (vBool b) = 1
-  rowsIn (vInt n) = 1
-  rowsIn (vEnum i) = 1
-  rowsIn vNull = 1
-  rowsIn (vBytes s) = 1
+  rowsIn (vLeaf l) = 1
   rowsIn (vSeq ps) = suc (partsIn ps)
   rowsIn (vList vs) = suc (itemsIn vs)
   rowsIn (vChoice i v) = suc (rowsIn v)
@@ -55,11 +51,7 @@ mutual
   unfolding rowsOf above
 
   pub rows-length : (v : Val) (t : Table) (r o : ℕ) → length (rowsOf v t r o) ≡ rowsIn v
-  rows-length (vBool b) t r o = refl
-  rows-length (vInt n) t r o = refl
-  rows-length (vEnum i) t r o = refl
-  rows-length vNull t r o = refl
-  rows-length (vBytes s) t r o = refl
+  rows-length (vLeaf l) t r o = refl
   rows-length (vSeq ps) t r o = omega (arith, parts-length ps t r 0 o)
   rows-length (vList vs) t r o = omega (arith, items-length vs t (elementOf t r) o)
   rows-length (vChoice i v) t r o = omega (arith, rows-length v t (typeAt t r i) o)

@@ -4,7 +4,7 @@ use mathlib.Core.Path.{_≡_}
 use mathlib.Core.Bool.{Bool, true, false, _||_, not}
 use lib.Dec.{ltb}
 use Rattle.jer.specs.Table.{Table, SEQUENCE-OF, kindOf, marksOf, extensible, elementOf, countOf, rootOf, optional, typeAt, nameAt}
-use Rattle.jer.specs.Value.{Val, vBool, vInt, vEnum, vNull, vBytes, vSeq, vList, vChoice, Vals, vnil, vcons, Parts, pnil, absent, present}
+use Rattle.jer.specs.Value.{Leaf, lBool, lInt, lEnum, lNull, lBytes, Val, vLeaf, vSeq, vList, vChoice, Vals, vnil, vcons, Parts, pnil, absent, present}
 
 -- 01, Type table: "A newer table is made from an older one by additions if rows can be paired, row 0 with row 0, so that paired types
 -- have equal kind, marks and number of root members; elements of SEQUENCE OF are paired; and the older's members, in order, pair with
@@ -30,11 +30,7 @@ cutChosen false i cut whole = vChoice i whole
 -- "Cutting a value to the older table drops the members it lacks; an item or alternative that it lacks stays, with all it holds."
 unfoldable mutual
   pub cut : Val → Table → ℕ → Val
-  cut (vBool b) t r = vBool b
-  cut (vInt n) t r = vInt n
-  cut (vEnum i) t r = vEnum i
-  cut vNull t r = vNull
-  cut (vBytes s) t r = vBytes s
+  cut (vLeaf l) t r = vLeaf l
   cut (vSeq ps) t r = vSeq (cutParts ps t r 0 (countOf t r))
   cut (vList vs) t r = vList (cutItems vs t (elementOf t r))
   cut (vChoice i v) t r = cutChosen (ltb i (countOf t r)) i (cut v t (typeAt t r i)) v
@@ -51,6 +47,13 @@ unfoldable mutual
   cutParts (present v ps) t r i zero = pnil
   cutParts (present v ps) t r i (suc n) = present (cut v t (typeAt t r i)) (cutParts ps t r (suc i) n)
 
+abbrev pub lacksLeaf : Leaf → Table → ℕ → Bool
+lacksLeaf (lBool b) t r = false
+lacksLeaf (lInt n) t r = false
+lacksLeaf (lEnum i) t r = not (ltb i (countOf t r))
+lacksLeaf lNull t r = false
+lacksLeaf (lBytes s) t r = false
+
 unfoldable pub lacksChosen : Bool → Bool → Bool
 lacksChosen true inside = inside
 lacksChosen false inside = true
@@ -58,11 +61,7 @@ lacksChosen false inside = true
 -- does the value hold an item or alternative that the table lacks?
 unfoldable mutual
   pub lacks : Val → Table → ℕ → Bool
-  lacks (vBool b) t r = false
-  lacks (vInt n) t r = false
-  lacks (vEnum i) t r = not (ltb i (countOf t r))
-  lacks vNull t r = false
-  lacks (vBytes s) t r = false
+  lacks (vLeaf l) t r = lacksLeaf l t r
   lacks (vSeq ps) t r = lacksParts ps t r 0
   lacks (vList vs) t r = lacksItems vs t (elementOf t r)
   lacks (vChoice i v) t r = lacksChosen (ltb i (countOf t r)) (lacks v t (typeAt t r i))
@@ -83,11 +82,7 @@ absents (suc n) = absent (absents n)
 
 unfoldable mutual
   pub grow : Val → Table → ℕ → Val
-  grow (vBool b) t r = vBool b
-  grow (vInt n) t r = vInt n
-  grow (vEnum i) t r = vEnum i
-  grow vNull t r = vNull
-  grow (vBytes s) t r = vBytes s
+  grow (vLeaf l) t r = vLeaf l
   grow (vSeq ps) t r = vSeq (growParts ps t r 0 (countOf t r))
   grow (vList vs) t r = vList (growItems vs t (elementOf t r))
   grow (vChoice i v) t r = vChoice i (grow v t (typeAt t r i))

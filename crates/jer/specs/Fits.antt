@@ -5,7 +5,7 @@ use mathlib.Core.List.{List, [], _∷_}
 use mathlib.Core.Bool.{Bool, true, false}
 use Rattle.json.specs.Utf8.{utf8}
 use Rattle.jer.specs.Table.{Table, BOOLEAN, INTEGER, ENUMERATED, NULL, OCTET-STRING, UTF8String, SEQUENCE, SEQUENCE-OF, CHOICE, kindOf, isUnwrapped, elementOf, countOf, typeAt, mayMiss}
-use Rattle.jer.specs.Value.{Val, vBool, vInt, vEnum, vNull, vBytes, vSeq, vList, vChoice, Vals, vnil, vcons, Parts, pnil, absent, present}
+use Rattle.jer.specs.Value.{Leaf, lBool, lInt, lEnum, lNull, lBytes, Val, vLeaf, vSeq, vList, vChoice, Vals, vnil, vcons, Parts, pnil, absent, present}
 
 -- bytes are numbers below 256
 pub data Octets : List ℕ → Type 0 where
@@ -17,14 +17,17 @@ pub data Words : List ℕ → Type 0 where
   noWord : Words []
   word : {n : ℕ} {ns : List ℕ} → n < 2 ^ 32 → Words ns → Words (n ∷ ns)
 
+pub data FitsLeaf (t : Table) (r : ℕ) : Leaf → Type 0 where
+  fBool : {b : Bool} → kindOf t r ≡ BOOLEAN → FitsLeaf t r (lBool b)
+  fInt : {n : ℕ} → kindOf t r ≡ INTEGER → n < 2 ^ 64 → FitsLeaf t r (lInt n)
+  fEnum : {i : ℕ} → kindOf t r ≡ ENUMERATED → i < countOf t r → FitsLeaf t r (lEnum i)
+  fNull : kindOf t r ≡ NULL → FitsLeaf t r lNull
+  fOctets : {s : List ℕ} → kindOf t r ≡ OCTET-STRING → Octets s → FitsLeaf t r (lBytes s)
+  fText : {s : List ℕ} → kindOf t r ≡ UTF8String → utf8 s ≡ true → FitsLeaf t r (lBytes s)
+
 mutual
   pub data Fits (t : Table) : ℕ → ℕ → Val → Type 0 where
-    fBool : {d r : ℕ} {b : Bool} → kindOf t r ≡ BOOLEAN → Fits t d r (vBool b)
-    fInt : {d r n : ℕ} → kindOf t r ≡ INTEGER → n < 2 ^ 64 → Fits t d r (vInt n)
-    fEnum : {d r i : ℕ} → kindOf t r ≡ ENUMERATED → i < countOf t r → Fits t d r (vEnum i)
-    fNull : {d r : ℕ} → kindOf t r ≡ NULL → Fits t d r vNull
-    fOctets : {d r : ℕ} {s : List ℕ} → kindOf t r ≡ OCTET-STRING → Octets s → Fits t d r (vBytes s)
-    fText : {d r : ℕ} {s : List ℕ} → kindOf t r ≡ UTF8String → utf8 s ≡ true → Fits t d r (vBytes s)
+    fLeaf : {d r : ℕ} {l : Leaf} → FitsLeaf t r l → Fits t d r (vLeaf l)
     fSeq : {d r : ℕ} {ps : Parts} → kindOf t r ≡ SEQUENCE → FitsParts t d r 0 ps → Fits t (suc d) r (vSeq ps)
     fList : {d r : ℕ} {vs : Vals} → kindOf t r ≡ SEQUENCE-OF → FitsItems t d (elementOf t r) vs → Fits t (suc d) r (vList vs)
     -- a wrapped choice is an object; an UNWRAPPED one opens no bracket

@@ -4,7 +4,7 @@ use mathlib.Core.List.{List, [], _∷_, _++_}
 use mathlib.Core.Bool.{Bool, true, false}
 use lib.ListN.{length}
 use Rattle.jer.specs.Table.{Table, kindOf, elementOf, typeAt}
-use Rattle.jer.specs.Value.{Val, vBool, vInt, vEnum, vNull, vBytes, vSeq, vList, vChoice, Vals, vnil, vcons, Parts, pnil, absent, present, countVals, countPresent}
+use Rattle.jer.specs.Value.{Leaf, lBool, lInt, lEnum, lNull, lBytes, Val, vLeaf, vSeq, vList, vChoice, Vals, vnil, vcons, Parts, pnil, absent, present, countVals, countPresent}
 
 -- 01, Value table: "Rows of four 32-bit numbers (kind, a, b, size) with a byte pool beside."
 pub record ValueRow : Type 0 where
@@ -28,14 +28,17 @@ unfoldable pub bit : Bool → ℕ
 bit true = 1
 bit false = 0
 
+abbrev pub leafPool : Leaf → List ℕ
+leafPool (lBool b) = []
+leafPool (lInt n) = []
+leafPool (lEnum i) = []
+leafPool lNull = []
+leafPool (lBytes s) = s
+
 -- "Strings stand in the pool in row order from 0 without gaps."
 unfoldable mutual
   pub poolOf : Val → List ℕ
-  poolOf (vBool b) = []
-  poolOf (vInt n) = []
-  poolOf (vEnum i) = []
-  poolOf vNull = []
-  poolOf (vBytes s) = s
+  poolOf (vLeaf l) = leafPool l
   poolOf (vSeq ps) = partPool ps
   poolOf (vList vs) = itemPool vs
   poolOf (vChoice i v) = poolOf v
@@ -54,17 +57,21 @@ unfoldable mutual
 unfoldable pub above : ℕ → ℕ → List ValueRow → List ValueRow
 above k a ws = row k a 0 (suc (length ws)) ∷ ws
 
+-- the row of a value without parts, of the kind k
+abbrev pub leafRow : Leaf → ℕ → ℕ → ValueRow
+leafRow (lBool b) k o = row k (bit b) 0 1
+leafRow (lInt n) k o = row k (n % 2 ^ 32) (n / 2 ^ 32) 1
+leafRow (lEnum i) k o = row k i 0 1
+leafRow lNull k o = row k 0 0 1
+leafRow (lBytes s) k o = row k o (length s) 1
+
 -- the rows of a value of the type at r, whose strings stand in the pool from o on
 -- "BOOLEAN: a 0 or 1. INTEGER: a the low and b the high half of its 64-bit two's complement. ENUMERATED: a the item's position from 0.
 -- OCTET STRING and UTF8String: a start, b length in the pool. SEQUENCE: a the number present, then one value for each member in table
 -- order (..) SEQUENCE OF: a the count, then the items. CHOICE: a the position, then the chosen value. Other numbers are 0."
 unfoldable mutual
   pub rowsOf : Val → Table → ℕ → ℕ → List ValueRow
-  rowsOf (vBool b) t r o = row (kindOf t r) (bit b) 0 1 ∷ []
-  rowsOf (vInt n) t r o = row (kindOf t r) (n % 2 ^ 32) (n / 2 ^ 32) 1 ∷ []
-  rowsOf (vEnum i) t r o = row (kindOf t r) i 0 1 ∷ []
-  rowsOf vNull t r o = row (kindOf t r) 0 0 1 ∷ []
-  rowsOf (vBytes s) t r o = row (kindOf t r) o (length s) 1 ∷ []
+  rowsOf (vLeaf l) t r o = leafRow l (kindOf t r) o ∷ []
   rowsOf (vSeq ps) t r o = above (kindOf t r) (countPresent ps) (partRows ps t r 0 o)
   rowsOf (vList vs) t r o = above (kindOf t r) (countVals vs) (itemRows vs t (elementOf t r) o)
   rowsOf (vChoice i v) t r o = above (kindOf t r) i (rowsOf v t (typeAt t r i) o)

@@ -80,7 +80,6 @@ abbrev pub OPTIONAL : ℕ
 OPTIONAL = 1
 
 -- the sum of the marks that a row of the kind may carry
--- 01, Type table: "Each kind's number and the marks it may carry belong to the row's own type."
 unfoldable pub marksFor : ℕ → ℕ
 marksFor kind =
     pick kind

@@ -3,17 +3,21 @@ use Prim.Native.Nat.{ℕ, suc}
 use mathlib.Core.List.{List}
 use mathlib.Core.Bool.{Bool}
 
+-- values without parts
+pub data Leaf : Type 0 where
+  lBool : Bool → Leaf
+  -- the 64-bit two's complement
+  lInt : ℕ → Leaf
+  -- an item's position
+  lEnum : ℕ → Leaf
+  lNull : Leaf
+  -- the bytes of an OCTET STRING or UTF8String
+  lBytes : List ℕ → Leaf
+
 -- a value of each kind, with its parts
 mutual
   pub data Val : Type 0 where
-    vBool : Bool → Val
-    -- the 64-bit two's complement
-    vInt : ℕ → Val
-    -- an item's position
-    vEnum : ℕ → Val
-    vNull : Val
-    -- the bytes of an OCTET STRING or UTF8String
-    vBytes : List ℕ → Val
+    vLeaf : Leaf → Val
     vSeq : Parts → Val
     vList : Vals → Val
     -- an alternative's position, and the chosen value
@@ -29,6 +33,21 @@ mutual
     pnil : Parts
     absent : Parts → Parts
     present : Val → Parts → Parts
+
+abbrev pub vBool : Bool → Val
+vBool b = vLeaf (lBool b)
+
+abbrev pub vInt : ℕ → Val
+vInt n = vLeaf (lInt n)
+
+abbrev pub vEnum : ℕ → Val
+vEnum i = vLeaf (lEnum i)
+
+abbrev pub vNull : Val
+vNull = vLeaf lNull
+
+abbrev pub vBytes : List ℕ → Val
+vBytes s = vLeaf (lBytes s)
 
 -- how many items, and how many members are present
 unfoldable pub countVals : Vals → ℕ

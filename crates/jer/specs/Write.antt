@@ -5,7 +5,7 @@ use mathlib.Core.Bool.{Bool, true, false}
 use lib.Dec.{ltb}
 use Rattle.json.specs.Bytes.{on, pick}
 use Rattle.jer.specs.Table.{Table, UTF8String, kindOf, isBase64, isArray, isUnwrapped, elementOf, typeAt, nameAt, sameBytes}
-use Rattle.jer.specs.Value.{Val, vBool, vInt, vEnum, vNull, vBytes, vSeq, vList, vChoice, Vals, vnil, vcons, Parts, pnil, absent, present}
+use Rattle.jer.specs.Value.{Leaf, lBool, lInt, lEnum, lNull, lBytes, Val, vLeaf, vSeq, vList, vChoice, Vals, vnil, vcons, Parts, pnil, absent, present}
 use Rattle.jer.specs.Octets.{hexDigit, hex, base64}
 use lib.Dec.{eqb}
 
@@ -94,13 +94,16 @@ sequenceText t r es ms = elim (isArray t r) [ true ↦ brackets (dropNulls es) |
 
 -- ---- a value of the type at r
 
+abbrev pub leafText : Leaf → Table → ℕ → List ℕ
+leafText (lBool b) t r = boolText b
+leafText (lInt n) t r = intText n
+leafText (lEnum i) t r = stringText (nameAt t r i)
+leafText lNull t r = nullText
+leafText (lBytes s) t r = bytesText t r s
+
 unfoldable mutual
   pub write : Val → Table → ℕ → List ℕ
-  write (vBool b) t r = boolText b
-  write (vInt n) t r = intText n
-  write (vEnum i) t r = stringText (nameAt t r i)
-  write vNull t r = nullText
-  write (vBytes s) t r = bytesText t r s
+  write (vLeaf l) t r = leafText l t r
   write (vSeq ps) t r = sequenceText t r (elementTexts ps t r 0) (memberTexts ps t r 0)
   write (vList vs) t r = brackets (itemTexts vs t (elementOf t r))
   write (vChoice i v) t r = choiceText t r i (write v t (typeAt t r i))

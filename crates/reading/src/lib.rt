@@ -1,9 +1,9 @@
 // The call that reads: a type table and a text judged, the value measured, and stored in the rows and the pool that are lent.
+use held::outermost;
 use jer::Judged;
 use jer::Limit;
 use jer::Reading;
 use jer::Refusal;
-use held::outermost;
 use leaf::Step;
 use typed::cycle::value;
 ghost use mathlib.Core.Path.{_≡_};
