@@ -12,12 +12,11 @@ use Rattle.json.proofs.Takes.{takes-text}
 use Rattle.jer.specs.Table.{Table}
 use Rattle.jer.specs.Valid.{firstBad}
 use Rattle.jer.specs.Answer.{Res}
-use Rattle.jer.specs.Skipped.{SameAnswer, sameValue, sameNumber}
+use Rattle.jer.specs.Skipped.{SameAnswer, sameValue, sameNumber, moved}
 use Rattle.jer.specs.Replaced.{Skips, Replaceable}
 use Rattle.jer.proofs.ValidSane.{valid-sane}
-use Rattle.jer.proofs.AlikeMoved.{moved-same}
 use Rattle.jer.proofs.AlikeBack.{moved-back}
-use Rattle.jer.proofs.AlikeSkipped.{skipped-alike}
+use Rattle.jer.proofs.Whole.{whole-skipped}
 use Rattle.jer.proofs.AlikeElsewhere.{padded-at}
 use Rattle.jer.proofs.AlikeReplaced.{text-splits}
 use Rattle.jer.proofs.SpellCalls.{read-text}
@@ -70,5 +69,5 @@ skipped-bytes {t} {i} {j} s good x l h =
           let b = padded-at d y 0 in
           let q = one-tree (c .before ++ (other ++ c .after)) (a .text) (b .text) in
           rw (read-text t s good x l, read-text t (c .before ++ (other ++ c .after)) good y m)
-          (same-then (rw q at (skipped-alike g (a .like))) (moved-same t g (moved-back (b .like)) 0));
+          (same-then (rw q at (whole-skipped g (a .like))) (whole-skipped g (moved (moved-back (b .like)))));
     }

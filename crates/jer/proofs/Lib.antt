@@ -64,3 +64,4 @@ pub mod MeansCalls
 pub mod ReadPlaces
 pub mod MeansReads
 pub mod CutTested
+pub mod Whole

@@ -1,5 +1,5 @@
 -- What a successful reading or writing rests on: a good table, a JSON text, a well-formed value.
-use Prim.Native.Nat.{ℕ, _≤_}
+use Prim.Native.Nat.{ℕ, _*_, _≤_}
 use mathlib.Core.Path.{_≡_, refl, _∙_}
 use mathlib.Core.List.{List}
 use mathlib.Core.Bool.{Bool, true, false}
@@ -16,6 +16,7 @@ use Rattle.jer.specs.Table.{Table}
 use Rattle.jer.specs.Valid.{firstBad}
 use Rattle.jer.specs.Value.{Val}
 use Rattle.jer.specs.Answer.{ok, bind}
+use Rattle.jer.specs.Rows.{rowsOf, poolOf}
 use Rattle.jer.specs.Judge.{judge}
 use Rattle.jer.specs.Write.{write}
 use Rattle.jer.specs.Fits.{Fits}
@@ -23,7 +24,7 @@ use Rattle.jer.specs.Means.{Means}
 use Rattle.jer.specs.Calls.{tableOf, goodTable, treeOf, goodText, readText, writeText}
 use Rattle.jer.proofs.ValidSane.{valid-sane}
 use Rattle.jer.proofs.WeightGot.{steps}
-use Rattle.jer.proofs.JudgeRead.{text-fits}
+use Rattle.jer.proofs.Whole.{whole-fits, whole-bounds}
 use Rattle.jer.proofs.SpellCalls.{read-text}
 
 pub never : {A : Type 0} → _≡_ {A = ℕ} 0 1 → A
@@ -70,7 +71,11 @@ means-read t s v m = read-text t s (m .good) (m .text) (m .size) ∙ m .value
 
 -- a value that was read is well formed
 pub means-fits : (t : Table) (s : List ℕ) (v : Val) → Means t s v → Fits t 32 0 v
-means-fits t s v m = text-fits t (valid-sane t (m .good)) (m .text) 0 v (m .value)
+means-fits t s v m = whole-fits (valid-sane t (m .good)) (m .text) (m .value)
+
+-- and needs bounded room
+pub means-bounds : {t : Table} {s : List ℕ} {v : Val} → Means t s v → (length (rowsOf v t 0 0) ≤ 130 * length s) × (length (poolOf v) ≤ length s) × (length (write v t 0) ≤ length s)
+means-bounds {t} m = whole-bounds (valid-sane t (m .good)) (m .text) (m .value)
 
 -- what a table that is written has: a good type table, a value, and its text
 pub record Says (t : Table) (ns pool bs : List ℕ) : Type 0 where

@@ -26,14 +26,15 @@ use Rattle.jer.specs.Table.{Table}
 use Rattle.jer.specs.Valid.{firstBad}
 use Rattle.jer.specs.Value.{Val}
 use Rattle.jer.specs.Answer.{Res, ok, no, bind, causeNumber, numberOf}
-use Rattle.jer.specs.Read.{read}
+use Rattle.jer.specs.Read.{readWhole}
 use Rattle.jer.specs.Judge.{Took, took, wrong, takeValue, rowsIn, allTaken, judge}
 use Rattle.jer.specs.Write.{write}
 use Rattle.jer.specs.Calls.{tableOf, goodTable, treeOf, goodText, judgedBy, textJudged, readText, writeText}
 use Rattle.jer.specs.Means.{Judges, long, broken, deep, json, Reads, badTable, badText, typed}
 use Rattle.jer.proofs.SpellCalls.{read-text}
 use Rattle.jer.proofs.MeansCalls.{never}
-use Rattle.jer.proofs.ReadPlaces.{AtBytes, fine, place, read-at}
+use Rattle.jer.proofs.ReadPlaces.{AtBytes, fine, place}
+use Rattle.jer.proofs.Whole.{whole-at}
 
 -- ---- judging
 
@@ -76,7 +77,7 @@ pub text-reads : (t : Table) (s : List ℕ) → Reads t s (readText t s)
 unfolding readText goodTable tableOf bind
 text-reads t s = table (firstBad t) refl
   where
-    judged : firstBad t ≡ none → (x : Res Json) → Found s x → Reads t s (bind x (λ j. read j t 0))
+    judged : firstBad t ≡ none → (x : Res Json) → Found s x → Reads t s (bind x (λ j. readWhole t j))
     judged e (ok j) (found l h) = typed e l h refl
     judged e (no f) (not h) = badText e h
 
@@ -121,7 +122,7 @@ read-refusal {t} {s} {e} h = go (no e) h refl
     go : (x : Res Val) → Reads t s x → x ≡ no e → ReadRefusal e
     go x (badTable {r} g) w = let q : e ≡ AtRow TypeTable r = cc in rw q atTable
     go x (badText {e = f} g k) w = let q : e ≡ f = cc in rw q (bad f k)
-    go x (typed {j} g l k q) w = at x (rw q (read-at j t 0)) w
+    go x (typed {j} g l k q) w = at x (rw q (whole-at t j)) w
 
 -- 01's numbers for what a byte is refused for
 pub cause-range : (c : Cause) → (2 ≤ causeNumber c) × (causeNumber c ≤ 11)

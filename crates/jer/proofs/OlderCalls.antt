@@ -17,7 +17,7 @@ use Rattle.jer.specs.Cut.{ByAdditions, cut, lacks}
 use Rattle.jer.specs.Calls.{tableOf, goodTable, goodText, readText, over, rowNumbers, roomy, readAnswer, rowsAfter, poolAfter}
 use Rattle.jer.proofs.WeightGot.{steps}
 use Rattle.jer.proofs.OlderAgrees.{Agrees, reads, eleven}
-use Rattle.jer.proofs.Older.{older-reads}
+use Rattle.jer.proofs.Whole.{whole-older}
 use Rattle.jer.proofs.OlderRoom.{cut-roomy}
 
 pub older-reads-text : {new old : Table} {R : ℕ → ℕ → Type 0} → ByAdditions new old R → firstBad old ≡ none → (s : List ℕ) (v : Val) → readText new s ≡ ok v
@@ -26,7 +26,7 @@ unfolding readText goodTable tableOf bind
 older-reads-text {new} {old} pair good s v e =
     let t = steps (goodTable new) _ v e in
     let j = steps (goodText s) _ v (t .then) in
-    rw (good, goodTable) (rw (j .first, bind) (older-reads pair (j .val) 0 0 (pair .whole) v (j .then)))
+    rw (good, goodTable) (rw (j .first, bind) (whole-older pair (j .val) v (j .then)))
 
 -- The call's answer and the buffers afterwards, for the result x: the value w is stored, or 11.
 pub data Stored (t : Table) (rows pool : List ℕ) (x : Res Val) (w : Val) : Bool → Type 0 where

@@ -22,7 +22,7 @@ use Rattle.jer.specs.Table.{Table}
 use Rattle.jer.specs.Valid.{firstBad}
 use Rattle.jer.specs.Value.{Val}
 use Rattle.jer.specs.Answer.{Res, ok, no, bind, at}
-use Rattle.jer.specs.Read.{read}
+use Rattle.jer.specs.Read.{readWhole}
 use Rattle.jer.specs.Rows.{numbers, rowsOf, poolOf}
 use Rattle.jer.specs.Judge.{judge}
 use Rattle.jer.specs.Write.{write}
@@ -60,9 +60,8 @@ textJudged s = judgedBy (goodText s)
 -- ---- reading
 
 -- 01, Refusal numbers: "Order when reading: 1, 2, then 3 or 4 by first byte (3 where both fall on one byte), then the typed reading, then 14."
--- 01, Type table: "Row 0 is the whole message's type."
 unfoldable pub readText : Table → List ℕ → Res Val
-readText t s = bind (goodTable t) (λ u. bind (goodText s) (λ j. read j t 0))
+readText t s = bind (goodTable t) (λ u. bind (goodText s) (λ j. readWhole t j))
 
 -- a buffer of which the first numbers are written over
 -- 01, Refusal numbers: "Success changes only the rows, pool bytes or text bytes used."

@@ -17,7 +17,7 @@ use Rattle.jer.specs.Table.{Table}
 use Rattle.jer.specs.Valid.{firstBad}
 use Rattle.jer.specs.Value.{Val}
 use Rattle.jer.specs.Answer.{Res, ok, no}
-use Rattle.jer.specs.Read.{read}
+use Rattle.jer.specs.Read.{readWhole}
 use Rattle.jer.specs.Rows.{numbers, rowsOf, poolOf}
 use Rattle.jer.specs.Fits.{Fits}
 
@@ -32,7 +32,7 @@ pub data Judges (s : List ℕ) : Judged → Type 0 where
 pub data Reads (t : Table) (s : List ℕ) : Res Val → Type 0 where
   badTable : {r : ℕ} → firstBad t ≡ some r → Reads t s (no (AtRow TypeTable r))
   badText : {e : Refusal} → firstBad t ≡ none → Judges s (Refused e) → Reads t s (no e)
-  typed : {j : Json} {x : Res Val} → firstBad t ≡ none → length s ≤ 65536 → Text 32 j s → x ≡ read j t 0 → Reads t s x
+  typed : {j : Json} {x : Res Val} → firstBad t ≡ none → length s ≤ 65536 → Text 32 j s → x ≡ readWhole t j → Reads t s x
 
 -- v is the value that the table t reads in the text s: the table is good, the text is JSON within the sizes, and v is what its tree means
 pub record Means (t : Table) (s : List ℕ) (v : Val) : Type 0 where
@@ -40,7 +40,7 @@ pub record Means (t : Table) (s : List ℕ) (v : Val) : Type 0 where
   pub json : Json
   pub text : Text 32 json s
   pub size : length s ≤ 65536
-  pub value : read json t 0 ≡ ok v
+  pub value : readWhole t json ≡ ok v
 
 -- ns and the pool are the value table of v, which is well formed
 pub record TableOf (t : Table) (v : Val) (ns pool : List ℕ) : Type 0 where

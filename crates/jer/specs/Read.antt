@@ -227,3 +227,8 @@ unfoldable mutual
   pub entries : Members → Table → List Entry
   entries mnil t = []
   entries (mcons p s j ms) t = record { place = p; name = s; isNull = null? j; means = λ r. read j t r } ∷ entries ms t
+
+-- the typed reading of a whole tree
+-- 01, Type table: "Row 0 is the whole message's type."
+unfoldable pub readWhole : Table → Json → Res Val
+readWhole t j = read j t 0

@@ -23,11 +23,10 @@ use Rattle.jer.specs.Write.{write}
 use Rattle.jer.specs.Means.{Means}
 use Rattle.jer.specs.Calls.{over, rowNumbers, readText, writeText, writeAnswer, textAfter}
 use Rattle.jer.proofs.ValidSane.{valid-sane}
-use Rattle.jer.proofs.WeightLaws.{text-bounds}
 use Rattle.jer.proofs.JudgeTable.{judge-fits, judged-rows}
 use Rattle.jer.proofs.SpellCalls.{written-reads-text}
 use Rattle.jer.specs.Contracts.{ReadCall, WriteCall}
-use Rattle.jer.proofs.MeansCalls.{never, means, means-read, means-fits, says, said}
+use Rattle.jer.proofs.MeansCalls.{never, means, means-read, means-fits, means-bounds, says, said}
 use Rattle.jer.proofs.MeansReads.{ReadRefusal, atTable, atByte, refusal-range}
 use Rattle.promises.specs.Statements.{Stores}
 use Rattle.promises.proofs.Buffers.{over-taken, numbers-length, stores, has-room}
@@ -78,7 +77,7 @@ read-is-written {t} {s} {rows} {pool} {rows′} {pool′} {text} {n = n} {m = m}
     let v = x .value in
     let y = means t s v (x .means) in
     let g = valid-sane t (y .good) in
-    let small = text-bounds t g v (y .text) (y .value) in
+    let small = means-bounds y in
     let rs = stored-rows t s rows pool x in
     let ps = stored-pool t s rows pool x in
     let e : writeText t (take (n * 4) rows′) (take m pool′) ≡ ok (write v t 0)
@@ -89,22 +88,18 @@ read-is-written {t} {s} {rows} {pool} {rows′} {pool′} {text} {n = n} {m = m}
 
 -- ---- "A read needs at most 130 rows for each byte of text, and no more pool bytes than text."
 
--- what the value of a text needs
-value-bounds : {t : Table} {s : List ℕ} {v : Val} → Means t s v → (length (rowsOf v t 0 0) ≤ 130 * length s) × (length (poolOf v) ≤ length s)
-value-bounds {t} {s} {v} y = let small = text-bounds t (valid-sane t (y .good)) v (y .text) (y .value) in (omega (arith, small), omega (arith, small))
-
 -- with so much room a text that has a value is read
 pub room-enough : {t : Table} {s rows pool rows′ pool′ : List ℕ} {r : Reading} {v : Val} → Means t s v → 130 * length s * 4 ≤ length rows → length s ≤ length pool → ReadCall t s rows pool r rows′ pool′
     → Stores t v rows pool r rows′ pool′
 room-enough {t} {s} {rows} {pool} {v = v} y a b c =
-    let k = value-bounds y in
+    let k = means-bounds y in
     stores v (means-read t s v y) (has-room t v (length rows) (length pool) (omega (arith, k, numbers-length t v)) (omega (arith, k))) c
 
 -- what a reading used
 pub read-bounds : {t : Table} {s rows pool rows′ pool′ : List ℕ} {n m : ℕ} → ReadCall t s rows pool (reading.Read n m) rows′ pool′ → (n ≤ 130 * length s) × (m ≤ length s)
 read-bounds {t} {s} {rows} {pool} {rows′} {pool′} {n} {m} c =
     let x = stored t s rows pool n m rows′ pool′ c in
-    let k = value-bounds (means t s (x .value) (x .means)) in
+    let k = means-bounds (means t s (x .value) (x .means)) in
     (omega (arith, k, x .rowCount), omega (arith, k, x .poolCount))
 
 -- the amounts of 14
@@ -118,7 +113,7 @@ needed-bounds {t} {s} {rows} {pool} {n = n} {m = m} c = go (Amounts LentRoom n m
     go : (e : Refusal) → ReadRefused t s rows pool e → e ≡ Amounts LentRoom n m → (n ≤ 130 * length s) × (m ≤ length s)
     go e (early f) h = absurd (none-early e f h)
     go e (cramped {v} x w) h =
-        let k = value-bounds (means t s v x) in
+        let k = means-bounds (means t s v x) in
         let p : n ≡ length (rowsOf v t 0 0) = cc in
         let q : m ≡ length (poolOf v) = cc in
         (omega (arith, k), omega (arith, k))
@@ -132,6 +127,6 @@ never-14 {t} {s} {rows} {pool} a b c = go (read-refused t s rows pool c)
     go : {e : Refusal} → ReadRefused t s rows pool e → numberOf e ≡ 14 → ⊥
     go (early f) h = let k = refusal-range f in omega arith
     go (cramped {v} x w) h =
-        let k = value-bounds (means t s v x) in
+        let k = means-bounds (means t s v x) in
         let y = has-room t v (length rows) (length pool) (omega (arith, k, numbers-length t v)) (omega (arith, k)) in
         never (cc)

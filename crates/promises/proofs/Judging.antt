@@ -16,7 +16,7 @@ use Rattle.jer.specs.Table.{Table}
 use Rattle.jer.specs.Valid.{firstBad}
 use Rattle.jer.specs.Value.{Val}
 use Rattle.jer.specs.Answer.{Res}
-use Rattle.jer.specs.Read.{read}
+use Rattle.jer.specs.Read.{readWhole}
 use Rattle.jer.specs.Means.{Judges, long, broken, deep, json, typed}
 use Rattle.jer.specs.Calls.{readText, readAnswer, rowsAfter, poolAfter}
 use Rattle.jer.specs.Contracts.{TextCall, ReadCall}
@@ -63,7 +63,7 @@ module _ {s : List ℕ} {r : Judged} (size : length s ≤ 65536) (c : TextCall s
 
 -- ---- reading
 
--- the answer and both buffers are those that the grammar and `read` give
+-- the answer and both buffers are those that the grammar and the typed reading give
 pub read-exactly : {t : Table} {s rows pool : List ℕ} {r : Reading} {rows′ pool′ : List ℕ} → Exactly (ReadCall t s rows pool r rows′ pool′) (ReadsBy t s rows pool r rows′ pool′)
 read-exactly {t} {s} {rows} {pool} = (
   λ c. record { says = readText t s; reads = text-reads t s; answer = c .answer; rowsLeft = c .rowsLeft; poolLeft = c .poolLeft },
@@ -75,9 +75,9 @@ read-exactly {t} {s} {rows} {pool} = (
       },
 )
 
--- given a tree of the grammar for the text, they are those of `read` of that tree
+-- given a tree of the grammar for the text, they are those of the typed reading of that tree
 pub read-by-tree : {t : Table} {j : Json} {s rows pool : List ℕ} {r : Reading} {rows′ pool′ : List ℕ} → firstBad t ≡ none → Text 32 j s → length s ≤ 65536 → ReadCall t s rows pool r rows′ pool′
-    → (r ≡ readAnswer t (length rows) (length pool) (read j t 0)) × (rows′ ≡ rowsAfter t rows (length pool) (read j t 0)) × (pool′ ≡ poolAfter t (length rows) pool (read j t 0))
+    → (r ≡ readAnswer t (length rows) (length pool) (readWhole t j)) × (rows′ ≡ rowsAfter t rows (length pool) (readWhole t j)) × (pool′ ≡ poolAfter t (length rows) pool (readWhole t j))
 read-by-tree {t} {j} {s} {rows} {pool} good x l c =
     let e = sym (reads-text {t = t} {s = s} (typed good l x refl)) in
     (c .answer ∙ ap (readAnswer t (length rows) (length pool)) e, c .rowsLeft ∙ ap (rowsAfter t rows (length pool)) e, c .poolLeft ∙ ap (poolAfter t (length rows) pool) e)

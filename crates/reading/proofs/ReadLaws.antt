@@ -24,6 +24,7 @@ use Rattle.jer.specs.Valid.{firstBad}
 use Rattle.jer.specs.Value.{Val}
 use Rattle.jer.specs.Answer.{Res, ok, no, bind, at}
 use Rattle.jer.specs.Rows.{numbers, rowsOf, poolOf}
+use Rattle.jer.specs.Read.{readWhole}
 use Rattle.jer.specs.Calls.{tableOf, goodTable, treeOf, goodText, judgedBy, tableJudged, textJudged, readText, over, rowNumbers, roomy, readAnswer, rowsAfter, poolAfter}
 use Rattle.jer.specs.Contracts.{ReadCall}
 use Rattle.jer.proofs.Sane.{Sane}
@@ -104,7 +105,7 @@ module _ (t : Table) (s : List ℕ) (g : judged.Good ≡ tableJudged t) (h : jud
 
   -- the meaning of the text
   pub meaning : bind (readAt 32 t s 0 (pastSpace s 0)) (λ g. ok (g .value)) ≡ readText t s
-  unfolding readText bind parse
+  unfolding readText readWhole bind parse
   meaning =
       let f = good-text s h in
       reads-text t sane s (f .short) (text-taken 32 (f .j) s (f .parsed)) ∙ rw (table-ok t g, f .text)
