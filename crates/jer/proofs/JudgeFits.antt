@@ -12,7 +12,7 @@ use lib.Seq.{length-take-le}
 use borrow.Author.Tests.{ltb-true, leb-true, eqb-true}
 use Rattle.json.specs.Utf8.{utf8}
 use Rattle.json.proofs.SoundRows.{pick-within, _⨾_}
-use Rattle.jer.specs.Table.{Table, BOOLEAN, INTEGER, ENUMERATED, NULL, SEQUENCE, SEQUENCE-OF, CHOICE, kindOf, isUnwrapped, elementOf, countOf, typeAt, mayMiss}
+use Rattle.jer.specs.Table.{Table, BOOLEAN, INTEGER, ENUMERATED, NULL, SEQUENCE, SEQUENCE-OF, CHOICE, kindOf, isUnwrapped, elementOf, countOf, typeAt, mayBeAbsent}
 use Rattle.jer.specs.Value.{Val, vBool, vInt, vEnum, vNull, vBytes, vChoice, Vals, vcons, Parts, absent, present, countVals, countPresent}
 use Rattle.jer.specs.Rows.{ValueRow, row, absentRow, bit, poolOf, itemPool, partPool, above, rowsOf, itemRows, partRows}
 use Rattle.jer.specs.Judge.{Took, wrong, Taker, isAbsent, takeParts, takeItems, rightRow, leaf, stringRow, sized, inBracket, takeSequence, takeList, takeChoice, takeRow, onRow, takeUnwrapped, takeValue}
@@ -174,7 +174,7 @@ module _ (t : Table) (pool : List ℕ) (os : Octets pool) where
   unfolding isAbsent
   absent-is w e = let p = simp both at e in row-is w (eqb-true _ _ (p .0)) (eqb-true _ _ (p .1 .0)) (eqb-true _ _ (p .1 .1 .0)) (eqb-true _ _ (p .1 .1 .1))
 
-  absent-taken : {d r i : ℕ} {w : ValueRow} {ws ws′ : List ValueRow} {q o q′ o′ : ℕ} {ps : Parts} → i < countOf t r → mayMiss t r i ≡ true → isAbsent w ≡ true → TakenParts d r (suc i) ws (suc q) o ps ws′ q′ o′
+  absent-taken : {d r i : ℕ} {w : ValueRow} {ws ws′ : List ValueRow} {q o q′ o′ : ℕ} {ps : Parts} → i < countOf t r → mayBeAbsent t r i ≡ true → isAbsent w ≡ true → TakenParts d r (suc i) ws (suc q) o ps ws′ q′ o′
       → TakenParts d r i (w ∷ ws) q o (absent ps) ws′ q′ o′
   unfolding partRows partPool
   absent-taken {w = w} l m a y = record { fits = absentMember l m (y .fits); spent = spent-row (absent-is w a) (y .spent) }
@@ -183,9 +183,9 @@ module _ (t : Table) (pool : List ℕ) (os : Octets pool) where
   unfolding takeParts partRows partPool
   parts-sound d f s r i zero ws q o m l = let e : i ≡ countOf t r = omega arith in record { fits = noMember e; spent = spent-none l }
   parts-sound d f s r i (suc n) [] q o m l = tt
-  parts-sound d f s r i (suc n) (w ∷ ws) q o m l = go (mayMiss t r i && isAbsent w) refl (λ us p u. parts-sound d f s r (suc i) n us p u (omega arith))
+  parts-sound d f s r i (suc n) (w ∷ ws) q o m l = go (mayBeAbsent t r i && isAbsent w) refl (λ us p u. parts-sound d f s r (suc i) n us p u (omega arith))
     where
-      go : (c : Bool) → (mayMiss t r i && isAbsent w) ≡ c → ((us : List ValueRow) (p u : ℕ) → Left pool us u → After (TakenParts d r (suc i) us p u) (takeParts f t r (suc i) n us p u))
+      go : (c : Bool) → (mayBeAbsent t r i && isAbsent w) ≡ c → ((us : List ValueRow) (p u : ℕ) → Left pool us u → After (TakenParts d r (suc i) us p u) (takeParts f t r (suc i) n us p u))
           → After (TakenParts d r i (w ∷ ws) q o) (takeParts f t r i (suc n) (w ∷ ws) q o)
       go true e ih =
           let p = simp both at e in

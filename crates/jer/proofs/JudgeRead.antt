@@ -20,6 +20,7 @@ use Rattle.jer.specs.Octets.{unhex, unbase64}
 use Rattle.jer.specs.Read.{Meaning, Element, Entry, readInt, readItem, readOctets, octetsOf, readString, atKind, picked, unwrapping, lookup, namesGood, nullAbsent, withAbsent, withPresent, readMember, readMembers, readObject, nullValue, missingElement, readElement, surplus, readElements, readItems, readArray, readChosen, readChoice, readBraces, read, elements, entries}
 use Rattle.jer.specs.Fits.{Octets, Fits, fLeaf, fBool, fInt, fEnum, fNull, fOctets, fText, fSeq, fList, fWrapped, fUnwrapped, FitsItems, noItem, item, FitsParts, noMember, absentMember, presentMember}
 use Rattle.jer.proofs.Sane.{Sane}
+use Rattle.jer.proofs.Absent.{left-absent}
 use Rattle.jer.proofs.ValidLaws.{position-some, alternative-some}
 use Rattle.jer.proofs.ValidRows.{both, array-kind}
 use Rattle.jer.proofs.JudgeUtf8.{quoted-utf8}
@@ -133,7 +134,7 @@ module _ (t : Table) (d : ℕ) where
 
   absent-fits : (r i : ℕ) (rest : Res Parts) → i < countOf t r → mayMiss t r i ≡ true → Gives (FitsParts t d r (suc i)) rest → Gives (FitsParts t d r i) (withAbsent rest)
   unfolding withAbsent
-  absent-fits r i rest l m h = gives-bind (FitsParts t d r (suc i)) (FitsParts t d r i) rest _ h (λ ps f. absentMember l m f)
+  absent-fits r i rest l m h = gives-bind (FitsParts t d r (suc i)) (FitsParts t d r i) rest _ h (λ ps f. absentMember l (left-absent t r i m) f)
 
   present-fits : (r i : ℕ) (v : Res Val) (rest : Res Parts) → i < countOf t r → Gives (Fits t d (typeAt t r i)) v → Gives (FitsParts t d r (suc i)) rest → Gives (FitsParts t d r i) (withPresent v rest)
   unfolding withPresent

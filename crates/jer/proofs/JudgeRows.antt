@@ -11,7 +11,7 @@ use lib.ListN.{length, length-append}
 use borrow.Author.Tests.{eq-eqb, ne-eqb, lt-ltb, le-leb}
 use Rattle.json.specs.Bytes.{pick}
 use Rattle.json.specs.Utf8.{utf8}
-use Rattle.jer.specs.Table.{Table, BOOLEAN, INTEGER, ENUMERATED, NULL, OCTET-STRING, UTF8String, SEQUENCE, SEQUENCE-OF, CHOICE, kindOf, isUnwrapped, elementOf, countOf, typeAt, mayMiss}
+use Rattle.jer.specs.Table.{Table, BOOLEAN, INTEGER, ENUMERATED, NULL, OCTET-STRING, UTF8String, SEQUENCE, SEQUENCE-OF, CHOICE, kindOf, isUnwrapped, elementOf, countOf, typeAt, mayBeAbsent}
 use Rattle.jer.specs.Value.{Leaf, lBool, lInt, lEnum, lNull, lBytes, Val, vLeaf, vBool, vInt, vEnum, vNull, vBytes, vSeq, vList, vChoice, Vals, vnil, vcons, Parts, pnil, absent, present, countVals, countPresent}
 use Rattle.jer.specs.Rows.{ValueRow, row, bit, leafRow, poolOf, itemPool, partPool, above, rowsOf, itemRows, partRows}
 use Rattle.jer.specs.Judge.{took, andThen, Taker, isAbsent, takeParts, takeItems, rightRow, leaf, stringRow, sized, inBracket, takeSequence, takeList, takeChoice, takeRow, onRow, takeUnwrapped, takeValue}
@@ -193,7 +193,7 @@ module _ (t : Table) (pool : List ℕ) where
   no-parts d r i l zero m ws q o h = let x : q + 0 ≡ q = omega arith in let y : o + 0 ≡ o = omega arith in rw (x, y)
   no-parts d r i l (suc n) m ws q o h = absurd (omega arith)
 
-  absent-part : (d r i : ℕ) (ps : Parts) → i < countOf t r → mayMiss t r i ≡ true → TakesParts d r (suc i) ps → TakesParts d r i (absent ps)
+  absent-part : (d r i : ℕ) (ps : Parts) → i < countOf t r → mayBeAbsent t r i ≡ true → TakesParts d r (suc i) ps → TakesParts d r i (absent ps)
   unfolding takeParts partRows partPool andThen isAbsent
   absent-part d r i ps l e g zero m ws q o h = absurd (omega arith)
   absent-part d r i ps l e g (suc n) m ws q o h =
@@ -204,9 +204,9 @@ module _ (t : Table) (pool : List ℕ) where
   present-row : (f : Taker) (r i n : ℕ) (w : ValueRow) (ws us : List ValueRow) (q o : ℕ) → us ≡ w ∷ ws → w .kind ≤ 8 → takeParts f t r i (suc n) us q o
       ≡ andThen (f (typeAt t r i) us q o) (λ v us p u. andThen (takeParts f t r (suc i) n us p u) (λ ps ws′ q′ o′. took (present v ps) ws′ q′ o′))
   unfolding takeParts isAbsent
-  present-row f r i n w ws us q o e l = rw e (go (mayMiss t r i) refl)
+  present-row f r i n w ws us q o e l = rw e (go (mayBeAbsent t r i) refl)
     where
-      go : (c : Bool) → mayMiss t r i ≡ c → takeParts f t r i (suc n) (w ∷ ws) q o
+      go : (c : Bool) → mayBeAbsent t r i ≡ c → takeParts f t r i (suc n) (w ∷ ws) q o
           ≡ andThen (f (typeAt t r i) (w ∷ ws) q o) (λ v us p u. andThen (takeParts f t r (suc i) n us p u) (λ ps ws′ q′ o′. took (present v ps) ws′ q′ o′))
       go true m = rw (m, ne-eqb (w .kind) 15 (λ x. omega arith), takeParts)
       go false m = rw (m, takeParts)

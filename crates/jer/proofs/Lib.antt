@@ -65,3 +65,4 @@ pub mod ReadPlaces
 pub mod MeansReads
 pub mod CutTested
 pub mod Whole
+pub mod Absent

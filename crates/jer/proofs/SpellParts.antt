@@ -7,13 +7,14 @@ use native.Mathlib.Omega.{arith}
 use Rattle.json.specs.Bytes.{past}
 use Rattle.json.specs.Tree.{Json, jnull, jarr, jobj, Items, inil, icons, Members, mnil, mcons}
 use Rattle.json.specs.Grammar.{literalNull}
-use Rattle.jer.specs.Table.{Table, SEQUENCE, SEQUENCE-OF, kindOf, isType, isArray, elementOf, countOf, typeAt, nameAt, mayMiss}
+use Rattle.jer.specs.Table.{Table, SEQUENCE, SEQUENCE-OF, kindOf, isType, isArray, elementOf, countOf, typeAt, nameAt, mayMiss, mayBeAbsent}
 use Rattle.jer.specs.Value.{Val, vSeq, vList, Vals, vnil, vcons, Parts, pnil, absent, present}
 use Rattle.jer.specs.Answer.{ok}
 use Rattle.jer.specs.Read.{readElements, readItems, null?, read, elements, entries}
 use Rattle.jer.specs.Write.{nullText, stringText, dropNulls, memberText, sequenceText, write, itemTexts, elementTexts, memberTexts}
 use Rattle.jer.specs.Cut.{ByAdditions, grow, growItems, growParts}
 use Rattle.jer.proofs.Sane.{Sane}
+use Rattle.jer.proofs.Absent.{absent-left}
 use Rattle.jer.proofs.OlderNames.{array-same, miss-same}
 use Rattle.jer.proofs.SpellString.{string-quoted}
 use Rattle.jer.proofs.SpellLists.{Listed, nothing, then, array-spelled, Membered, noMore, andThen, object-spelled}
@@ -79,7 +80,7 @@ module _ {new old : Table} {R : ℕ → ℕ → Type 0} (pair : ByAdditions new 
   unfolding write dropNulls grow
   spell-no-element {i} t e = record { items = inil; text = nothing; reads = λ a r w o n c. no-elements new a o i n (λ k l u. addition-misses pair r gO t k (omega arith)) }
 
-  pub spell-null-element : {i : ℕ} {ps : Parts} → i < countOf old b → mayMiss old b i ≡ true → ((q : ℕ) → SpelledElements pair d q b (suc i) ps) → SpelledElements pair d p b i (absent ps)
+  pub spell-null-element : {i : ℕ} {ps : Parts} → i < countOf old b → mayBeAbsent old b i ≡ true → ((q : ℕ) → SpelledElements pair d q b (suc i) ps) → SpelledElements pair d p b i (absent ps)
   unfolding write dropNulls nullText grow null?
   spell-null-element {i} {ps} u m f = record { items = keepItem (jnull p) (z .items); text = keep-listed literalNull (z .text); reads = kept }
     where
@@ -88,7 +89,7 @@ module _ {new old : Table} {R : ℕ → ℕ → Type 0} (pair : ByAdditions new 
 
       kept : (a : ℕ) → R a b → isArray new a ≡ true → (o n : ℕ) → i + n ≡ countOf new a → readElements new a o (elements (keepItem (jnull p) (z .items)) new) i n ≡ ok (growParts (absent ps) new a i n)
       kept a r w o zero c = absurd (let l = inside-new pair r i u in omega arith)
-      kept a r w o (suc n) c = null-kept new a o i n (z .items) _ (z .reads a r w o n (omega arith)) (jnull p) refl (miss-same pair r i u ∙ m)
+      kept a r w o (suc n) c = null-kept new a o i n (z .items) _ (z .reads a r w o n (omega arith)) (jnull p) refl (miss-same pair r i u ∙ absent-left old b i m)
 
   pub spell-element : {i : ℕ} {v : Val} {ps : Parts} → i < countOf old b → Spelled pair d p (typeAt old b i) v → ((q : ℕ) → SpelledElements pair d q b (suc i) ps) → SpelledElements pair d p b i (present v ps)
   unfolding write dropNulls grow
@@ -109,13 +110,13 @@ module _ {new old : Table} {R : ℕ → ℕ → Type 0} (pair : ByAdditions new 
   unfolding write grow
   spell-no-member {i} t e = record { members = mnil; text = noMore; reads = λ a r n c. no-additions new a i n (λ k l u. addition-misses pair r gO t k (omega arith)) }
 
-  pub spell-absent-member : {i : ℕ} {ps : Parts} → i < countOf old b → mayMiss old b i ≡ true → SpelledMembers pair d p b (suc i) ps → SpelledMembers pair d p b i (absent ps)
+  pub spell-absent-member : {i : ℕ} {ps : Parts} → i < countOf old b → mayBeAbsent old b i ≡ true → SpelledMembers pair d p b (suc i) ps → SpelledMembers pair d p b i (absent ps)
   unfolding write grow
   spell-absent-member {i} {ps} u m z = record { members = z .members; text = z .text; reads = made }
     where
       made : (a : ℕ) → R a b → (n : ℕ) → i + n ≡ countOf new a → Made new a i n (growParts (absent ps) new a i n) (entries (z .members) new)
       made a r zero c = absurd (let l = inside-new pair r i u in omega arith)
-      made a r (suc n) c = without (miss-same pair r i u ∙ m) (z .reads a r n (omega arith))
+      made a r (suc n) c = without (miss-same pair r i u ∙ absent-left old b i m) (z .reads a r n (omega arith))
 
   pub spell-member : {i : ℕ} {v : Val} {ps : Parts} → isType old b ≡ true → i < countOf old b → ((q : ℕ) → Spelled pair d q (typeAt old b i) v) → ((q : ℕ) → SpelledMembers pair d q b (suc i) ps)
       → SpelledMembers pair d p b i (present v ps)

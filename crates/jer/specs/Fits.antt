@@ -4,7 +4,7 @@ use mathlib.Core.Path.{_≡_}
 use mathlib.Core.List.{List, [], _∷_}
 use mathlib.Core.Bool.{Bool, true, false}
 use Rattle.json.specs.Utf8.{utf8}
-use Rattle.jer.specs.Table.{Table, BOOLEAN, INTEGER, ENUMERATED, NULL, OCTET-STRING, UTF8String, SEQUENCE, SEQUENCE-OF, CHOICE, kindOf, isUnwrapped, elementOf, countOf, typeAt, mayMiss}
+use Rattle.jer.specs.Table.{Table, BOOLEAN, INTEGER, ENUMERATED, NULL, OCTET-STRING, UTF8String, SEQUENCE, SEQUENCE-OF, CHOICE, kindOf, isUnwrapped, elementOf, countOf, typeAt, mayBeAbsent}
 use Rattle.jer.specs.Value.{Leaf, lBool, lInt, lEnum, lNull, lBytes, Val, vLeaf, vSeq, vList, vChoice, Vals, vnil, vcons, Parts, pnil, absent, present}
 
 -- bytes are numbers below 256
@@ -41,5 +41,5 @@ mutual
   -- the members from the position i on
   pub data FitsParts (t : Table) : ℕ → ℕ → ℕ → Parts → Type 0 where
     noMember : {d r i : ℕ} → i ≡ countOf t r → FitsParts t d r i pnil
-    absentMember : {d r i : ℕ} {ps : Parts} → i < countOf t r → mayMiss t r i ≡ true → FitsParts t d r (suc i) ps → FitsParts t d r i (absent ps)
+    absentMember : {d r i : ℕ} {ps : Parts} → i < countOf t r → mayBeAbsent t r i ≡ true → FitsParts t d r (suc i) ps → FitsParts t d r i (absent ps)
     presentMember : {d r i : ℕ} {v : Val} {ps : Parts} → i < countOf t r → Fits t d (typeAt t r i) v → FitsParts t d r (suc i) ps → FitsParts t d r i (present v ps)

@@ -9,7 +9,7 @@ use Rattle.json.specs.Bytes.{on, pick}
 use Rattle.json.specs.Utf8.{utf8}
 use Rattle.jer.specs.declared.Refusal.the-variants.{AtRow}
 use Rattle.jer.specs.declared.Which.the-variants.{ValueTable}
-use Rattle.jer.specs.Table.{Table, BOOLEAN, INTEGER, ENUMERATED, NULL, OCTET-STRING, UTF8String, SEQUENCE, SEQUENCE-OF, CHOICE, kindOf, isUnwrapped, elementOf, countOf, typeAt, mayMiss}
+use Rattle.jer.specs.Table.{Table, BOOLEAN, INTEGER, ENUMERATED, NULL, OCTET-STRING, UTF8String, SEQUENCE, SEQUENCE-OF, CHOICE, kindOf, isUnwrapped, elementOf, countOf, typeAt, mayBeAbsent}
 use Rattle.jer.specs.Value.{Val, vBool, vInt, vEnum, vNull, vBytes, vSeq, vList, vChoice, Vals, vnil, vcons, Parts, pnil, absent, present, countPresent}
 use Rattle.jer.specs.Answer.{Res, ok, no}
 use Rattle.jer.specs.Rows.{ValueRow, row}
@@ -37,7 +37,7 @@ unfoldable pub takeParts : Taker → Table → ℕ → ℕ → ℕ → List Valu
 takeParts f t r i zero ws q o = took pnil ws q o
 takeParts f t r i (suc n) [] q o = wrong q
 takeParts f t r i (suc n) (w ∷ ws) q o =
-    elim (mayMiss t r i && isAbsent w) [
+    elim (mayBeAbsent t r i && isAbsent w) [
       | true ↦ andThen (takeParts f t r (suc i) n ws (suc q) o) (λ ps ws′ q′ o′. took (absent ps) ws′ q′ o′)
       | false ↦ andThen (f (typeAt t r i) (w ∷ ws) q o) (λ v us p u. andThen (takeParts f t r (suc i) n us p u) (λ ps ws′ q′ o′. took (present v ps) ws′ q′ o′))
     ]

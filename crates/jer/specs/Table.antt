@@ -160,9 +160,14 @@ nameAt t r i = nameIn t (memberRow t r i)
 unfoldable pub addition : Table → ℕ → ℕ → Bool
 addition t r i = leb (rootOf t r) i
 
--- 01, Value table: "an absent one, OPTIONAL or an addition"
+-- a member that may be left out of the text
 unfoldable pub mayMiss : Table → ℕ → ℕ → Bool
 mayMiss t r i = optional t r i || addition t r i
+
+-- a member that may be absent in the value: as yet the same
+-- 01, Value table: "an absent one, OPTIONAL or an addition"
+unfoldable pub mayBeAbsent : Table → ℕ → ℕ → Bool
+mayBeAbsent t r i = optional t r i || addition t r i
 
 -- ---- searching the members of a type
 

@@ -7,7 +7,7 @@ use native.Mathlib.Omega.{arith}
 use lib.Dec.{eqb, leb}
 use lib.ListN.{length, getD, take, drop, List·getD-eq-default}
 use Rattle.json.specs.Bytes.{pick}
-use Rattle.jer.specs.Table.{Table, field, kindOf, marksFor, marksOf, marked, firstOf, countOf, rootOf, memberRow, optional, addition, mayMiss, nameStart, nameLength, nameIn}
+use Rattle.jer.specs.Table.{Table, field, kindOf, marksFor, marksOf, marked, firstOf, countOf, rootOf, memberRow, optional, addition, mayMiss, mayBeAbsent, nameStart, nameLength, nameIn}
 use Rattle.jer.specs.Valid.{goodMarks}
 use Rattle.types.specs.declared.row.Row.{Row}
 use Rattle.types.specs.Rows.{table, rowOf}
@@ -38,6 +38,11 @@ module _ (rows ns : List ℕ) (r : ℕ) where
       → (o || leb n i) ≡ mayMiss (table rows ns) r i
   unfolding mayMiss addition
   may-miss i p q = rw (p, q)
+
+  pub may-be-absent : (i : ℕ) {o : Bool} {n : ℕ} → o ≡ optional (table rows ns) r i → n ≡ rootOf (table rows ns) r
+      → (o || leb n i) ≡ mayBeAbsent (table rows ns) r i
+  unfolding mayBeAbsent addition
+  may-be-absent i p q = rw (p, q)
 
 pub name-in : (rows names : List ℕ) (m : ℕ) {a b : ℕ} {s : List ℕ} → a ≡ nameStart (table rows names) m → b ≡ nameLength (table rows names) m
     → s ≡ take b (drop a names) → s ≡ nameIn (table rows names) m

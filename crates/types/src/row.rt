@@ -4,7 +4,7 @@ ghost use mathlib.Core.Path.{_≡_};
 ghost use mathlib.Core.List.{List};
 ghost use Prim.Native.Nat.{ℕ, _<_, _/_};
 ghost use lib.ListN.{length};
-ghost use Rattle.jer.specs.Table.{Table, rowCount, field, kindOf, isType, marksFor, marked, extensible, isBase64, isArray, isUnwrapped, firstOf, elementOf, countOf, rootOf, memberRow, optional, typeIn, typeAt, nameStart, nameLength, nameIn, mayMiss};
+ghost use Rattle.jer.specs.Table.{Table, rowCount, field, kindOf, isType, marksFor, marked, extensible, isBase64, isArray, isUnwrapped, firstOf, elementOf, countOf, rootOf, memberRow, optional, typeIn, typeAt, nameStart, nameLength, nameIn, mayMiss, mayBeAbsent};
 ghost use Rattle.jer.specs.Valid.{goodMarks};
 ghost use Rattle.types.specs.Rows.{table, rowOf};
 
@@ -257,6 +257,13 @@ pub fn type_at(rows: &[u32], r: usize, i: u32) -> usize
 // OPTIONAL, or an addition.
 pub fn may_miss(rows: &[u32], r: usize, i: u32) -> bool
     ensures { λ b. ⌜ ((ns : List ℕ) → b ≡ mayMiss (table (now (rows .entry)) ns) r i) ⌝ }
+{
+    member_at(rows, r, i).optional() | (root_of(rows, r) <= i)
+}
+
+// The same of the value: it may be absent.
+pub fn may_be_absent(rows: &[u32], r: usize, i: u32) -> bool
+    ensures { λ b. ⌜ ((ns : List ℕ) → b ≡ mayBeAbsent (table (now (rows .entry)) ns) r i) ⌝ }
 {
     member_at(rows, r, i).optional() | (root_of(rows, r) <= i)
 }

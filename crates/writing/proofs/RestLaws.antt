@@ -10,7 +10,7 @@ use lib.ListN.{length, take, drop}
 use lib.Seq.{drop-drop}
 use Rattle.json.specs.Utf8.{utf8}
 use Rattle.json.proofs.SoundRows.{pick-within, _⨾_}
-use Rattle.jer.specs.Table.{Table, CHOICE, kindOf, isUnwrapped, elementOf, countOf, typeAt, mayMiss}
+use Rattle.jer.specs.Table.{Table, CHOICE, kindOf, isUnwrapped, elementOf, countOf, typeAt, mayBeAbsent}
 use Rattle.jer.specs.Value.{Val, Vals, Parts, countPresent}
 use Rattle.jer.specs.Rows.{ValueRow}
 use Rattle.jer.specs.Judge.{Took, wrong, Taker, isAbsent, takeParts, takeItems, rightRow, leaf, stringRow, sized, inBracket, takeSequence, takeList, takeChoice, takeRow, onRow, takeUnwrapped, takeValue}
@@ -42,9 +42,9 @@ module _ (rows : List ValueRow) where
   unfolding takeParts
   parts-rest f s t r i zero ws q o e = record { is = e }
   parts-rest f s t r i (suc n) [] q o e = tt
-  parts-rest f s t r i (suc n) (w ∷ ws) q o e = go (mayMiss t r i && isAbsent w) refl (λ us p u. parts-rest f s t r (suc i) n us p u)
+  parts-rest f s t r i (suc n) (w ∷ ws) q o e = go (mayBeAbsent t r i && isAbsent w) refl (λ us p u. parts-rest f s t r (suc i) n us p u)
     where
-      go : (c : Bool) → (mayMiss t r i && isAbsent w) ≡ c → ((us : List ValueRow) (p u : ℕ) → us ≡ drop p rows → After (Rest Parts) (takeParts f t r (suc i) n us p u)) → After (Rest Parts) (takeParts f t r i (suc n) (w ∷ ws) q o)
+      go : (c : Bool) → (mayBeAbsent t r i && isAbsent w) ≡ c → ((us : List ValueRow) (p u : ℕ) → us ≡ drop p rows → After (Rest Parts) (takeParts f t r (suc i) n us p u)) → After (Rest Parts) (takeParts f t r i (suc n) (w ∷ ws) q o)
       go true m ih = rw (m, takeParts) (after-then (Rest Parts) (Rest Parts) _ _ (ih ws (suc q) o (next-rows q e)) (λ ps ws′ q′ o′ y. same y))
       go false m ih =
           rw (m, takeParts) (after-then (Rest Val) (Rest Parts) _ _ (s (typeAt t r i) (w ∷ ws) q o e)

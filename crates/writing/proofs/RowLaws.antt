@@ -7,7 +7,7 @@ use native.Mathlib.Omega.{arith}
 use lib.Dec.{eqb}
 use lib.ListN.{length, getD}
 use lib.Seq.{drop-nil}
-use Rattle.jer.specs.Table.{Table, kindOf, isUnwrapped, typeAt, mayMiss}
+use Rattle.jer.specs.Table.{Table, kindOf, isUnwrapped, typeAt, mayBeAbsent}
 use Rattle.jer.specs.Rows.{ValueRow, row}
 use Rattle.jer.specs.Judge.{isAbsent, rowsIn}
 use Rattle.writing.specs.Rows.{rowsFrom, absentNext, nullNext}
@@ -39,7 +39,7 @@ pub never : {A : Type 0} → _≡_ {A = Bool} false true → A
 never e = absurd (let z : _≡_ {A = ℕ} 0 1 = cc in omega arith)
 
 module _ (t : Table) (r i : ℕ) {ws : List ValueRow} where
-  pub absent-row : {w : ValueRow} {us : List ValueRow} {m a : Bool} → ws ≡ w ∷ us → m ≡ mayMiss t r i → a ≡ isAbsent w → (m && a) ≡ absentNext t r i ws
+  pub absent-row : {w : ValueRow} {us : List ValueRow} {m a : Bool} → ws ≡ w ∷ us → m ≡ mayBeAbsent t r i → a ≡ isAbsent w → (m && a) ≡ absentNext t r i ws
   unfolding absentNext
   absent-row e f g = rw (e, f, g)
 

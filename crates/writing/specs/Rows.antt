@@ -5,7 +5,7 @@ use mathlib.Core.List.{List, [], _∷_}
 use mathlib.Core.Bool.{Bool, false, _&&_, _||_}
 use lib.Dec.{eqb}
 use lib.ListN.{length, drop}
-use Rattle.jer.specs.Table.{Table, NULL, kindOf, isUnwrapped, typeAt, mayMiss}
+use Rattle.jer.specs.Table.{Table, NULL, kindOf, isUnwrapped, typeAt, mayBeAbsent}
 use Rattle.jer.specs.Rows.{ValueRow, row}
 use Rattle.jer.specs.Judge.{isAbsent, rowsIn}
 use Rattle.writing.specs.declared.rows.ValueRow.{ValueRow as Cells}
@@ -27,7 +27,7 @@ Finds ns q End = rowsFrom ns q ≡ []
 -- is the member at i absent, by the rows that are left?
 unfoldable pub absentNext : Table → ℕ → ℕ → List ValueRow → Bool
 absentNext t r i [] = false
-absentNext t r i (w ∷ ws) = mayMiss t r i && isAbsent w
+absentNext t r i (w ∷ ws) = mayBeAbsent t r i && isAbsent w
 
 -- is the text of a value of the type at r null, if the rows that are left begin with one?
 unfoldable pub nullNext : Table → ℕ → List ValueRow → Bool

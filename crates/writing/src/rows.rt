@@ -1,7 +1,7 @@
 // The rows of the value table.
 use types::row::Row;
 use types::row::kind_of;
-use types::row::may_miss;
+use types::row::may_be_absent;
 use types::row::type_at;
 ghost use mathlib.Core.Path.{_≡_};
 ghost use mathlib.Core.Bool.{true};
@@ -55,7 +55,7 @@ pub fn absent_at(types: &[u32], values: &[u32], r: usize, i: u32, q: usize) -> b
     ensures { λ b. ⌜ (b ≡ true → q < length (now (values .entry))) ⌝ }
 {
     match row_at(values, q) {
-        Found::Row(w) => may_miss(types, r, i) & w.is_absent(),
+        Found::Row(w) => may_be_absent(types, r, i) & w.is_absent(),
         Found::End => false,
     }
 }

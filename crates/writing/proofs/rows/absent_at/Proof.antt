@@ -13,8 +13,8 @@ enum-known-w : tie.Need-enum-known-w
 enum-known-w c = search needs
 
 -- src/rows.rt:58:26
-may-miss-requires : tie.Need-may-miss-requires
-may-miss-requires c κs = search needs
+may-be-absent-requires : tie.Need-may-be-absent-requires
+may-be-absent-requires c κs = search needs
 
 -- src/rows.rt:58:50
 is-absent-requires : tie.Need-is-absent-requires
@@ -29,7 +29,7 @@ returns : tie.Need-returns
 returns c =
     let a = c .before .before .before .before .before .before .before .before .args in
     let found = rw (c .before .before .before .w .given .1) at (c .before .before .before .before .before .row-at .ensures) in
-    ((λ ns. absent-row (table (a .types .now) ns) (a .r) (a .i) (found .0) (c .before .may-miss .ensures ns) (c .is-absent .ensures)), λ _. found .1)
+    ((λ ns. absent-row (table (a .types .now) ns) (a .r) (a .i) (found .0) (c .before .may-be-absent .ensures ns) (c .is-absent .ensures)), λ _. found .1)
 
 -- src/rows.rt:53:1
 returns-2 : tie.Need-returns-2
@@ -44,7 +44,7 @@ absent-at-spec =
     (tie.spec
     row-at-requires
     enum-known-w
-    may-miss-requires
+    may-be-absent-requires
     is-absent-requires
     enum-told
     returns
