@@ -6,7 +6,7 @@
 
 The page names calls and theorems, each as `name` (`path`). What they cite has to be believed: the definitions in specs/ and the types
 declared in src/ that their contracts and statements name, and what those files import, and so on. The list of the page must have
-exactly these files, each with its lines (without blank lines, comments and imports) and their sum; but for the files that its second
+exactly these files, each with its lines (without blank lines, comments and imports) and their sum, which README says too; but for the files that its second
 table names as proved equal to something simpler, which are not followed. The toolchain's modules that the list's files import must be
 named on the page.
 """
@@ -16,6 +16,8 @@ import sys
 
 ROOT = pathlib.Path(__file__).resolve().parent.parent
 PAGE = ROOT / "docs/PROMISES.md"
+README = ROOT / "README.md"
+SUM = r"\*\*[\d,]+ lines\*\*"
 NAME = r"[^\s(){}\[\],;.:⌜⌝]+"
 
 
@@ -90,7 +92,8 @@ def counted(page):
     """The page with the lines of each listed file, and their sum, as they are."""
     page = re.sub(r"^(\| \d+ \| `(crates/[^`]+)` \|) \d+ \|", lambda m: f"{m.group(1)} {lines(m.group(2))} |", page, flags=re.M)
     total = sum(map(int, re.findall(r"^\| \d+ \| `crates/[^`]+` \| (\d+) \|", page, re.M)))
-    return re.sub(r"\*\*[\d,]+ lines\*\*", f"**{total:,} lines**", page)
+    README.write_text(re.sub(SUM, f"**{total:,} lines**", README.read_text()))
+    return re.sub(SUM, f"**{total:,} lines**", page)
 
 
 def main():
@@ -107,8 +110,7 @@ def main():
     wrong += [f"{p} has {lines(p)} lines, not {n}" for p, n in listed.items() if lines(p) != int(n)]
     wrong += [f"the toolchain's {m} is not named" for m in sorted(tools) if f"`{m}`" not in page]
     total = sum(map(lines, files))
-    if f"**{total:,} lines**" not in page:
-        wrong.append(f"the list has {total:,} lines, and the page does not say so")
+    wrong += [f"the list has {total:,} lines, and {p.name} does not say so" for p in (PAGE, README) if re.findall(SUM, p.read_text()) != [f"**{total:,} lines**"]]
     for line in wrong:
         print(line)
     print(f"{len(files)} files of {total} lines have to be believed, as {len(roots)} calls and theorems cite them; {len(wrong)} faults")
