@@ -1,6 +1,6 @@
 """Makes the stored cases anew, or compares them with what is stored.
 
-python3 second/make.py                                  writes stdin and stdout of crates/*_cases
+python3 second/make.py                                  writes stdin and stdout of crates/cases
 python3 second/make.py --check                          compares, exit 1 on a difference
 python3 second/make.py --seed N --count M --out DIR     another set, for comparisons
 """
@@ -127,30 +127,34 @@ def missing_numbers(made):
     return lacking
 
 
-def paths(name, folder):
-    """Where a file's input and answers are kept: in a folder of one's own, or as what the program NAME_cases is run on and must write."""
+def files(made, folder):
+    """Each file's path and text: input and answers of each name in a folder of one's own, or of all of them, one after the other, as what the
+    program `cases` is run on and must write. There a line with the place of the name among them and its number of cases stands before them."""
     if folder:
-        return os.path.join(folder, name + '.in'), os.path.join(folder, name + '.out')
-    crate = os.path.join(CRATES, name + '_cases')
-    return os.path.join(crate, 'stdin'), os.path.join(crate, 'stdout')
+        for name, (questions, answers, _) in made.items():
+            yield os.path.join(folder, name + '.in'), questions
+            yield os.path.join(folder, name + '.out'), answers
+        return
+    heads = ('%08X%08X\n' % (kind, sum(counts.values())) for kind, (_, _, counts) in enumerate(made.values()))
+    crate = os.path.join(CRATES, 'cases')
+    yield os.path.join(crate, 'stdin'), ''.join(head + questions for head, (questions, _, _) in zip(heads, made.values()))
+    yield os.path.join(crate, 'stdout'), ''.join(answers for _, answers, _ in made.values())
 
 
 def write_files(made, folder):
-    for name, (questions, answers, _) in made.items():
-        for path, text in zip(paths(name, folder), (questions, answers)):
-            os.makedirs(os.path.dirname(path), exist_ok=True)
-            with open(path, 'w', encoding='ascii', newline='\n') as file:
-                file.write(text)
+    for path, text in files(made, folder):
+        os.makedirs(os.path.dirname(path), exist_ok=True)
+        with open(path, 'w', encoding='ascii', newline='\n') as file:
+            file.write(text)
 
 
 def differing_files(made, folder):
     """Prints each file that is not stored as made, and tells whether there is one."""
     differ = False
-    for name, (questions, answers, _) in made.items():
-        for path, text in zip(paths(name, folder), (questions, answers)):
-            if not os.path.exists(path) or open(path, 'rb').read() != text.encode('ascii'):
-                print('differs: %s' % path)
-                differ = True
+    for path, text in files(made, folder):
+        if not os.path.exists(path) or open(path, 'rb').read() != text.encode('ascii'):
+            print('differs: %s' % path)
+            differ = True
     return differ
 
 

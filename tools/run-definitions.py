@@ -3,7 +3,7 @@
 
     python3 tools/run-definitions.py [--every N]
 
-Each case becomes an equation between two closed terms that antt computes. Of each of crates/*_cases every
+Each case becomes an equation between two closed terms that antt computes. Of each kind of crates/cases every
 N-th case is taken (default 1: all), but for the long ones at the size limits. The crates json and jer are
 copied without their laws to a temporary folder, and the equations are checked beside them.
 """
@@ -107,7 +107,7 @@ def argument(kind, text):
 
 
 def answers(name, lines, count):
-    """The expected list of each case, from the lines of the .out file."""
+    """The expected list of each case, from the first of the stored answers, and how many lines these are."""
     at, result = 0, []
     for _ in range(count):
         line = lines[at]
@@ -130,11 +130,11 @@ def answers(name, lines, count):
                     break
             result.append([0] + rows + cut(lines[at], 2))
             at += 1
-    return result
+    return result, at
 
 
 def printed(name, lines, count):
-    """What the program prints for each case, as bytes."""
+    """What the program prints for each case, as bytes, and how many lines these are."""
     at, result = 0, []
     for _ in range(count):
         start = at
@@ -143,22 +143,23 @@ def printed(name, lines, count):
         if name == "jerread" and not line.startswith("FFFFFFFF"):
             at += int(line[24:32], 16)
         result.append(list(("\n".join(lines[start:at]) + "\n").encode()))
-    return result
+    return result, at
 
 
 def cases(every):
+    given = (ROOT / "crates/cases/stdin").read_text().split("\n")[:-1]
+    out = (ROOT / "crates/cases/stdout").read_text().split("\n")[:-1]
     for name, (lines_each, function, kinds) in KINDS.items():
-        folder = ROOT / f"crates/{name}_cases"
-        given = (folder / "stdin").read_text().split("\n")[:-1]
-        out = (folder / "stdout").read_text().split("\n")[:-1]
-        count = len(given) // lines_each
-        expected = (printed if name.startswith("jer") else answers)(name, out, count)
+        count = cut(given.pop(0), 8)[1]
+        expected, used = (printed if name.startswith("jer") else answers)(name, out, count)
+        out = out[used:]
         for i in range(0, count, every):
             lines = given[i * lines_each:(i + 1) * lines_each]
             if max(map(len, lines)) > LONGEST_LINE:
                 continue
             words = [argument(k, w) for k, w in zip(kinds, lines)]
             yield f"{name} case {i + 1}", f"{function} {' '.join(words)}", as_list(expected[i])
+        given = given[count * lines_each:]
 
 
 PRELUDE = """use Prim.Native.Nat.{ℕ, zero, suc, _+_, _*_}

@@ -2,8 +2,8 @@ use native.Mathlib.Omega.{arith}
 use mathlib.Core.Path.{sym}
 use lib.Seq.{length-take-le}
 use borrow.Author.Needs.{needs}
-use Rattle.write_cases.proofs.write_in.Statement.{statement}
-use Rattle.write_cases.proofs.write_in.Tie as tie
+use Rattle.cases.proofs.write_in.Statement.{statement}
+use Rattle.cases.proofs.write_in.Tie as tie
 
 write-requires : tie.Need-write-requires
 write-requires c κs = search needs

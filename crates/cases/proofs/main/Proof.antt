@@ -2,8 +2,8 @@ use Prim.Native.Nat.{_-_}
 use mathlib.Core.Path.{_≡_}
 use lib.ListN.{length}
 use borrow.Author.Needs.{needs}
-use Rattle.write_cases.proofs.main.Statement.{statement}
-use Rattle.write_cases.proofs.main.Tie as tie
+use Rattle.cases.proofs.main.Statement.{statement}
+use Rattle.cases.proofs.main.Tie as tie
 
 abbrev Inv-loop : tie.InvT-loop
 Inv-loop buf₀ input₀ turns₀ buf input turns = 65536 ≡ length buf

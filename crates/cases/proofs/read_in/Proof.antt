@@ -2,8 +2,8 @@ use native.Mathlib.Omega.{arith}
 use mathlib.Core.Path.{sym}
 use lib.Seq.{length-take-le}
 use borrow.Author.Needs.{needs}
-use Rattle.read_cases.proofs.read_in.Statement.{statement}
-use Rattle.read_cases.proofs.read_in.Tie as tie
+use Rattle.cases.proofs.read_in.Statement.{statement}
+use Rattle.cases.proofs.read_in.Tie as tie
 
 read-requires : tie.Need-read-requires
 read-requires c κs = search needs
