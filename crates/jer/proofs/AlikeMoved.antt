@@ -1,8 +1,9 @@
 -- Trees that differ only in places are read alike at every row.
 use Prim.Native.Nat.{ℕ, suc}
 use mathlib.Core.Path.{_≡_, refl}
+use mathlib.Core.Option.{some}
 use Rattle.json.specs.Tree.{Json, jnull, jbool, jint, jreal, jstr, jarr, jobj, Items, Members}
-use Rattle.jer.specs.Table.{Table, BOOLEAN, INTEGER, NULL, tNull, tBoolean, tNumber, tString, tArray, tObject, tokenCode, sameToken, typeAt}
+use Rattle.jer.specs.Table.{Table, BOOLEAN, INTEGER, NULL, tNull, tBoolean, tNumber, tString, tArray, tObject, tokenCode, codeOf, sameToken, typeAt}
 use Rattle.jer.specs.Read.{null?, read, elements, entries}
 use Rattle.jer.specs.Moved.{Moved, null, boolean, number, real, string, array, object, MovedItems, noItem, item, MovedMembers, noMember, member, tokenIn}
 use Rattle.jer.specs.Skipped.{SameAnswer, sameValue}
@@ -14,8 +15,8 @@ use Rattle.jer.proofs.AlikeObject.{Twin, twin, braces-same}
 
 -- ---- tokens
 
-pub null-token : (j : Json) → null? j ≡ sameToken (tokenIn j) tNull
-unfolding null? tokenIn sameToken tokenCode
+pub null-token : (j : Json) → null? j ≡ sameToken (some (tokenIn j)) (some tNull)
+unfolding null? tokenIn sameToken codeOf tokenCode
 null-token (jnull p) = refl
 null-token (jbool p b) = refl
 null-token (jint p m n) = refl

@@ -16,7 +16,7 @@ use Rattle.jer.specs.Read.{Meaning, Entry, lookup, namesGood, nullAbsent
 use Rattle.jer.specs.Skipped.{SameAnswer, sameValue, sameNumber}
 use Rattle.jer.proofs.Sane.{Sane}
 use Rattle.jer.proofs.ValidLaws.{sameBytes-eq, position-of}
-use Rattle.jer.proofs.ValidRows.{both}
+use Rattle.jer.proofs.ValidRows.{both, sequence-type}
 use Rattle.jer.proofs.OlderAgrees.{Each, end, more}
 use Rattle.jer.proofs.AlikeSame.{same-cause, same-map, same-test}
 use Rattle.jer.proofs.AlikeArray.{same-absent, same-present}
@@ -125,11 +125,11 @@ module _ (t : Table) (r : ℕ) where
 -- ---- an object
 
 pub braces-same : (t : Table) (r o u : ℕ) → Sane t → {es fs : List Entry} → Each (Twin t r) es fs → SameAnswer (readBraces t o es r) (readBraces t u fs r)
-unfolding readBraces isType
+unfolding readBraces
 braces-same t r o u g {es} {fs} h =
     same-test (eqb (kindOf t r) CHOICE) (choice-same t r o u h) (sequence (eqb (kindOf t r) SEQUENCE && not (isArray t r)) refl)
   where
     sequence : (c : Bool) → (eqb (kindOf t r) SEQUENCE && not (isArray t r)) ≡ c
         → SameAnswer {A = Val} (elim c [ true ↦ readObject t o es r | false ↦ at OtherKind o ]) (elim c [ true ↦ readObject t u fs r | false ↦ at OtherKind u ])
-    sequence true w = object-same t r g (rw (eqb-true (kindOf t r) SEQUENCE (both _ _ .0 w .0))) o u h
+    sequence true w = object-same t r g (sequence-type t r (eqb-true (kindOf t r) SEQUENCE (both _ _ .0 w .0))) o u h
     sequence false w = same-cause _ o u

@@ -12,7 +12,7 @@ use Rattle.json.specs.Utf8.{utf8}
 use Rattle.json.specs.Grammar.{Value, literalNull, literalTrue, literalFalse, whole, real, string, noElements, noMembers, members, Padded, padded, Elements, lastElement, moreElements, Named, lastMember, moreMembers}
 use Rattle.json.specs.Grammar as grammar
 use Rattle.json.proofs.SoundRows.{pick-within, only, _⨾_}
-use Rattle.jer.specs.Table.{Table, BOOLEAN, INTEGER, ENUMERATED, NULL, OCTET-STRING, SEQUENCE, SEQUENCE-OF, CHOICE, kindOf, extensible, isBase64, isArray, isUnwrapped, elementOf, countOf, typeAt, nameAt, mayMiss, sameBytes, position, Token, tNull, tBoolean, tNumber, tString, tArray, tObject, tokenPick, tokenOf, alternative, isSome, openUnwrapped}
+use Rattle.jer.specs.Table.{Table, BOOLEAN, INTEGER, ENUMERATED, NULL, OCTET-STRING, SEQUENCE, SEQUENCE-OF, CHOICE, Carried, carries, kindOf, marked, extensible, isBase64, isArray, isUnwrapped, elementOf, countOf, typeAt, nameAt, mayMiss, sameBytes, position, Token, tNull, tBoolean, tNumber, tString, tArray, tObject, tokenPick, tokenOf, alternative, isSome, openUnwrapped}
 use Rattle.jer.specs.Value.{Val, vNull, vChoice, Parts}
 use Rattle.jer.specs.declared.Cause.the-variants.{UnknownName, RepeatedName}
 use Rattle.jer.specs.Answer.{Res, ok, no, bind, at}
@@ -87,16 +87,27 @@ module _ (t : Table) (d : ℕ) where
 
 -- ---- null
 
-pub null-kind : (t : Table) (r : ℕ) → tokenOf t r ≡ tNull → kindOf t r ≡ NULL
-unfolding tokenOf tokenPick
-null-kind t r =
-    pick-within (λ k. k ≡ tNull → kindOf t r ≡ NULL) (kindOf t r) _ tObject
-    ((λ i e. cc) ⨾ (λ i e. cc) ⨾ (λ i e. cc) ⨾ (λ i e. only i) ⨾ (λ i e. cc) ⨾ (λ i. go (isArray t r)) ⨾ (λ i e. cc) ⨾ tt)
+null-plain : (k : ℕ) → carries k .token ≡ some tNull → k ≡ NULL
+unfolding carries
+null-plain k =
+    pick-within (λ (x : Carried). x .token ≡ some tNull → k ≡ NULL) k _ _
+    ((λ i e. cc) ⨾ (λ i e. cc) ⨾ (λ i e. cc) ⨾ (λ i e. only i) ⨾ (λ i e. cc) ⨾ (λ i e. cc) ⨾ (λ i e. cc) ⨾ (λ i e. cc) ⨾ (λ i e. cc) ⨾ (λ i e. cc) ⨾ tt)
     (λ e. cc)
+
+null-marked : (k : ℕ) → carries k .other ≡ some tNull → k ≡ NULL
+unfolding carries
+null-marked k =
+    pick-within (λ (x : Carried). x .other ≡ some tNull → k ≡ NULL) k _ _
+    ((λ i e. cc) ⨾ (λ i e. cc) ⨾ (λ i e. cc) ⨾ (λ i e. only i) ⨾ (λ i e. cc) ⨾ (λ i e. cc) ⨾ (λ i e. cc) ⨾ (λ i e. cc) ⨾ (λ i e. cc) ⨾ (λ i e. cc) ⨾ tt)
+    (λ e. cc)
+
+pub null-kind : (t : Table) (r : ℕ) → tokenOf t r ≡ some tNull → kindOf t r ≡ NULL
+unfolding tokenOf tokenPick
+null-kind t r = go (marked t r 1)
   where
-    go : (c : Bool) → tokenPick c tArray tObject ≡ tNull → kindOf t r ≡ NULL
-    go true e = cc
-    go false e = cc
+    go : (b : Bool) → tokenPick b (carries (kindOf t r) .other) (carries (kindOf t r) .token) ≡ some tNull → kindOf t r ≡ NULL
+    go true e = null-marked (kindOf t r) e
+    go false e = null-plain (kindOf t r) e
 
 null-value : (t : Table) (d r : ℕ) → Holds (Fits t d r) (nullValue t r)
 unfolding nullValue

@@ -70,7 +70,7 @@ module _ {new old : Table} {R : ℕ → ℕ → Type 0} (pair : ByAdditions new 
 
   pub token-same : tokenOf new a ≡ tokenOf old b
   unfolding tokenOf
-  token-same = rw (pair .kinds a b r, array-same)
+  token-same = rw (pair .kinds a b r, marked-same 1)
 
   pub miss-same : (i : ℕ) → i < countOf old b → mayMiss new a i ≡ mayMiss old b i
   unfolding mayMiss addition

@@ -15,7 +15,7 @@ use Rattle.jer.specs.Write.{write}
 use Rattle.jer.specs.Cut.{ByAdditions, absents, grow, growItems, growParts}
 use Rattle.jer.proofs.Sane.{Sane}
 use Rattle.jer.proofs.SpellLists.{unpadded}
-use Rattle.jer.proofs.SpellPaired.{kind-type}
+use Rattle.jer.proofs.ValidRows.{sequence-type}
 use Rattle.jer.proofs.SpellLeaf.{Spelled, spell-leaf}
 use Rattle.jer.proofs.SpellParts.{SpelledItems, SpelledElements, SpelledMembers, spell-no-item, spell-item, spell-list, spell-no-element, spell-null-element, spell-element, spell-no-member, spell-absent-member, spell-member, spell-sequence}
 use Rattle.jer.proofs.SpellChoice.{spell-wrapped, spell-unwrapped}
@@ -24,7 +24,7 @@ module _ {new old : Table} {R : ℕ → ℕ → Type 0} (pair : ByAdditions new 
   mutual
     pub spell : {d b : ℕ} {v : Val} → Fits old d b v → (p : ℕ) → Spelled pair d p b v
     spell (fLeaf f) p = spell-leaf pair gn gO f
-    spell (fSeq {r = b} k fs) p = let t = kind-type old b SEQUENCE k (omega arith) in spell-sequence pair gn gO k (spellElements fs t (suc p)) (spellMembers fs t (suc p))
+    spell (fSeq {r = b} k fs) p = let t = sequence-type old b k in spell-sequence pair gn gO k (spellElements fs t (suc p)) (spellMembers fs t (suc p))
     spell (fList k fs) p = spell-list pair k (spellItems fs (suc p))
     spell (fWrapped k w u f) p = spell-wrapped pair gn gO k w u (λ q. spell f q)
     spell (fUnwrapped w u f) p = spell-unwrapped pair gn w u (spell f p)

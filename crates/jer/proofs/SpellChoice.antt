@@ -18,14 +18,15 @@ use Rattle.jer.proofs.OlderNames.{unwrapped-same}
 use Rattle.jer.proofs.SpellString.{string-quoted}
 use Rattle.jer.proofs.SpellLists.{noMore, andThen, object-spelled}
 use Rattle.jer.proofs.SpellRead.{read-picked, choice-read, read-token}
-use Rattle.jer.proofs.SpellPaired.{kind-type, kind-new, inside-new, position-new}
+use Rattle.jer.proofs.ValidRows.{choice-type}
+use Rattle.jer.proofs.SpellPaired.{kind-new, inside-new, position-new}
 use Rattle.jer.proofs.SpellLeaf.{Spelled}
 
 module _ {new old : Table} {R : ℕ → ℕ → Type 0} (pair : ByAdditions new old R) (gn : Sane new) {d p b i : ℕ} {v : Val} where
   pub spell-wrapped : Sane old → kindOf old b ≡ CHOICE → isUnwrapped old b ≡ false → i < countOf old b → ((q : ℕ) → Spelled pair d q (typeAt old b i) v) → Spelled pair (suc d) p b (vChoice i v)
   unfolding write choiceText grow
   spell-wrapped gO k w u f =
-      let t : isType old b ≡ true = kind-type old b CHOICE k (omega arith) in
+      let t : isType old b ≡ true = choice-type old b k in
       let s = f (past (suc p) (stringText (nameAt old b i) ++ (0x3A ∷ []))) in
       record {
         tree = jobj p (mcons (suc p) (nameAt old b i) (s .tree) mnil);
@@ -45,4 +46,4 @@ module _ {new old : Table} {R : ℕ → ℕ → Type 0} (pair : ByAdditions new 
           let l : i < countOf new a = inside-new pair r i u in
           let h = s .reads (typeAt new a i) (pair .types a b i r u) in
           let q : isUnwrapped new (typeAt new a i) ≡ false = gn .plain a i x l in
-          read-picked (s .tree) new a i _ x (ap (alternative new a) (sym (read-token (s .tree) new (typeAt new a i) _ q h)) ∙ alternative-of new a i gn x l) q h
+          read-picked (s .tree) new a i _ x (alternative-of new a i _ gn x l (read-token (s .tree) new (typeAt new a i) _ q h)) q h

@@ -22,7 +22,8 @@ use Rattle.jer.proofs.SpellString.{string-quoted}
 use Rattle.jer.proofs.SpellNumber.{integer-spelled}
 use Rattle.jer.proofs.SpellOctets.{unhex-hex, hex-chars, unbase64-base64, base64-chars}
 use Rattle.jer.proofs.SpellRead.{null-read, bool-read, int-read, item-read, octets-read, text-read}
-use Rattle.jer.proofs.SpellPaired.{kind-type, kind-new, position-new}
+use Rattle.jer.proofs.ValidRows.{enumerated-type}
+use Rattle.jer.proofs.SpellPaired.{kind-new, position-new}
 
 -- the text at p of a value of the older's row b, and what each of the newer's rows that are paired with b reads it as
 pub record Spelled {new old : Table} {R : ℕ → ℕ → Type 0} (pair : ByAdditions new old R) (d p b : ℕ) (v : Val) : Type 0 where
@@ -49,7 +50,7 @@ module _ {new old : Table} {R : ℕ → ℕ → Type 0} (pair : ByAdditions new 
   spell-enum : {i : ℕ} → Sane new → Sane old → kindOf old b ≡ ENUMERATED → i < countOf old b → Spelled pair d p b (vEnum i)
   unfolding write grow
   spell-enum {i} gn gO k u =
-      let t : isType old b ≡ true = kind-type old b ENUMERATED k (omega arith) in
+      let t : isType old b ≡ true = enumerated-type old b k in
       record {
         tree = jstr p (nameAt old b i);
         text = string (string-quoted (nameAt old b i) (gO .named b i t u));

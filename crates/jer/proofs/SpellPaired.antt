@@ -5,14 +5,10 @@ use mathlib.Core.Bool.{true, or-true}
 use mathlib.Core.Option.{some}
 use native.Mathlib.Omega.{arith}
 use borrow.Author.Tests.{le-leb}
-use Rattle.jer.specs.Table.{Table, CHOICE, kindOf, isType, countOf, rootOf, nameAt, addition, mayMiss, position}
+use Rattle.jer.specs.Table.{Table, kindOf, isType, countOf, rootOf, nameAt, addition, mayMiss, position}
 use Rattle.jer.specs.Cut.{ByAdditions}
 use Rattle.jer.proofs.Sane.{Sane}
 use Rattle.jer.proofs.ValidLaws.{position-of}
-
-pub kind-type : (t : Table) (r k : ℕ) → kindOf t r ≡ k → k ≤ CHOICE → isType t r ≡ true
-unfolding isType
-kind-type t r k e h = le-leb (kindOf t r) CHOICE (omega arith)
 
 module _ {new old : Table} {R : ℕ → ℕ → Type 0} (pair : ByAdditions new old R) {a b : ℕ} (r : R a b) where
   pub kind-new : (k : ℕ) → kindOf old b ≡ k → kindOf new a ≡ k

@@ -21,7 +21,8 @@ use Rattle.jer.proofs.SpellLists.{Listed, nothing, then, array-spelled,
 use Rattle.jer.proofs.SpellRead.{list-read, array-read, object-read, null-is-value, value-takes-null}
 use Rattle.jer.proofs.SpellArray.{no-items, one-item, keepItem, keep-listed, null-kept, value-kept, no-elements}
 use Rattle.jer.proofs.SpellObject.{Made, without, object-made, one-member, no-additions}
-use Rattle.jer.proofs.SpellPaired.{kind-type, kind-new, type-new, inside-new, addition-misses}
+use Rattle.jer.proofs.ValidRows.{sequence-type}
+use Rattle.jer.proofs.SpellPaired.{kind-new, type-new, inside-new, addition-misses}
 use Rattle.jer.proofs.SpellLeaf.{Spelled}
 
 -- the items of a list
@@ -153,5 +154,5 @@ module _ {new old : Table} {R : ℕ → ℕ → Type 0} (pair : ByAdditions new 
             text = rw (e, sequenceText) (object-spelled (y .text));
             reads = λ a r.
                 object-read new a p (y .members) _ (kind-new pair r SEQUENCE k) (array-same pair r ∙ e)
-                (object-made new gn a (type-new pair r (kind-type old b SEQUENCE k (omega arith))) p (y .reads a r (countOf new a) (omega arith)));
+                (object-made new gn a (type-new pair r (sequence-type old b k)) p (y .reads a r (countOf new a) (omega arith)));
           }

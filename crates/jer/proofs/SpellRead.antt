@@ -11,7 +11,7 @@ use Rattle.json.specs.Bytes.{pick}
 use Rattle.json.specs.Tree.{Json, jnull, jbool, jint, jreal, jstr, jarr, jobj, Items, Members, mnil, mcons, placeOf}
 use Rattle.json.proofs.SoundRows.{pick-within, only, _⨾_}
 use Rattle.jer.specs.declared.Cause.the-variants.{BadNumber}
-use Rattle.jer.specs.Table.{Table, BOOLEAN, INTEGER, ENUMERATED, NULL, OCTET-STRING, UTF8String, SEQUENCE, SEQUENCE-OF, CHOICE, kindOf, extensible, isArray, isUnwrapped, elementOf, countOf, typeAt, position, tNull, tString, tArray, tObject, tokenPick, tokenOf, alternative, isSome, canBeNull, nullTaken}
+use Rattle.jer.specs.Table.{Table, BOOLEAN, INTEGER, ENUMERATED, NULL, OCTET-STRING, UTF8String, SEQUENCE, SEQUENCE-OF, CHOICE, carries, kindOf, marked, extensible, isArray, isUnwrapped, elementOf, countOf, typeAt, position, Token, tNull, tBoolean, tNumber, tString, tArray, tObject, tokenPick, tokenOf, alternative, isSome, canBeNull, nullTaken}
 use Rattle.jer.specs.Value.{Val, vBool, vEnum, vNull, vBytes, vSeq, vList, vChoice, Vals, Parts}
 use Rattle.jer.specs.Answer.{Res, ok, bind, at}
 use Rattle.jer.specs.Moved.{tokenIn}
@@ -111,60 +111,65 @@ choice-read t r p q s j i v e w h k = read-plain (jobj p (mcons q s j mnil)) t r
 
 -- ---- what a successful reading says of the row
 
-item-token : (t : Table) (r : ℕ) → kindOf t r ≡ ENUMERATED → tokenOf t r ≡ tString
-unfolding tokenOf pick
-item-token t r k = rw k
+pick-same : (b : Bool) (x : Option Token) → tokenPick b x x ≡ x
+unfolding tokenPick
+pick-same true x = refl
+pick-same false x = refl
 
-octets-token : (t : Table) (r : ℕ) → kindOf t r ≡ OCTET-STRING → tokenOf t r ≡ tString
-unfolding tokenOf pick
-octets-token t r k = rw k
+item-token : (t : Table) (r : ℕ) → kindOf t r ≡ ENUMERATED → tokenOf t r ≡ some tString
+unfolding tokenOf carries pick
+item-token t r k = rw k (pick-same (marked t r 1) (some tString))
 
-text-token : (t : Table) (r : ℕ) → kindOf t r ≡ UTF8String → tokenOf t r ≡ tString
-unfolding tokenOf pick
-text-token t r k = rw k
+octets-token : (t : Table) (r : ℕ) → kindOf t r ≡ OCTET-STRING → tokenOf t r ≡ some tString
+unfolding tokenOf carries pick
+octets-token t r k = rw k (pick-same (marked t r 1) (some tString))
 
-string-token : (t : Table) (r p : ℕ) (s : List ℕ) (v : Val) → readString t p s r ≡ ok v → tokenOf t r ≡ tString
+text-token : (t : Table) (r : ℕ) → kindOf t r ≡ UTF8String → tokenOf t r ≡ some tString
+unfolding tokenOf carries pick
+text-token t r k = rw k (pick-same (marked t r 1) (some tString))
+
+string-token : (t : Table) (r p : ℕ) (s : List ℕ) (v : Val) → readString t p s r ≡ ok v → tokenOf t r ≡ some tString
 unfolding readString
 string-token t r p s v =
-    pick-within (λ x. x ≡ ok v → tokenOf t r ≡ tString) (kindOf t r) _ _
+    pick-within (λ x. x ≡ ok v → tokenOf t r ≡ some tString) (kindOf t r) _ _
     ((λ i e. item-token t r (only i)) ⨾ (λ i e. octets-token t r (only i)) ⨾ (λ i e. text-token t r (only i)) ⨾ tt)
     (λ e. refused e)
 
-list-token : (t : Table) (r : ℕ) → kindOf t r ≡ SEQUENCE-OF → tokenOf t r ≡ tArray
-unfolding tokenOf pick
-list-token t r k = rw k
+list-token : (t : Table) (r : ℕ) → kindOf t r ≡ SEQUENCE-OF → tokenOf t r ≡ some tArray
+unfolding tokenOf carries pick
+list-token t r k = rw k (pick-same (marked t r 1) (some tArray))
 
-choice-token : (t : Table) (r : ℕ) → kindOf t r ≡ CHOICE → tokenOf t r ≡ tObject
-unfolding tokenOf pick
-choice-token t r k = rw k
+choice-token : (t : Table) (r : ℕ) → kindOf t r ≡ CHOICE → tokenOf t r ≡ some tObject
+unfolding tokenOf carries pick
+choice-token t r k = rw k (pick-same (marked t r 1) (some tObject))
 
-sequence-token : (t : Table) (r : ℕ) → kindOf t r ≡ SEQUENCE → tokenOf t r ≡ tokenPick (isArray t r) tArray tObject
-unfolding tokenOf pick isArray
+sequence-token : (t : Table) (r : ℕ) → kindOf t r ≡ SEQUENCE → tokenOf t r ≡ tokenPick (isArray t r) (some tArray) (some tObject)
+unfolding tokenOf carries pick isArray
 sequence-token t r k = rw k
 
-bracket-token : (t : Table) (r p : ℕ) (is : Items) (v : Val) → readArray t p (elements is t) r ≡ ok v → tokenOf t r ≡ tArray
+bracket-token : (t : Table) (r p : ℕ) (is : Items) (v : Val) → readArray t p (elements is t) r ≡ ok v → tokenOf t r ≡ some tArray
 unfolding readArray tokenPick
 bracket-token t r p is v =
     cases (eqb (kindOf t r) SEQUENCE-OF) (λ k e. list-token t r (eqb-true _ _ k)) (λ k. cases (isArray t r) (λ a e. sequence-token t r (array-kind t r a) ∙ rw a) (λ a e. refused e))
 
-brace-token : (t : Table) (r p : ℕ) (ms : Members) (v : Val) → readBraces t p (entries ms t) r ≡ ok v → tokenOf t r ≡ tObject
+brace-token : (t : Table) (r p : ℕ) (ms : Members) (v : Val) → readBraces t p (entries ms t) r ≡ ok v → tokenOf t r ≡ some tObject
 unfolding readBraces tokenPick
 brace-token t r p ms v =
     cases (eqb (kindOf t r) CHOICE) (λ k e. choice-token t r (eqb-true _ _ k))
     (λ k. cases (eqb (kindOf t r) SEQUENCE && not (isArray t r)) (λ a e. let b = both _ _ .0 a in sequence-token t r (eqb-true _ _ (b .0)) ∙ rw (not-true (isArray t r) (b .1))) (λ a e. refused e))
 
-plain-token : (j : Json) (t : Table) (r : ℕ) (v : Val) → plainly j t r ≡ ok v → tokenOf t r ≡ tokenIn j
-unfolding plainly tokenOf pick tokenIn
-plain-token (jnull p) t r v e = rw (at-kind t r NULL p _ v e .0)
-plain-token (jbool p b) t r v e = rw (at-kind t r BOOLEAN p _ v e .0)
-plain-token (jint p m n) t r v e = rw (at-kind t r INTEGER p _ v e .0)
-plain-token (jreal p) t r v e = rw (at-kind t r INTEGER p _ v e .0)
+plain-token : (j : Json) (t : Table) (r : ℕ) (v : Val) → plainly j t r ≡ ok v → tokenOf t r ≡ some (tokenIn j)
+unfolding plainly tokenOf carries pick tokenIn
+plain-token (jnull p) t r v e = rw (at-kind t r NULL p _ v e .0) (pick-same (marked t r 1) (some tNull))
+plain-token (jbool p b) t r v e = rw (at-kind t r BOOLEAN p _ v e .0) (pick-same (marked t r 1) (some tBoolean))
+plain-token (jint p m n) t r v e = rw (at-kind t r INTEGER p _ v e .0) (pick-same (marked t r 1) (some tNumber))
+plain-token (jreal p) t r v e = rw (at-kind t r INTEGER p _ v e .0) (pick-same (marked t r 1) (some tNumber))
 plain-token (jstr p s) t r v e = string-token t r p s v e
 plain-token (jarr p is) t r v e = bracket-token t r p is v e
 plain-token (jobj p ms) t r v e = brace-token t r p ms v e
 
 -- a tree that a type reads, if the type is not UNWRAPPED, has the type's token
-pub read-token : (j : Json) (t : Table) (r : ℕ) (v : Val) → isUnwrapped t r ≡ false → read j t r ≡ ok v → tokenOf t r ≡ tokenIn j
+pub read-token : (j : Json) (t : Table) (r : ℕ) (v : Val) → isUnwrapped t r ≡ false → read j t r ≡ ok v → tokenOf t r ≡ some (tokenIn j)
 read-token j t r v w e = plain-token j t r v (sym (read-plain j t r w) ∙ e)
 
 -- ---- null

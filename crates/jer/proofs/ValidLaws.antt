@@ -1,6 +1,6 @@
 -- Laws of searching a type's members: the first that passes a test, the position of a name, the alternative of a token.
 use Prim.Native.Nat.{ℕ, zero, suc, _+_, _≤_, _<_}
-use mathlib.Core.Path.{_≡_, refl, ap}
+use mathlib.Core.Path.{_≡_, refl, sym, ap}
 use mathlib.Core.List.{List, [], _∷_}
 use mathlib.Core.Bool.{Bool, true, false}
 use mathlib.Core.Option.{Option, none, some}
@@ -8,7 +8,7 @@ use native.Mathlib.Omega.{arith}
 use lib.Dec.{eqb, ltb}
 use lib.ListN.{getD}
 use borrow.Author.Tests.{ltb-true, ltb-false, eqb-true, eqb-false, eq-eqb, not-true}
-use Rattle.jer.specs.Table.{Table, isType, isUnwrapped, countOf, typeAt, nameAt, firstWhere, sameBytes, position, Token, tNull, tBoolean, tNumber, tString, tArray, tObject, tokenCode, sameToken, tokenOf, alternative}
+use Rattle.jer.specs.Table.{Table, isType, isUnwrapped, countOf, typeAt, nameAt, firstWhere, sameBytes, position, Token, tNull, tBoolean, tNumber, tString, tArray, tObject, tokenCode, codeOf, sameToken, tokenOf, alternative}
 use Rattle.jer.specs.Valid.{every, allDiffer}
 use Rattle.jer.proofs.Sane.{Sane}
 
@@ -114,10 +114,6 @@ position-of t r i g k u = first-of _ 0 (countOf t r) i record { from = omega ari
 
 -- ---- tokens
 
-pub sameToken-refl : (k : Token) → sameToken k k ≡ true
-unfolding sameToken
-sameToken-refl k = eq-eqb (tokenCode k) (tokenCode k) refl
-
 code-token : (k : Token) → getD (tNull ∷ tBoolean ∷ tNumber ∷ tString ∷ tArray ∷ tObject ∷ []) (tokenCode k) tNull ≡ k
 unfolding tokenCode
 code-token tNull = refl
@@ -127,18 +123,40 @@ code-token tString = refl
 code-token tArray = refl
 code-token tObject = refl
 
-pub sameToken-eq : (a b : Token) → sameToken a b ≡ true → a ≡ b
+pub code-eq : (a b : Token) → tokenCode a ≡ tokenCode b → a ≡ b
+code-eq a b e = cc (code-token a, code-token b, e)
+
+code-known : (k : Token) → tokenCode k ≡ 6 → ⊥
+unfolding tokenCode
+code-known tNull e = omega arith
+code-known tBoolean e = omega arith
+code-known tNumber e = omega arith
+code-known tString e = omega arith
+code-known tArray e = omega arith
+code-known tObject e = omega arith
+
+pub sameToken-eq : (a b : Token) → sameToken (some a) (some b) ≡ true → a ≡ b
+unfolding sameToken codeOf
+sameToken-eq a b e = code-eq a b (eqb-true _ _ e)
+
+same-some : (x : Option Token) (k : Token) → codeOf x ≡ tokenCode k → x ≡ some k
+unfolding codeOf
+same-some none k e = absurd (code-known k (sym e))
+same-some (some j) k e = ap some (code-eq j k e)
+
+sameToken-some : (x : Option Token) (k : Token) → sameToken x (some k) ≡ true → x ≡ some k
+unfolding sameToken codeOf
+sameToken-some x k e = same-some x k (eqb-true _ _ e)
+
+sameToken-refl : (x : Option Token) → sameToken x x ≡ true
 unfolding sameToken
-sameToken-eq a b e = cc (code-token a, code-token b, eqb-true (tokenCode a) (tokenCode b) e)
+sameToken-refl x = eq-eqb (codeOf x) (codeOf x) refl
 
-pub alternative-some : (t : Table) (r : ℕ) (k : Token) (i : ℕ) → alternative t r k ≡ some i → (i < countOf t r) × (tokenOf t (typeAt t r i) ≡ k)
+pub alternative-some : (t : Table) (r : ℕ) (k : Token) (i : ℕ) → alternative t r k ≡ some i → (i < countOf t r) × (tokenOf t (typeAt t r i) ≡ some k)
 unfolding alternative
-alternative-some t r k i e = let f = first-some _ 0 (countOf t r) i e in (omega arith, sameToken-eq _ k (f .passes))
+alternative-some t r k i e = let f = first-some _ 0 (countOf t r) i e in (omega arith, sameToken-some _ k (f .passes))
 
-pub alternative-none : (t : Table) (r : ℕ) (k : Token) → alternative t r k ≡ none → (i : ℕ) → i < countOf t r → sameToken (tokenOf t (typeAt t r i)) k ≡ false
+pub alternative-of : (t : Table) (r i : ℕ) (k : Token) → Sane t → isUnwrapped t r ≡ true → i < countOf t r → tokenOf t (typeAt t r i) ≡ some k → alternative t r k ≡ some i
 unfolding alternative
-alternative-none t r k e i u = first-none _ 0 (countOf t r) e i (omega arith) (omega arith)
-
-pub alternative-of : (t : Table) (r i : ℕ) → Sane t → isUnwrapped t r ≡ true → i < countOf t r → alternative t r (tokenOf t (typeAt t r i)) ≡ some i
-unfolding alternative
-alternative-of t r i g k u = first-of _ 0 (countOf t r) i record { from = omega arith; within = omega arith; passes = sameToken-refl (tokenOf t (typeAt t r i)); before = λ j l m. g .tokens r j i k m u }
+alternative-of t r i k g w u e =
+    first-of _ 0 (countOf t r) i record { from = omega arith; within = omega arith; passes = rw (← e) (sameToken-refl (tokenOf t (typeAt t r i))); before = λ j l m. rw (← e) (g .tokens r j i w m u) }

@@ -10,8 +10,9 @@ use borrow.Author.Tests.{leb-true, eqb-true, eqb-false, not-true}
 use Rattle.json.specs.Bytes.{Row, on, pick}
 use Rattle.json.specs.Utf8.{utf8}
 use Rattle.json.proofs.SoundRows.{pick-within, only, _⨾_}
-use Rattle.jer.specs.Table.{Table, rowCount, field, ENUMERATED, SEQUENCE, SEQUENCE-OF, CHOICE, MEMBER, kindOf, isType, extensible, isArray, isUnwrapped, elementOf, countOf, rootOf, memberRow, nameIn}
-use Rattle.jer.specs.Valid.{implies, unused, goodBlock, goodName, goodAlone, goodPointers, goodRules, namesDiffer, noneOptional, goodArray, goodUnwrapped}
+use Rattle.jer.specs.declared.Layout.the-variants.{Bare, Holds, Lists, Names, Unknown}
+use Rattle.jer.specs.Table.{Table, rowCount, field, BOOLEAN, INTEGER, ENUMERATED, NULL, OCTET-STRING, UTF8String, SEQUENCE, SEQUENCE-OF, CHOICE, MEMBER, Carried, carries, typeKind, isSome, kindOf, isType, extensible, isArray, isUnwrapped, elementOf, countOf, rootOf, memberRow, typeIn, nameIn}
+use Rattle.jer.specs.Valid.{implies, unused, goodBlock, goodName, goodFields, goodAlone, goodLinks, goodPointers, goodRules, namesDiffer, noneOptional, goodArray, goodUnwrapped}
 use Rattle.jer.proofs.ValidLaws.{every-at, every-below}
 
 pub both : (a b : Bool) → ((a && b) ≡ true) ↔ ((a ≡ true) × (b ≡ true))
@@ -49,20 +50,44 @@ pub record Block (t : Table) (r : ℕ) : Type 0 where
   pub holder : (i : ℕ) → i < countOf t r → Holder (kindOf t r)
 
 pub data Alone (t : Table) (r : ℕ) : Type 0 where
-  aType : kindOf t r ≤ 8 → Block t r → Alone t r
+  aType : isType t r ≡ true → Block t r → Alone t r
   aMember : kindOf t r ≡ MEMBER → 0 < r → utf8 (nameIn t r) ≡ true → Alone t r
+
+-- the kinds of types, in the order of their lines
+type-kinds : (typeKind BOOLEAN ≡ true) × (typeKind INTEGER ≡ true) × (typeKind ENUMERATED ≡ true) × (typeKind NULL ≡ true) × (typeKind OCTET-STRING ≡ true)
+    × (typeKind UTF8String ≡ true) × (typeKind SEQUENCE ≡ true) × (typeKind SEQUENCE-OF ≡ true) × (typeKind CHOICE ≡ true)
+unfolding typeKind carries pick isSome
+type-kinds = (refl, refl, refl, refl, refl, refl, refl, refl, refl)
+
+kind-type : (t : Table) (r k : ℕ) → kindOf t r ≡ k → typeKind k ≡ true → isType t r ≡ true
+unfolding isType
+kind-type t r k e h = rw e h
+
+pub enumerated-type : (t : Table) (r : ℕ) → kindOf t r ≡ ENUMERATED → isType t r ≡ true
+enumerated-type t r e = kind-type t r ENUMERATED e (type-kinds .2)
+
+pub sequence-type : (t : Table) (r : ℕ) → kindOf t r ≡ SEQUENCE → isType t r ≡ true
+sequence-type t r e = kind-type t r SEQUENCE e (type-kinds .6)
+
+pub choice-type : (t : Table) (r : ℕ) → kindOf t r ≡ CHOICE → isType t r ≡ true
+choice-type t r e = kind-type t r CHOICE e (type-kinds .8)
+
+-- a member's row is no type's
+pub member-no-type : {C : Type 0} (t : Table) (r : ℕ) → kindOf t r ≡ MEMBER → isType t r ≡ true → C
+unfolding isType typeKind carries pick isSome
+member-no-type t r k h = absurd (false≢true (rw k at h))
 
 pub block-empty : (t : Table) (r : ℕ) → countOf t r ≡ 0 → rootOf t r ≡ 0 → Block t r
 block-empty t r c o = record { few = omega arith; roots = omega arith; closed = λ e. omega arith; inside = λ i u. absurd (omega arith); holder = λ i u. absurd (omega arith) }
 
-leaf-alone : (t : Table) (r i n : ℕ) → i ≤ 3 → 4 < i + n → kindOf t r ≤ 8 → unused t r i n ≡ true → Alone t r
+leaf-alone : (t : Table) (r i n : ℕ) → i ≤ 3 → 4 < i + n → isType t r ≡ true → unused t r i n ≡ true → Alone t r
 unfolding unused countOf rootOf
 leaf-alone t r i n l u k e = aType k (block-empty t r (at 3 (omega arith) (omega arith)) (at 4 (omega arith) (omega arith)))
   where
     at : (j : ℕ) → i ≤ j → j < i + n → field t r j ≡ 0
     at j p q = eqb-true _ 0 (every-at _ i n e j p q)
 
-block-alone : (t : Table) (r least : ℕ) → Holder (kindOf t r) → kindOf t r ≤ 8 → goodBlock t r least ≡ true → Alone t r
+block-alone : (t : Table) (r least : ℕ) → Holder (kindOf t r) → isType t r ≡ true → goodBlock t r least ≡ true → Alone t r
 unfolding goodBlock memberRow
 block-alone t r least k l e =
     let p = simp both at e in
@@ -72,36 +97,60 @@ member-alone : (t : Table) (r : ℕ) → kindOf t r ≡ MEMBER → not (eqb r 0)
 unfolding goodName
 member-alone t r k n e = aMember k (let z = eqb-false r 0 (not-true _ n) in omega arith) ((simp both at e) .1 .1 .1)
 
-pub alone : (t : Table) (r : ℕ) → goodAlone t r ≡ true → Alone t r
-unfolding goodAlone
-alone t r h =
-    pick-within (λ x. x ≡ true → Alone t r) (kindOf t r) _ false
-    ((λ k e. leaf-alone t r 2 3 (omega arith) (omega arith) (omega arith) e)
-    ⨾ (λ k e. block-alone t r 1 (enumerated (only k)) (omega arith) e)
-    ⨾ (λ k e. leaf-alone t r 2 3 (omega arith) (omega arith) (omega arith) e)
-    ⨾ (λ k e. block-alone t r 0 (sequence (only k)) (omega arith) ((simp both at e) .0))
-    ⨾ (λ k e. leaf-alone t r 3 2 (omega arith) (omega arith) (omega arith) ((simp both at e) .1))
-    ⨾ (λ k e. block-alone t r 1 (choice (only k)) (omega arith) e)
-    ⨾ (λ k e. let p = simp both at e in member-alone t r (only k) (p .0) (p .1 .1))
-    ⨾ tt)
-    (λ e. absurd (false≢true e))
-    ((simp both at h) .1 .1)
+module _ (t : Table) (r : ℕ) where
+  bare-fields : {k : ℕ} → kindOf t r ≡ k → typeKind k ≡ true → goodFields Bare t r ≡ true → Alone t r
+  unfolding goodFields
+  bare-fields k y e = leaf-alone t r 2 6 (omega arith) (omega arith) (kind-type t r _ k y) e
+
+  holds-fields : {k : ℕ} (least : ℕ) → Holder k → kindOf t r ≡ k → typeKind k ≡ true → goodFields (Holds least) t r ≡ true → Alone t r
+  unfolding goodFields
+  holds-fields least h k y e = block-alone t r least (rw k h) (kind-type t r _ k y) ((simp both at e) .1 .0)
+
+  lists-fields : {k : ℕ} → kindOf t r ≡ k → typeKind k ≡ true → goodFields Lists t r ≡ true → Alone t r
+  unfolding goodFields
+  lists-fields k y e = leaf-alone t r 3 5 (omega arith) (omega arith) (kind-type t r _ k y) ((simp both at e) .0)
+
+  names-fields : kindOf t r ≡ MEMBER → goodFields Names t r ≡ true → Alone t r
+  unfolding goodFields
+  names-fields k e = let p = simp both at e in member-alone t r k (p .1 .0) (p .1 .1 .1)
+
+  no-fields : goodFields Unknown t r ≡ true → Alone t r
+  unfolding goodFields
+  no-fields e = absurd (false≢true e)
+
+  pub alone : goodAlone t r ≡ true → Alone t r
+  unfolding goodAlone carries
+  alone h =
+      pick-within (λ (x : Carried). goodFields (x .layout) t r ≡ true → Alone t r) (kindOf t r) _ _
+      ((λ k. bare-fields (only k) (type-kinds .0))
+      ⨾ (λ k. bare-fields (only k) (type-kinds .1))
+      ⨾ (λ k. holds-fields 1 (enumerated refl) (only k) (type-kinds .2))
+      ⨾ (λ k. bare-fields (only k) (type-kinds .3))
+      ⨾ (λ k. bare-fields (only k) (type-kinds .4))
+      ⨾ (λ k. bare-fields (only k) (type-kinds .5))
+      ⨾ (λ k. holds-fields 0 (sequence refl) (only k) (type-kinds .6))
+      ⨾ (λ k. lists-fields (only k) (type-kinds .7))
+      ⨾ (λ k. holds-fields 1 (choice refl) (only k) (type-kinds .8))
+      ⨾ (λ k. names-fields (only k))
+      ⨾ tt)
+      no-fields
+      ((simp both at h) .1)
 
 -- ---- by the kinds of the rows it points to
 
 pub element-type : (t : Table) (r : ℕ) → kindOf t r ≡ SEQUENCE-OF → goodPointers t r ≡ true → isType t (elementOf t r) ≡ true
-unfolding goodPointers
-element-type t r k h = rw (k, pick-now) at h
+unfolding goodPointers goodLinks carries pick
+element-type t r k h = rw k at h
 
-pub member-type : (t : Table) (r : ℕ) → kindOf t r ≡ MEMBER → goodPointers t r ≡ true → isType t (field t r 2) ≡ true
-unfolding goodPointers
-member-type t r k h = rw (k, pick-now) at h
+pub member-type : (t : Table) (r : ℕ) → kindOf t r ≡ MEMBER → goodPointers t r ≡ true → isType t (typeIn t r) ≡ true
+unfolding goodPointers goodLinks carries pick
+member-type t r k h = rw k at h
 
 pub member-kind : (t : Table) (r i : ℕ) → Holder (kindOf t r) → goodPointers t r ≡ true → i < countOf t r → kindOf t (memberRow t r i) ≡ MEMBER
-unfolding goodPointers
-member-kind t r i (enumerated k) h u = eqb-true _ _ (every-below _ _ (rw (k, pick-now) at h) i u)
-member-kind t r i (sequence k) h u = eqb-true _ _ (every-below _ _ (rw (k, pick-now) at h) i u)
-member-kind t r i (choice k) h u = eqb-true _ _ (every-below _ _ (rw (k, pick-now) at h) i u)
+unfolding goodPointers goodLinks carries pick
+member-kind t r i (enumerated k) h u = eqb-true _ _ (every-below _ _ (rw k at h) i u)
+member-kind t r i (sequence k) h u = eqb-true _ _ (every-below _ _ (rw k at h) i u)
+member-kind t r i (choice k) h u = eqb-true _ _ (every-below _ _ (rw k at h) i u)
 
 -- ---- each type by its other rules
 

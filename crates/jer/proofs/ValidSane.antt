@@ -8,13 +8,13 @@ use native.Mathlib.Omega.{arith}
 use native.Mathlib.Nat.{div-add-mod'}
 use lib.Dec.{ltb}
 use lib.ListN.{length, List·getD-eq-default}
-use borrow.Author.Tests.{ltb-true, ltb-false, leb-true, le-leb, eqb-true, not-true, not-false}
+use borrow.Author.Tests.{ltb-true, ltb-false, leb-true, eqb-true, not-true, not-false}
 use Rattle.json.specs.Utf8.{utf8}
 use Rattle.jer.specs.Table.{Table, rowCount, field, MEMBER, kindOf, isType, countOf, rootOf, memberRow, typeAt, nameIn, nameAt}
 use Rattle.jer.specs.Valid.{goodAlone, goodPointers, goodRules, namesDiffer, noneOptional, goodArray, goodUnwrapped, goodSizes, orElse, pass, firstBad}
 use Rattle.jer.proofs.Sane.{Sane}
 use Rattle.jer.proofs.ValidLaws.{every-below, differ-at, first-none}
-use Rattle.jer.proofs.ValidRows.{both, Holder, Block, Alone, aType, aMember, block-empty, alone, element-type, member-type, member-kind, names-differ, choice-required, array-good, unwrapped-good}
+use Rattle.jer.proofs.ValidRows.{both, Holder, Block, Alone, aType, aMember, block-empty, member-no-type, alone, element-type, member-type, member-kind, names-differ, choice-required, array-good, unwrapped-good}
 
 -- ---- what the passes say of the rows
 
@@ -69,23 +69,22 @@ module _ (t : Table) (g : Passed t) where
   row-kind r u = row-inside r 0 u
 
   block-at : (r : ℕ) → isType t r ≡ true → Block t r
-  unfolding isType countOf rootOf
+  unfolding countOf rootOf
   block-at r k = go (ltb r (rowCount t)) refl
     where
       of : Alone t r → Block t r
       of (aType l b) = b
-      of (aMember m n u) = absurd (omega (arith, leb-true))
+      of (aMember m n u) = member-no-type t r m k
 
       go : (c : Bool) → ltb r (rowCount t) ≡ c → Block t r
       go true w = of (alone t r (g .alones r (ltb-true r _ w)))
       go false w = let e = past-end t (g .sizes) r in block-empty t r (e 3 (ltb-false r _ w)) (e 4 (ltb-false r _ w))
 
   whole-type : isType t 0 ≡ true
-  unfolding isType
   whole-type = go (alone t 0 (g .alones 0 (rows-whole t (g .sizes) .0)))
     where
       go : Alone t 0 → isType t 0 ≡ true
-      go (aType l b) = le-leb _ _ l
+      go (aType l b) = l
       go (aMember m n u) = absurd (omega arith)
 
   holder-at : (r i : ℕ) → isType t r ≡ true → i < countOf t r → Holder (kindOf t r)
@@ -103,7 +102,7 @@ module _ (t : Table) (g : Passed t) where
   name-at r i k u = go (alone t _ (g .alones _ (block-at r k .inside i u)))
     where
       go : Alone t (memberRow t r i) → utf8 (nameIn t (memberRow t r i)) ≡ true
-      go (aType l b) = absurd (let m = kind-at r i k u in omega arith)
+      go (aType l b) = member-no-type t _ (kind-at r i k u) l
       go (aMember m n e) = e
 
 pub valid-sane : (t : Table) → firstBad t ≡ none → Sane t

@@ -6,6 +6,8 @@ use mathlib.Core.Option.{Option, none, some}
 use lib.Dec.{eqb, leb}
 use lib.ListN.{length, getD, take, drop}
 use Rattle.json.specs.Bytes.{on, pick}
+use Rattle.jer.specs.declared.Layout.{Layout}
+use Rattle.jer.specs.declared.Layout.the-variants.{Bare, Holds, Lists, Names, Unknown}
 
 -- 01, Type table: "Rows of eight 32-bit numbers, fields 0 to 7." The rows are one list of numbers; the names are bytes beside it.
 pub record Table : Type 0 where
@@ -53,12 +55,6 @@ CHOICE = 8
 abbrev pub MEMBER : ℕ
 MEMBER = 9
 
-unfoldable pub kindOf : Table → ℕ → ℕ
-kindOf t r = field t r 0
-
-unfoldable pub isType : Table → ℕ → Bool
-isType t r = leb (kindOf t r) CHOICE
-
 -- ---- marks
 
 -- 01, What the library handles: "extension markers, ARRAY, BASE64, UNWRAPPED"
@@ -79,17 +75,77 @@ EXTENSIBLE = 2
 abbrev pub OPTIONAL : ℕ
 OPTIONAL = 1
 
--- the sum of the marks that a row of the kind may carry
-unfoldable pub marksFor : ℕ → ℕ
-marksFor kind =
+-- ---- tokens
+
+pub data Token : Type 0 where
+  tNull tBoolean tNumber tString tArray tObject : Token
+
+unfoldable pub tokenCode : Token → ℕ
+tokenCode tNull = 0
+tokenCode tBoolean = 1
+tokenCode tNumber = 2
+tokenCode tString = 3
+tokenCode tArray = 4
+tokenCode tObject = 5
+
+-- 6 where there is none
+unfoldable pub codeOf : Option Token → ℕ
+codeOf none = 6
+codeOf (some k) = tokenCode k
+
+unfoldable pub sameToken : Option Token → Option Token → Bool
+sameToken a b = eqb (codeOf a) (codeOf b)
+
+unfoldable pub tokenPick : Bool → Option Token → Option Token → Option Token
+tokenPick true a b = a
+tokenPick false a b = b
+
+unfoldable pub isSome : {A : Type 0} → Option A → Bool
+isSome none = false
+isSome (some a) = true
+
+-- ---- what a row of each kind carries
+
+pub record Carried : Type 0 where
+  -- the sum of the marks that it may have
+  pub marks : ℕ
+  pub layout : Layout
+  -- of a type, the token that a value begins with: without mark 1, and with it
+  pub token : Option Token
+  pub other : Option Token
+
+abbrev pub carried : ℕ → Layout → Option Token → Option Token → Carried
+carried m l a b = record { marks = m; layout = l; token = a; other = b }
+
+-- a kind that has no line here is no kind
+-- 01, Type table: "ARRAY sequences and SEQUENCE OF make arrays; other sequences and wrapped choices make objects."
+unfoldable pub carries : ℕ → Carried
+carries kind =
     pick kind
-    (on ENUMERATED ENUMERATED (λ k. EXTENSIBLE)
-    ∷ on OCTET-STRING OCTET-STRING (λ k. BASE64)
-    ∷ on SEQUENCE SEQUENCE (λ k. ARRAY + EXTENSIBLE)
-    ∷ on CHOICE CHOICE (λ k. UNWRAPPED + EXTENSIBLE)
-    ∷ on MEMBER MEMBER (λ k. OPTIONAL)
+    (on BOOLEAN BOOLEAN (λ k. carried 0 Bare (some tBoolean) (some tBoolean))
+    ∷ on INTEGER INTEGER (λ k. carried 0 Bare (some tNumber) (some tNumber))
+    ∷ on ENUMERATED ENUMERATED (λ k. carried EXTENSIBLE (Holds 1) (some tString) (some tString))
+    ∷ on NULL NULL (λ k. carried 0 Bare (some tNull) (some tNull))
+    ∷ on OCTET-STRING OCTET-STRING (λ k. carried BASE64 Bare (some tString) (some tString))
+    ∷ on UTF8String UTF8String (λ k. carried 0 Bare (some tString) (some tString))
+    ∷ on SEQUENCE SEQUENCE (λ k. carried (ARRAY + EXTENSIBLE) (Holds 0) (some tObject) (some tArray))
+    ∷ on SEQUENCE-OF SEQUENCE-OF (λ k. carried 0 Lists (some tArray) (some tArray))
+    ∷ on CHOICE CHOICE (λ k. carried (UNWRAPPED + EXTENSIBLE) (Holds 1) (some tObject) (some tObject))
+    ∷ on MEMBER MEMBER (λ k. carried OPTIONAL Names none none)
     ∷ [])
-    0
+    (carried 0 Unknown none none)
+
+-- the kinds of types
+unfoldable pub typeKind : ℕ → Bool
+typeKind kind = isSome (carries kind .token)
+
+unfoldable pub kindOf : Table → ℕ → ℕ
+kindOf t r = field t r 0
+
+unfoldable pub isType : Table → ℕ → Bool
+isType t r = typeKind (kindOf t r)
+
+-- ---- marks of a row
 
 unfoldable pub marksOf : Table → ℕ → ℕ
 marksOf t r = field t r 1
@@ -187,51 +243,18 @@ sameBytes (a ∷ xs) (b ∷ bs) = elim (eqb a b) [ true ↦ sameBytes xs bs | fa
 unfoldable pub position : Table → ℕ → List ℕ → Option ℕ
 position t r s = firstWhere (λ i. sameBytes (nameAt t r i) s) 0 (countOf t r)
 
--- ---- tokens
+-- ---- the token of a type
 
-pub data Token : Type 0 where
-  tNull tBoolean tNumber tString tArray tObject : Token
-
-unfoldable pub tokenCode : Token → ℕ
-tokenCode tNull = 0
-tokenCode tBoolean = 1
-tokenCode tNumber = 2
-tokenCode tString = 3
-tokenCode tArray = 4
-tokenCode tObject = 5
-
-unfoldable pub sameToken : Token → Token → Bool
-sameToken a b = eqb (tokenCode a) (tokenCode b)
-
-unfoldable pub tokenPick : Bool → Token → Token → Token
-tokenPick true a b = a
-tokenPick false a b = b
-
--- the token that a value of the type at r begins with, if it is not UNWRAPPED
--- 01, Type table: "ARRAY sequences and SEQUENCE OF make arrays; other sequences and wrapped choices make objects."
-unfoldable pub tokenOf : Table → ℕ → Token
-tokenOf t r =
-    pick (kindOf t r)
-    (on BOOLEAN BOOLEAN (λ k. tBoolean)
-    ∷ on INTEGER INTEGER (λ k. tNumber)
-    ∷ on ENUMERATED ENUMERATED (λ k. tString)
-    ∷ on NULL NULL (λ k. tNull)
-    ∷ on OCTET-STRING UTF8String (λ k. tString)
-    ∷ on SEQUENCE SEQUENCE (λ k. tokenPick (isArray t r) tArray tObject)
-    ∷ on SEQUENCE-OF SEQUENCE-OF (λ k. tArray)
-    ∷ [])
-    tObject
+-- the token that a value of the type at r begins with, if it is not UNWRAPPED; none of what is no type
+unfoldable pub tokenOf : Table → ℕ → Option Token
+tokenOf t r = tokenPick (marked t r 1) (carries (kindOf t r) .other) (carries (kindOf t r) .token)
 
 -- the alternative of an UNWRAPPED choice that a token picks
 -- 01, Reading: "UNWRAPPED: the token's kind picks the alternative."
 unfoldable pub alternative : Table → ℕ → Token → Option ℕ
-alternative t r k = firstWhere (λ i. sameToken (tokenOf t (typeAt t r i)) k) 0 (countOf t r)
+alternative t r k = firstWhere (λ i. sameToken (tokenOf t (typeAt t r i)) (some k)) 0 (countOf t r)
 
 -- ---- null
-
-unfoldable pub isSome : {A : Type 0} → Option A → Bool
-isSome none = false
-isSome (some a) = true
 
 -- 01, Type table: "can be null (NULL, or UNWRAPPED with a NULL alternative)"
 unfoldable pub canBeNull : Table → ℕ → Bool

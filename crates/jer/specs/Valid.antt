@@ -7,7 +7,9 @@ use lib.Dec.{eqb, ltb, leb}
 use lib.ListN.{length}
 use Rattle.json.specs.Bytes.{on, pick}
 use Rattle.json.specs.Utf8.{utf8}
-use Rattle.jer.specs.Table.{Table, rowCount, field, BOOLEAN, INTEGER, ENUMERATED, NULL, OCTET-STRING, UTF8String, SEQUENCE, SEQUENCE-OF, CHOICE, MEMBER, kindOf, isType, marksFor, marksOf, extensible, isArray, isUnwrapped, firstOf, elementOf, countOf, rootOf, memberRow, optional, typeIn, typeAt, nameStart, nameLength, nameIn, nameAt, mayMiss, firstWhere, sameBytes, sameToken, tokenOf, nullTaken}
+use Rattle.jer.specs.declared.Layout.{Layout}
+use Rattle.jer.specs.declared.Layout.the-variants.{Bare, Holds, Lists, Names, Unknown}
+use Rattle.jer.specs.Table.{Table, rowCount, field, ENUMERATED, SEQUENCE, CHOICE, MEMBER, carries, kindOf, isType, marksOf, extensible, isArray, isUnwrapped, firstOf, elementOf, countOf, rootOf, memberRow, optional, typeIn, typeAt, nameStart, nameLength, nameIn, nameAt, mayMiss, firstWhere, sameBytes, sameToken, tokenOf, nullTaken}
 
 -- does every one of n numbers from i on pass the test?
 unfoldable pub every : (ℕ → Bool) → ℕ → ℕ → Bool
@@ -37,24 +39,21 @@ goodName t r = leb 1 (nameLength t r) && (leb (nameLength t r) 128 && (leb (name
 
 -- every mark in field 1 is one that the kind may carry: mark 1 is what is left over by 2, mark 2 the other half
 unfoldable pub goodMarks : Table → ℕ → Bool
-goodMarks t r = leb (marksOf t r % 2) (marksFor (kindOf t r) % 2) && leb (marksOf t r / 2) (marksFor (kindOf t r) / 2)
+goodMarks t r = leb (marksOf t r % 2) (carries (kindOf t r) .marks % 2) && leb (marksOf t r / 2) (carries (kindOf t r) .marks / 2)
+
+unfoldable pub goodFields : Layout → Table → ℕ → Bool
+goodFields Bare t r = unused t r 2 6
+-- "A SEQUENCE of 0 has 0 in field 2."
+goodFields (Holds least) t r = unused t r 5 3 && (goodBlock t r least && implies (eqb (countOf t r) 0) (eqb (firstOf t r) 0))
+goodFields Lists t r = unused t r 3 5 && ltb (elementOf t r) (rowCount t)
+-- a member row is not row 0
+goodFields Names t r = unused t r 5 3 && (not (eqb r 0) && (ltb (typeIn t r) (rowCount t) && goodName t r))
+goodFields Unknown t r = false
 
 -- 01, Refusal numbers: "each by itself (row 0 is a type)"; a kind or a mark that is none of 01's is bad:
 -- 01, What the library handles: "Not in the base: any other type, DEFAULT, version brackets."
 unfoldable pub goodAlone : Table → ℕ → Bool
-goodAlone t r =
-    unused t r 5 3 && (goodMarks t r && pick (kindOf t r)
-    (on BOOLEAN INTEGER (λ k. unused t r 2 3)
-    ∷ on ENUMERATED ENUMERATED (λ k. goodBlock t r 1)
-    ∷ on NULL UTF8String (λ k. unused t r 2 3)
-    -- 01, Type table: "A SEQUENCE of 0 has 0 in field 2."
-    ∷ on SEQUENCE SEQUENCE (λ k. goodBlock t r 0 && implies (eqb (countOf t r) 0) (eqb (firstOf t r) 0))
-    ∷ on SEQUENCE-OF SEQUENCE-OF (λ k. ltb (elementOf t r) (rowCount t) && unused t r 3 2)
-    ∷ on CHOICE CHOICE (λ k. goodBlock t r 1)
-    -- a member row is not row 0
-    ∷ on MEMBER MEMBER (λ k. not (eqb r 0) && (ltb (typeIn t r) (rowCount t) && goodName t r))
-    ∷ [])
-    false)
+goodAlone t r = goodMarks t r && goodFields (carries (kindOf t r) .layout) t r
 
 -- ---- by the kinds of the rows it points to
 
@@ -62,17 +61,16 @@ goodAlone t r =
 abbrev pub ownsMembers : Table → ℕ → Bool
 ownsMembers t r = every (λ i. eqb (kindOf t (memberRow t r i)) MEMBER) 0 (countOf t r)
 
+unfoldable pub goodLinks : Layout → Table → ℕ → Bool
+goodLinks Bare t r = true
+goodLinks (Holds least) t r = ownsMembers t r
+goodLinks Lists t r = isType t (elementOf t r)
+goodLinks Names t r = isType t (typeIn t r)
+goodLinks Unknown t r = true
+
 -- 01, Refusal numbers: "by the kinds of the rows it points to"
 unfoldable pub goodPointers : Table → ℕ → Bool
-goodPointers t r =
-    pick (kindOf t r)
-    (on SEQUENCE-OF SEQUENCE-OF (λ k. isType t (elementOf t r))
-    ∷ on MEMBER MEMBER (λ k. isType t (typeIn t r))
-    ∷ on ENUMERATED ENUMERATED (λ k. ownsMembers t r)
-    ∷ on SEQUENCE SEQUENCE (λ k. ownsMembers t r)
-    ∷ on CHOICE CHOICE (λ k. ownsMembers t r)
-    ∷ [])
-    true
+goodPointers t r = goodLinks (carries (kindOf t r) .layout) t r
 
 -- ---- each type by its other rules
 

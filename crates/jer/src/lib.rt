@@ -69,6 +69,20 @@ pub enum Writing {
     Refused(Refusal),
 }
 
+// How a row of the type table uses its fields from 2 on.
+pub enum Layout {
+    // Not at all.
+    Bare,
+    // First member row, how many members (at least so many), how many of them are root.
+    Holds(u32),
+    // The element's type row.
+    Lists,
+    // A member: its type row, its name's start and length.
+    Names,
+    // A row of no kind.
+    Unknown,
+}
+
 // Document 01's number of a refusal, with its first and second amount.
 pub struct Reported {
     pub number: u32,

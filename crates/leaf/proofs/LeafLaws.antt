@@ -14,12 +14,12 @@ use Rattle.json.specs.Bytes.{pick}
 use Rattle.jer.specs.declared.Cause.{Cause}
 use Rattle.jer.specs.declared.Cause.the-variants.{OtherKind, BadNumber, BadString, Missing, Unknown}
 use Rattle.jer.specs.declared.Refusal.the-variants.{AtByte}
-use Rattle.jer.specs.Table.{Table, kindOf, typeAt, position, extensible, isBase64, isUnwrapped, openUnwrapped, alternative, Token, tokenCode, sameToken, tNull, tBoolean, tNumber, tString, tArray, tObject}
+use Rattle.jer.specs.Table.{Table, kindOf, typeAt, position, extensible, isBase64, isUnwrapped, openUnwrapped, alternative, Token, tokenCode, tNull, tBoolean, tNumber, tString, tArray, tObject}
 use Rattle.jer.specs.Value.{Val, vBool, vInt, vEnum, vNull, vBytes, vChoice}
 use Rattle.jer.specs.Answer.{Res, ok, no, bind, at}
 use Rattle.jer.specs.Read.{readString, readItem, readOctets, octetsOf, atKind, nullValue, missingElement}
 use Rattle.jer.specs.Octets.{unhex, unbase64}
-use Rattle.jer.proofs.ValidLaws.{sameToken-eq}
+use Rattle.jer.proofs.ValidLaws.{code-eq}
 use Rattle.jer.specs.Rows.{row, numbers, bit, above, rowsOf, poolOf}
 use Rattle.tokens.specs.Places.{byteAt, runFrom}
 use Rattle.tokens.specs.Strings.{denoted, stringEnd}
@@ -206,8 +206,7 @@ module _ (t : Table) (r p q : ℕ) (y : Option ℕ) where
 -- a token by its number
 pub by-token : {rows₁ rows₀ pool₁ pool₀ : List ℕ} {i o : ℕ} {t : Table} {r : ℕ} {z : Step} (s : List ℕ) (p : ℕ) (j : Token) {token : ℕ}
     → Stepped z rows₁ rows₀ pool₁ pool₀ i o t r (leafAt t s j r p) → token ≡ tokenCode j → (k : Token) → token ≡ tokenCode k → Stepped z rows₁ rows₀ pool₁ pool₀ i o t r (leafAt t s k r p)
-unfolding sameToken
-by-token {t = t} {r = r} s p j f h k e = stepped (ap (λ (n : Token). leafAt t s n r p) (sym (sameToken-eq j k (eq-eqb (tokenCode j) (tokenCode k) (sym h ∙ e))))) f
+by-token {t = t} {r = r} s p j f h k e = stepped (ap (λ (n : Token). leafAt t s n r p) (sym (code-eq j k (sym h ∙ e)))) f
 
 -- a string's token is in the text
 pub string-inside : (s : List ℕ) (p : ℕ) {token : ℕ} → token ≡ tokenCode (tokenAt s p) → token ≡ 3 → p < length s

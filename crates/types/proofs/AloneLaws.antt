@@ -1,70 +1,27 @@
 -- The first pass. Assumes nothing.
 use mathlib.Core.Path.{_≡_, refl, sym, ap, _∙_}
-use mathlib.Core.Logic.{_⊎_, inl, inr}
 use mathlib.Core.List.{List}
 use mathlib.Core.Bool.{Bool, true, false, not, _&&_, _||_, and-assoc}
 use Prim.Native.Nat.{ℕ, zero, suc, _+_, _-_, _<_, _≤_}
 use native.Mathlib.Omega.{arith}
-use borrow.Author.Tests.{not-true, not-false, leb-true, leb-false, le-leb, lt-leb}
+use borrow.Author.Tests.{not-true, not-false, le-leb, lt-leb}
 use lib.Dec.{eqb, leb, ltb}
 use lib.ListN.{length, take, drop}
-use Rattle.json.specs.Bytes.{pick}
 use Rattle.json.specs.Utf8.{utf8}
-use Rattle.jer.specs.Table.{Table, rowCount, field, kindOf, marksOf, extensible, firstOf, elementOf, countOf, rootOf, nameIn}
-use Rattle.jer.specs.Valid.{every, implies, unused, goodBlock, goodName, goodMarks, goodAlone}
+use Rattle.jer.specs.declared.Layout.{Layout}
+use Rattle.jer.specs.declared.Layout.the-variants.{Bare, Holds, Lists, Names, Unknown}
+use Rattle.jer.specs.Table.{Table, rowCount, field, carries, kindOf, extensible, firstOf, elementOf, countOf, rootOf, nameIn}
+use Rattle.jer.specs.Valid.{every, implies, unused, goodBlock, goodName, goodMarks, goodFields, goodAlone}
 use Rattle.types.specs.declared.row.Row.{Row}
 use Rattle.types.specs.Rows.{rowOf}
 use Rattle.types.specs.Bytes.{Ascii}
 use Rattle.types.specs.Sure.{NameInside}
-use Rattle.types.proofs.ByteLaws.{inside, above, other, ascii-utf8, ascii-part}
-use Rattle.types.proofs.RowLaws.{kind-of, kind-is, kind-not}
+use Rattle.types.proofs.ByteLaws.{ascii-utf8, ascii-part}
 
 -- ---- unused fields
 
-every-and : (f : ℕ → Bool) (i n : ℕ) → every f i (suc n) ≡ (f i && every f (suc i) n)
-unfolding every
-every-and f i n = go (f i)
-  where
-    go : (b : Bool) → elim b as (λ z. Bool) [ true ↦ every f (suc i) n | false ↦ false ] ≡ (b && every f (suc i) n)
-    go true = refl
-    go false = refl
-
-every-none : (f : ℕ → Bool) (i : ℕ) → every f i 0 ≡ true
-unfolding every
-every-none f i = refl
-
-and-end : (a b c : Bool) → (a && b && c) ≡ (a && (b && (c && true)))
-and-end true true true = refl
-and-end true true false = refl
-and-end true false c = refl
-and-end false b c = refl
-
-and-two : (a b : Bool) → (a && b) ≡ (a && (b && true))
-and-two true true = refl
-and-two true false = refl
-and-two false b = refl
-
-module _ (t : Table) (r : ℕ) where
-  pub unused-end : (eqb (field t r 5) 0 && eqb (field t r 6) 0 && eqb (field t r 7) 0) ≡ unused t r 5 3
-  unfolding unused
-  unused-end =
-      rw (every-and (λ k. eqb (field t r k) 0) 5 2, every-and (λ k. eqb (field t r k) 0) 6 1, every-and (λ k. eqb (field t r k) 0) 7 0, every-none (λ k. eqb (field t r k) 0) 8)
-      (and-end (eqb (field t r 5) 0) (eqb (field t r 6) 0) (eqb (field t r 7) 0))
-
-  module _ {w : Row} (e : w ≡ rowOf t r) where
-    pub unused-bare : (eqb (w .first) 0 && eqb (w .members) 0 && eqb (w .root) 0) ≡ unused t r 2 3
-    unfolding unused firstOf countOf rootOf
-    unused-bare =
-        rw e
-        (rw (every-and (λ k. eqb (field t r k) 0) 2 2, every-and (λ k. eqb (field t r k) 0) 3 1, every-and (λ k. eqb (field t r k) 0) 4 0, every-none (λ k. eqb (field t r k) 0) 5)
-        (and-end (eqb (field t r 2) 0) (eqb (field t r 3) 0) (eqb (field t r 4) 0)))
-
-    pub unused-counts : (eqb (w .members) 0 && eqb (w .root) 0) ≡ unused t r 3 2
-    unfolding unused countOf rootOf
-    unused-counts =
-        rw e
-        (rw (every-and (λ k. eqb (field t r k) 0) 3 1, every-and (λ k. eqb (field t r k) 0) 4 0, every-none (λ k. eqb (field t r k) 0) 5)
-        (and-two (eqb (field t r 3) 0) (eqb (field t r 4) 0)))
+abbrev pub zero-at : Table → ℕ → ℕ → Bool
+zero-at t r i = eqb (field t r i) 0
 
 -- ---- blocks and names
 
@@ -135,64 +92,38 @@ unfolding implies
 implies-or true b = refl
 implies-or false b = refl
 
--- before its kind is asked: its last fields are 0, and its marks are its kind's
-pub record Clean (t : Table) (r : ℕ) : Type 0 where
-  pub spare : unused t r 5 3 ≡ true
-  pub marks : goodMarks t r ≡ true
-
-module _ (t : Table) (r : ℕ) {z : Bool} (o : z ≡ unused t r 5 3) where
-  pub alone-used : not z ≡ true → false ≡ goodAlone t r
+-- a row by its layout
+module _ (t : Table) (r : ℕ) {m : Bool} (n : m ≡ goodMarks t r) where
+  pub alone-marked : not m ≡ true → false ≡ goodAlone t r
   unfolding goodAlone
-  alone-used h = rw (sym o ∙ not-true z h)
+  alone-marked f = rw (sym n ∙ not-true m f)
 
-  module _ (g : not z ≡ false) {m : Bool} (n : m ≡ goodMarks t r) where
-    pub alone-marked : not m ≡ true → false ≡ goodAlone t r
+  module _ (f : not m ≡ false) {l : Layout} (y : l ≡ carries (kindOf t r) .layout) where
+    fields-at : (k : Layout) → l ≡ k → goodFields k t r ≡ goodAlone t r
     unfolding goodAlone
-    alone-marked f = rw (sym o ∙ not-false z g, sym n ∙ not-true m f)
+    fields-at k e = rw (sym n ∙ not-false m f) (ap (λ (x : Layout). goodFields x t r) (sym e ∙ y))
 
-    pub clean : not m ≡ false → Clean t r
-    clean f = record { spare = sym o ∙ not-false z g; marks = sym n ∙ not-false m f }
+    pub alone-bare : {u : Bool} → l ≡ Bare → u ≡ unused t r 2 6 → u ≡ goodAlone t r
+    unfolding goodFields
+    alone-bare k p = p ∙ fields-at Bare k
 
--- a row by its kind
-module _ (t : Table) (r : ℕ) (c : Clean t r) where
-  alone-first : kindOf t r ≤ 1 → unused t r 2 3 ≡ goodAlone t r
-  unfolding goodAlone pick
-  alone-first k = rw (c .spare, c .marks, inside (kindOf t r) 0 1 (omega arith) k, pick)
+    pub alone-unknown : l ≡ Unknown → false ≡ goodAlone t r
+    unfolding goodFields
+    alone-unknown k = fields-at Unknown k
 
-  alone-second : 3 ≤ kindOf t r → kindOf t r ≤ 5 → unused t r 2 3 ≡ goodAlone t r
-  unfolding goodAlone pick
-  alone-second i j = rw (c .spare, c .marks, above (kindOf t r) 0 1 (omega arith), above (kindOf t r) 2 2 i, inside (kindOf t r) 3 5 i j, pick)
+    module _ {w : Row} (e : w ≡ rowOf t r) {u : Bool} where
+      pub alone-holds : {least : ℕ} {b : Bool} → l ≡ Holds least → u ≡ unused t r 5 3 → b ≡ goodBlock t r least
+          → (u && b && (not (eqb (w .members) 0) || eqb (w .first) 0)) ≡ goodAlone t r
+      unfolding goodFields
+      alone-holds {least = least} k p q = rw (e, p, q, implies-or (eqb (countOf t r) 0) (eqb (firstOf t r) 0), and-assoc) (fields-at (Holds least) k)
 
-  module _ {w : Row} (e : w ≡ rowOf t r) where
-    pub alone-block : {b : Bool} → (w .kind ≡ 2) ⊎ (w .kind ≡ 8) → b ≡ goodBlock t r 1 → b ≡ goodAlone t r
-    unfolding goodAlone pick
-    alone-block (inl k) p = p ∙ rw (c .spare, c .marks, kind-is t r e k)
-    alone-block (inr k) p = p ∙ rw (c .spare, c .marks, kind-is t r e k)
+      pub alone-lists : {a n : ℕ} → l ≡ Lists → u ≡ unused t r 3 5 → a ≡ w .first → n ≡ rowCount t → (u && ltb a n) ≡ goodAlone t r
+      unfolding goodFields elementOf firstOf
+      alone-lists k p q n = rw (q, e, p, n) (fields-at Lists k)
 
-    pub alone-sequence : {b : Bool} → w .kind ≡ 6 → b ≡ goodBlock t r 0 → (b && (not (eqb (w .members) 0) || eqb (w .first) 0)) ≡ goodAlone t r
-    unfolding goodAlone pick
-    alone-sequence k p = rw (c .spare, c .marks, kind-is t r e k) (rw (e, p, implies-or (eqb (countOf t r) 0) (eqb (firstOf t r) 0)))
-
-    pub alone-sequence-of : {v : Bool} {a n : ℕ} → w .kind ≡ 7 → a ≡ w .first → n ≡ rowCount t → v ≡ unused t r 3 2 → (ltb a n && v) ≡ goodAlone t r
-    unfolding goodAlone pick elementOf firstOf
-    alone-sequence-of k a n q = rw (c .spare, c .marks, kind-is t r e k) (rw (a, e, n, q))
-
-    pub alone-member : {b : Bool} {a n : ℕ} → w .kind ≡ 9 → a ≡ w .first → n ≡ rowCount t → b ≡ goodName t r → (not (eqb r 0) && ltb a n && b) ≡ goodAlone t r
-    unfolding goodAlone pick firstOf
-    alone-member k a n p = rw (c .spare, c .marks, kind-is t r e k) (rw (a, e, n, p) (simp and-assoc))
-
-    pub alone-leaf : {u : Bool} → w .kind < 6 → (w .kind ≡ 2 → ⊥) → u ≡ unused t r 2 3 → u ≡ goodAlone t r
-    alone-leaf i n p = p ∙ go (leb (kindOf t r) 1) refl
-      where
-        k : w .kind ≡ kindOf t r
-        k = kind-of t r e
-
-        go : (b : Bool) → leb (kindOf t r) 1 ≡ b → unused t r 2 3 ≡ goodAlone t r
-        go true h = alone-first (leb-true (kindOf t r) 1 h)
-        go false h = let l = leb-false (kindOf t r) 1 h in let q = kind-not t r e 2 n in alone-second (omega arith) (omega (arith, k))
-
-    pub alone-other : 6 ≤ w .kind → (w .kind ≡ 6 → ⊥) → (w .kind ≡ 7 → ⊥) → (w .kind ≡ 8 → ⊥) → (w .kind ≡ 9 → ⊥) → false ≡ goodAlone t r
-    unfolding goodAlone pick
-    alone-other i n₆ n₇ n₈ n₉ =
-        let k = kind-of t r e in
-        rw (c .spare, c .marks, above (kindOf t r) 0 1 (omega arith), above (kindOf t r) 2 2 (omega arith), above (kindOf t r) 3 5 (omega arith), other (kindOf t r) 6 (kind-not t r e 6 n₆), other (kindOf t r) 7 (kind-not t r e 7 n₇), other (kindOf t r) 8 (kind-not t r e 8 n₈), other (kindOf t r) 9 (kind-not t r e 9 n₉), pick)
+      pub alone-names : {a n : ℕ} {b : Bool} → l ≡ Names → u ≡ unused t r 5 3 → a ≡ w .first → n ≡ rowCount t → b ≡ goodName t r
+          → (u && not (eqb r 0) && ltb a n && b) ≡ goodAlone t r
+      unfolding goodFields firstOf
+      alone-names {a = a} {n = n} {b = b} k p q v g =
+          let z : (u && not (eqb r 0) && ltb a n && b) ≡ (u && (not (eqb r 0) && (ltb a n && b))) = simp and-assoc in
+          z ∙ rw (q, e, p, v, g) (fields-at Names k)

@@ -5,7 +5,7 @@ use mathlib.Core.Bool.{Bool, not, _&&_}
 use Prim.Native.Nat.{ℕ, _-_}
 use native.Mathlib.Omega.{arith}
 use lib.Dec.{eqb}
-use Rattle.jer.specs.Table.{Table, countOf, memberRow, optional, typeAt, nameIn, nameAt, mayMiss, sameBytes, isUnwrapped, tokenCode, sameToken, tokenOf, nullTaken}
+use Rattle.jer.specs.Table.{Table, countOf, memberRow, optional, typeAt, nameIn, nameAt, mayMiss, sameBytes, isUnwrapped, codeOf, sameToken, tokenOf, nullTaken}
 use Rattle.jer.specs.Valid.{every}
 use Rattle.types.specs.declared.row.Row.{Row}
 use Rattle.types.specs.declared.members.By.{By}
@@ -20,7 +20,7 @@ module _ (t : Table) (r i j : ℕ) {by : By} {a b : ℕ} where
   unfolding alike nameAt
   alike-name h p q u v z = z ∙ rw (h, u, v, p, q)
 
-  pub alike-token : {m n : ℕ} → by ≡ Token → a ≡ typeAt t r i → b ≡ typeAt t r j → m ≡ tokenCode (tokenOf t a) → n ≡ tokenCode (tokenOf t b) → eqb m n ≡ alike by t r i j
+  pub alike-token : {m n : ℕ} → by ≡ Token → a ≡ typeAt t r i → b ≡ typeAt t r j → m ≡ codeOf (tokenOf t a) → n ≡ codeOf (tokenOf t b) → eqb m n ≡ alike by t r i j
   unfolding alike sameToken
   alike-token h p q u v = rw (h, u, v, p, q)
 

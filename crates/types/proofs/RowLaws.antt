@@ -1,16 +1,19 @@
 -- Rows and their fields. Assumes nothing.
-use mathlib.Core.Path.{_≡_, sym, ap, _∙_}
+use mathlib.Core.Path.{_≡_, refl, sym, ap, _∙_}
 use mathlib.Core.List.{List}
-use mathlib.Core.Bool.{Bool, _&&_, _||_}
+use mathlib.Core.Bool.{Bool, true, false, not, _&&_, _||_}
+use mathlib.Core.Option.{Option, none, some}
 use Prim.Native.Nat.{ℕ, _+_, _*_, _/_, _%_, _≤_}
 use native.Mathlib.Omega.{arith}
 use lib.Dec.{eqb, leb}
 use lib.ListN.{length, getD, take, drop, List·getD-eq-default}
 use Rattle.json.specs.Bytes.{pick}
-use Rattle.jer.specs.Table.{Table, field, kindOf, marksFor, marksOf, marked, firstOf, countOf, rootOf, memberRow, optional, addition, mayMiss, mayBeAbsent, nameStart, nameLength, nameIn}
+use Rattle.jer.specs.Table.{Table, field, Token, tNull, tBoolean, tNumber, tString, tArray, tObject, tokenCode, codeOf, tokenPick, isSome, carries, kindOf, marksOf, marked, firstOf, countOf, rootOf, memberRow, optional, addition, mayMiss, mayBeAbsent, nameStart, nameLength, nameIn, tokenOf}
 use Rattle.jer.specs.Valid.{goodMarks}
 use Rattle.types.specs.declared.row.Row.{Row}
-use Rattle.types.specs.Rows.{table, rowOf}
+use Rattle.jer.specs.declared.Layout.the-variants.{Unknown}
+use Rattle.types.specs.declared.row.Carried.{Carried as CarriedRow}
+use Rattle.types.specs.Rows.{table, rowOf, lineOf, carriedOf}
 use Rattle.types.proofs.ByteLaws.{other}
 
 -- a field past the end
@@ -54,13 +57,9 @@ name-in rows names m p q e = e ∙ rw (p, q)
 pub kind-marked : (t : Table) (r k mark : ℕ) {w : Row} {b : Bool} → w ≡ rowOf t r → b ≡ marked t r mark → (eqb (w .kind) k && b) ≡ (eqb (kindOf t r) k && marked t r mark)
 kind-marked t r k mark e p = rw (e, p)
 
-pub marks-among : (t : Table) (r : ℕ) {w : Row} {may : ℕ} → w ≡ rowOf t r → may ≡ marksFor (w .kind) → (leb (w .marks % 2) (may % 2) && leb (w .marks / 2) (may / 2)) ≡ goodMarks t r
+pub marks-among : (t : Table) (r : ℕ) {w : Row} {may : ℕ} → w ≡ rowOf t r → may ≡ carries (kindOf t r) .marks → (leb (w .marks % 2) (may % 2) && leb (w .marks / 2) (may / 2)) ≡ goodMarks t r
 unfolding goodMarks
 marks-among t r e p = rw (p, e)
-
-pub no-marks : (k : ℕ) → (k ≡ 2 → ⊥) → (k ≡ 4 → ⊥) → (k ≡ 6 → ⊥) → (k ≡ 8 → ⊥) → (k ≡ 9 → ⊥) → 0 ≡ marksFor k
-unfolding marksFor pick
-no-marks k n₂ n₄ n₆ n₈ n₉ = rw (other k 2 n₂, other k 4 n₄, other k 6 n₆, other k 8 n₈, other k 9 n₉, pick)
 
 -- ---- kinds
 
@@ -72,3 +71,37 @@ kind-is t r e h = sym (kind-of t r e) ∙ h
 
 pub kind-not : (t : Table) (r : ℕ) {w : Row} → w ≡ rowOf t r → (k : ℕ) → (w .kind ≡ k → ⊥) → kindOf t r ≡ k → ⊥
 kind-not t r e k h q = h (kind-of t r e ∙ q)
+
+-- ---- what a kind carries
+
+pub carries-none : (k : ℕ) → (k ≡ 0 → ⊥) → (k ≡ 1 → ⊥) → (k ≡ 2 → ⊥) → (k ≡ 3 → ⊥) → (k ≡ 4 → ⊥) → (k ≡ 5 → ⊥) → (k ≡ 6 → ⊥) → (k ≡ 7 → ⊥) → (k ≡ 8 → ⊥) → (k ≡ 9 → ⊥)
+    → lineOf 0 Unknown 6 6 ≡ carriedOf (carries k)
+unfolding carries pick codeOf
+carries-none k n₀ n₁ n₂ n₃ n₄ n₅ n₆ n₇ n₈ n₉ =
+    rw (other k 0 n₀, other k 1 n₁, other k 2 n₂, other k 3 n₃, other k 4 n₄, other k 5 n₅, other k 6 n₆, other k 7 n₇, other k 8 n₈, other k 9 n₉, pick)
+
+pub some-told : (x : Option Token) → not (eqb (codeOf x) 6) ≡ isSome x
+unfolding codeOf tokenCode isSome
+some-told none = refl
+some-told (some tNull) = refl
+some-told (some tBoolean) = refl
+some-told (some tNumber) = refl
+some-told (some tString) = refl
+some-told (some tArray) = refl
+some-told (some tObject) = refl
+
+module _ (t : Table) (r : ℕ) {w : Row} {c : CarriedRow} (e : w ≡ rowOf t r) (p : c ≡ carriedOf (carries (w .kind))) where
+  pub marks-told : c .marks ≡ carries (kindOf t r) .marks
+  marks-told = ap (λ (x : CarriedRow). x .marks) p ∙ rw e
+
+  pub layout-told : c .layout ≡ carries (kindOf t r) .layout
+  layout-told = ap (λ (x : CarriedRow). x .layout) p ∙ rw e
+
+  module _ {b : Bool} (v : b ≡ marked t r 1) where
+    pub begins-marked : b ≡ true → c .other ≡ codeOf (tokenOf t r)
+    unfolding tokenOf tokenPick
+    begins-marked h = ap (λ (x : CarriedRow). x .other) p ∙ rw (e, sym v ∙ h)
+
+    pub begins-plain : b ≡ false → c .token ≡ codeOf (tokenOf t r)
+    unfolding tokenOf tokenPick
+    begins-plain h = ap (λ (x : CarriedRow). x .token) p ∙ rw (e, sym v ∙ h)

@@ -1,11 +1,13 @@
 -- The second and the third pass. Assumes nothing.
-use mathlib.Core.Path.{_≡_, sym, _∙_}
+use mathlib.Core.Path.{_≡_, refl, sym, _∙_}
 use mathlib.Core.Logic.{_⊎_, inl, inr}
 use mathlib.Core.Bool.{Bool, true, false, _&&_, and-assoc, and-true}
 use Prim.Native.Nat.{ℕ}
 use Rattle.json.specs.Bytes.{pick}
-use Rattle.jer.specs.Table.{Table, kindOf, isType, isArray, isUnwrapped, firstOf, elementOf, countOf}
-use Rattle.jer.specs.Valid.{every, implies, goodPointers, namesDiffer, noneOptional, goodArray, goodUnwrapped, goodRules}
+use Rattle.json.proofs.SoundRows.{pick-within, only, _⨾_}
+use Rattle.jer.specs.declared.Layout.the-variants.{Bare, Unknown}
+use Rattle.jer.specs.Table.{Table, Carried, carries, kindOf, isType, isArray, isUnwrapped, firstOf, elementOf, countOf}
+use Rattle.jer.specs.Valid.{every, implies, goodLinks, goodPointers, namesDiffer, noneOptional, goodArray, goodUnwrapped, goodRules}
 use Rattle.types.specs.declared.row.Row.{Row}
 use Rattle.types.specs.declared.members.Rule.the-variants.{IsMember, Untyped}
 use Rattle.types.specs.Rows.{rowOf}
@@ -13,24 +15,44 @@ use Rattle.types.specs.Check.{keeps}
 use Rattle.types.proofs.ByteLaws.{other}
 use Rattle.types.proofs.RowLaws.{kind-is, kind-not}
 
+bare-links : (t : Table) (r : ℕ) → true ≡ goodLinks Bare t r
+unfolding goodLinks
+bare-links t r = refl
+
+unknown-links : (t : Table) (r : ℕ) → true ≡ goodLinks Unknown t r
+unfolding goodLinks
+unknown-links t r = refl
+
 module _ (t : Table) (r : ℕ) {w : Row} (e : w ≡ rowOf t r) where
   -- ---- by the kinds of the rows it points to
 
   pub pointers-type : {a : ℕ} {b : Bool} → (w .kind ≡ 7) ⊎ (w .kind ≡ 9) → a ≡ w .first → b ≡ isType t a → b ≡ goodPointers t r
-  unfolding goodPointers pick elementOf firstOf
+  unfolding goodPointers goodLinks carries pick elementOf firstOf
   pointers-type (inl k) p q = q ∙ rw (kind-is t r e k) (rw (p, e))
   pointers-type (inr k) p q = q ∙ rw (kind-is t r e k) (rw (p, e))
 
   pub pointers-members : {b : Bool} → (w .kind ≡ 2) ⊎ ((w .kind ≡ 6) ⊎ (w .kind ≡ 8)) → b ≡ every (keeps IsMember t r) 0 (countOf t r) → b ≡ goodPointers t r
-  unfolding goodPointers pick keeps
+  unfolding goodPointers goodLinks carries pick keeps
   pointers-members (inl k) p = p ∙ rw (kind-is t r e k)
   pointers-members (inr (inl k)) p = p ∙ rw (kind-is t r e k)
   pointers-members (inr (inr k)) p = p ∙ rw (kind-is t r e k)
 
   pub pointers-none : ((w .kind ≡ 7) ⊎ (w .kind ≡ 9) → ⊥) → ((w .kind ≡ 2) ⊎ ((w .kind ≡ 6) ⊎ (w .kind ≡ 8)) → ⊥) → true ≡ goodPointers t r
-  unfolding goodPointers pick
+  unfolding goodPointers carries
   pointers-none h g =
-      rw (other (kindOf t r) 7 (kind-not t r e 7 (λ q. h (inl q))), other (kindOf t r) 9 (kind-not t r e 9 (λ q. h (inr q))), other (kindOf t r) 2 (kind-not t r e 2 (λ q. g (inl q))), other (kindOf t r) 6 (kind-not t r e 6 (λ q. g (inr (inl q)))), other (kindOf t r) 8 (kind-not t r e 8 (λ q. g (inr (inr q)))), pick)
+      pick-within (λ (x : Carried). true ≡ goodLinks (x .layout) t r) (kindOf t r) _ _
+      ((λ i. bare-links t r)
+      ⨾ (λ i. bare-links t r)
+      ⨾ (λ i. absurd (kind-not t r e 2 (λ q. g (inl q)) (only i)))
+      ⨾ (λ i. bare-links t r)
+      ⨾ (λ i. bare-links t r)
+      ⨾ (λ i. bare-links t r)
+      ⨾ (λ i. absurd (kind-not t r e 6 (λ q. g (inr (inl q))) (only i)))
+      ⨾ (λ i. absurd (kind-not t r e 7 (λ q. h (inl q)) (only i)))
+      ⨾ (λ i. absurd (kind-not t r e 8 (λ q. g (inr (inr q))) (only i)))
+      ⨾ (λ i. absurd (kind-not t r e 9 (λ q. h (inr q)) (only i)))
+      ⨾ tt)
+      (unknown-links t r)
 
   -- ---- each type by its other rules
 

@@ -10,8 +10,9 @@ use lib.Dec.{eqb, leb, ltb}
 use lib.ListN.{length, getD}
 use Rattle.json.specs.Bytes.{pick}
 use Rattle.json.specs.Utf8.{utf8}
-use Rattle.jer.specs.Table.{Table, rowCount, field, isType, kindOf, marksOf, extensible, firstOf, elementOf, countOf, rootOf, nameIn}
-use Rattle.jer.specs.Valid.{implies, unused, goodBlock, goodName, goodMarks, goodAlone}
+use Rattle.jer.specs.declared.Layout.the-variants.{Holds}
+use Rattle.jer.specs.Table.{Table, rowCount, field, carries, typeKind, isType, kindOf, marksOf, extensible, firstOf, elementOf, countOf, rootOf, nameIn}
+use Rattle.jer.specs.Valid.{implies, unused, goodBlock, goodName, goodMarks, goodFields, goodAlone}
 use Rattle.types.specs.declared.row.Row.{Row}
 use Rattle.types.specs.Rows.{table, rowOf}
 use Rattle.types.specs.Sure.{NameInside, BlockInside, Fits}
@@ -22,7 +23,7 @@ no-true q = absurd (let z : _≡_ {A = ℕ} 0 1 = cc in omega arith)
 
 -- ---- rows
 
-pub type-told : (rows ns : List ℕ) (r : ℕ) → leb (getD rows (r * 8) 0) 8 ≡ isType (table rows ns) r
+pub type-told : (rows ns : List ℕ) (r : ℕ) → typeKind (getD rows (r * 8) 0) ≡ isType (table rows ns) r
 unfolding isType kindOf
 type-told rows ns r = rw (field-zero rows ns r)
 
@@ -84,29 +85,32 @@ block-inside t r least h =
     (and-four (leb least (countOf t r)) (leb (countOf t r) 64) (leb (firstOf t r + countOf t r) (length (t .rows) / 8)) (leb least (rootOf t r) && (leb (rootOf t r) (countOf t r) && (extensible t r || eqb (rootOf t r) (countOf t r)))) h .0)
 
 module _ (t : Table) (r : ℕ) {w : Row} (e : w ≡ rowOf t r) (h : goodAlone t r ≡ true) where
+  block-of : (least : ℕ) → (goodMarks t r && goodFields (Holds least) t r) ≡ true → BlockInside t r
+  unfolding goodFields
+  block-of least g = block-inside t r least (and-four (goodMarks t r) (unused t r 5 3) (goodBlock t r least) (implies (eqb (countOf t r) 0) (eqb (firstOf t r) 0)) g .0)
+
   pub block-room : (w .kind ≡ 2) ⊎ ((w .kind ≡ 6) ⊎ (w .kind ≡ 8)) → BlockInside t r
-  unfolding goodAlone pick
-  block-room (inl k) = block-inside t r 1 (and-three (unused t r 5 3) (goodMarks t r) (goodBlock t r 1) (rw (kind-is t r e k) at h))
-  block-room (inr (inl k)) =
-      block-inside t r 0 (and-four (unused t r 5 3) (goodMarks t r) (goodBlock t r 0) (implies (eqb (countOf t r) 0) (eqb (firstOf t r) 0)) (rw (kind-is t r e k) at h) .0)
-  block-room (inr (inr k)) = block-inside t r 1 (and-three (unused t r 5 3) (goodMarks t r) (goodBlock t r 1) (rw (kind-is t r e k) at h))
+  unfolding goodAlone carries pick
+  block-room (inl k) = block-of 1 (rw (kind-is t r e k) at h)
+  block-room (inr (inl k)) = block-of 0 (rw (kind-is t r e k) at h)
+  block-room (inr (inr k)) = block-of 1 (rw (kind-is t r e k) at h)
 
   pub points-room : {a : ℕ} → (w .kind ≡ 7) ⊎ (w .kind ≡ 9) → a ≡ w .first → a < length (t .rows) / 8
-  unfolding goodAlone pick elementOf firstOf rowCount
+  unfolding goodAlone goodFields carries pick elementOf firstOf rowCount
   points-room {a = a} (inl k) p =
       let q : a ≡ field t r 2 = p ∙ ap (λ (x : Row). x .first) e in
-      let l = ltb-true (field t r 2) (length (t .rows) / 8) (and-four (unused t r 5 3) (goodMarks t r) (ltb (field t r 2) (length (t .rows) / 8)) (unused t r 3 2) (rw (kind-is t r e k) at h) .0) in
+      let l = ltb-true (field t r 2) (length (t .rows) / 8) (and-three (goodMarks t r) (unused t r 3 5) (ltb (field t r 2) (length (t .rows) / 8)) (rw (kind-is t r e k) at h)) in
       omega arith
   points-room {a = a} (inr k) p =
       let q : a ≡ field t r 2 = p ∙ ap (λ (x : Row). x .first) e in
-      let g = and-four (unused t r 5 3) (goodMarks t r) (not (eqb r 0)) (ltb (field t r 2) (length (t .rows) / 8) && goodName t r) (rw (kind-is t r e k) at h) .1 in
+      let g = and-four (goodMarks t r) (unused t r 5 3) (not (eqb r 0)) (ltb (field t r 2) (length (t .rows) / 8) && goodName t r) (rw (kind-is t r e k) at h) .1 in
       let l = ltb-true (field t r 2) (length (t .rows) / 8) (and-both (ltb (field t r 2) (length (t .rows) / 8)) (goodName t r) g .0) in
       omega arith
 
 member-named : (t : Table) (m : ℕ) → goodAlone t m ≡ true → kindOf t m ≡ 9 → goodName t m ≡ true
-unfolding goodAlone pick
+unfolding goodAlone goodFields carries pick
 member-named t m h k =
-    let g = and-four (unused t m 5 3) (goodMarks t m) (not (eqb m 0)) (ltb (field t m 2) (rowCount t) && goodName t m) (rw k at h) .1 in
+    let g = and-four (goodMarks t m) (unused t m 5 3) (not (eqb m 0)) (ltb (field t m 2) (rowCount t) && goodName t m) (rw k at h) .1 in
     and-both (ltb (field t m 2) (rowCount t)) (goodName t m) g .1
 
 pub alone-name : (t : Table) (m : ℕ) → goodAlone t m ≡ true → kindOf t m ≡ 9 → (1 ≤ field t m 4) × NameInside t m

@@ -2,52 +2,31 @@
 use mathlib.Core.Path.{_≡_, refl, sym, ap, _∙_}
 use mathlib.Core.Option.{Option, none, some}
 use mathlib.Core.Bool.{Bool, true, false, not}
-use Prim.Native.Nat.{ℕ, _-_, _≤_}
+use Prim.Native.Nat.{ℕ, _-_}
 use native.Mathlib.Omega.{arith}
 use borrow.Author.Tests.{eq-eqb, ne-eqb, not-true, not-false}
 use lib.Dec.{eqb}
-use Rattle.json.specs.Bytes.{pick}
-use Rattle.jer.specs.Table.{Table, kindOf, countOf, typeAt, isArray, firstWhere, Token, tokenCode, tokenPick, tokenOf, sameToken, alternative, tNull, isSome, isUnwrapped, canBeNull}
+use Rattle.jer.specs.Table.{Table, kindOf, countOf, typeAt, firstWhere, Token, tokenCode, codeOf, tokenOf, sameToken, alternative, tNull, isSome, isUnwrapped, canBeNull}
 use Rattle.types.specs.declared.row.Row.{Row}
 use Rattle.types.specs.declared.token.Found.{Found}
 use Rattle.types.specs.declared.token.Found.the-variants.{At, Nothing}
 use Rattle.types.specs.Rows.{rowOf, foundOf}
-use Rattle.types.proofs.ByteLaws.{inside, above}
 use Rattle.types.proofs.RowLaws.{kind-of, kind-is}
-
-module _ (t : Table) (r : ℕ) where
-  pub token-string : 4 ≤ kindOf t r → kindOf t r ≤ 5 → 3 ≡ tokenCode (tokenOf t r)
-  unfolding tokenOf tokenCode pick
-  token-string l h =
-      rw (above (kindOf t r) 0 0 (omega arith), above (kindOf t r) 1 1 (omega arith), above (kindOf t r) 2 2 (omega arith), above (kindOf t r) 3 3 l, inside (kindOf t r) 4 5 l h, pick)
-
-  pub token-array : kindOf t r ≡ 6 → isArray t r ≡ true → 4 ≡ tokenCode (tokenOf t r)
-  unfolding tokenOf tokenCode tokenPick pick
-  token-array h f = rw (h, f)
-
-  pub token-object : kindOf t r ≡ 6 → isArray t r ≡ false → 5 ≡ tokenCode (tokenOf t r)
-  unfolding tokenOf tokenCode tokenPick pick
-  token-object h f = rw (h, f)
-
-  pub token-choice : 8 ≤ kindOf t r → 5 ≡ tokenCode (tokenOf t r)
-  unfolding tokenOf tokenCode pick
-  token-choice l =
-      rw (above (kindOf t r) 0 0 (omega arith), above (kindOf t r) 1 1 (omega arith), above (kindOf t r) 2 2 (omega arith), above (kindOf t r) 3 3 (omega arith), above (kindOf t r) 4 5 (omega arith), above (kindOf t r) 6 6 (omega arith), above (kindOf t r) 7 7 l, pick)
 
 -- the alternative at i has the token
 abbrev pub picks : Table → ℕ → Token → ℕ → Bool
-picks t r k i = sameToken (tokenOf t (typeAt t r i)) k
+picks t r k i = sameToken (tokenOf t (typeAt t r i)) (some k)
 
-module _ (t : Table) (r : ℕ) (k : Token) (i : ℕ) {a n c : ℕ} (p : a ≡ typeAt t r i) (q : n ≡ tokenCode (tokenOf t a)) (u : c ≡ tokenCode k) where
-  token-here : tokenCode (tokenOf t (typeAt t r i)) ≡ n
-  token-here = sym (q ∙ ap (λ (m : ℕ). tokenCode (tokenOf t m)) p)
+module _ (t : Table) (r : ℕ) (k : Token) (i : ℕ) {a n c : ℕ} (p : a ≡ typeAt t r i) (q : n ≡ codeOf (tokenOf t a)) (u : c ≡ tokenCode k) where
+  token-here : codeOf (tokenOf t (typeAt t r i)) ≡ n
+  token-here = sym (q ∙ ap (λ (m : ℕ). codeOf (tokenOf t m)) p)
 
   pub picks-yes : n ≡ c → picks t r k i ≡ true
-  unfolding sameToken
+  unfolding sameToken codeOf
   picks-yes e = eq-eqb _ _ (token-here ∙ e ∙ u)
 
   pub picks-no : (n ≡ c → ⊥) → picks t r k i ≡ false
-  unfolding sameToken
+  unfolding sameToken codeOf
   picks-no h = ne-eqb _ _ (λ e. h (sym token-here ∙ e ∙ sym u))
 
 pub alternative-starts : (t : Table) (r : ℕ) (k : Token) {n : ℕ} → n ≡ countOf t r → firstWhere (picks t r k) 0 (n - 0) ≡ alternative t r k

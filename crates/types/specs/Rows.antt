@@ -2,8 +2,10 @@
 use Prim.Native.Nat.{ℕ}
 use mathlib.Core.List.{List}
 use mathlib.Core.Option.{Option, none, some}
-use Rattle.jer.specs.Table.{Table, kindOf, marksOf, firstOf, countOf, rootOf}
+use Rattle.jer.specs.declared.Layout.{Layout}
+use Rattle.jer.specs.Table.{Table, Carried, kindOf, marksOf, firstOf, countOf, rootOf, codeOf}
 use Rattle.types.specs.declared.row.Row.{Row}
+use Rattle.types.specs.declared.row.Carried.{Carried as CarriedRow}
 use Rattle.types.specs.declared.token.Found.{Found}
 use Rattle.types.specs.declared.token.Found.the-variants.{At, Nothing}
 
@@ -14,6 +16,13 @@ table rows names = record { rows = rows; names = names }
 -- the row r of a table, by the accessors of `jer`; a member's row has its type row, and its name's start and length, in fields 2 to 4
 abbrev pub rowOf : Table → ℕ → Row
 rowOf t r = record { kind = kindOf t r; marks = marksOf t r; first = firstOf t r; members = countOf t r; root = rootOf t r }
+
+abbrev pub lineOf : ℕ → Layout → ℕ → ℕ → CarriedRow
+lineOf m l a b = record { marks = m; layout = l; token = a; other = b }
+
+-- what a row carries, with its tokens by their numbers
+abbrev pub carriedOf : Carried → CarriedRow
+carriedOf c = lineOf (c .marks) (c .layout) (codeOf (c .token)) (codeOf (c .other))
 
 unfoldable pub foundOf : Option ℕ → Found
 foundOf none = Nothing

@@ -4,30 +4,31 @@ use crate::row::Row;
 use crate::row::row_count;
 use crate::row::row_in;
 use crate::row::wide;
+use jer::Layout;
 ghost use mathlib.Core.Path.{_≡_};
 ghost use mathlib.Core.List.{List};
 ghost use mathlib.Core.Bool.{true};
-ghost use Prim.Native.Nat.{ℕ, _<_, _/_};
+ghost use Prim.Native.Nat.{ℕ, _-_, _≤_, _<_, _/_};
 ghost use lib.ListN.{length};
 ghost use Rattle.jer.specs.Table.{Table, rowCount};
 ghost use Rattle.jer.specs.Valid.{unused, goodBlock, goodName, goodAlone};
 ghost use Rattle.types.specs.Rows.{table, rowOf};
 ghost use Rattle.types.specs.Bytes.{Ascii};
 
-// Fields 5 to 7 are 0.
-fn end_unused(rows: &[u32], r: usize) -> bool
-    requires { ⌜ r < length (now rows) / 8 ⌝ }
-    ensures { λ b. ⌜ ((ns : List ℕ) → b ≡ unused (table (now (rows .entry)) ns) r 5 3) ⌝ }
+// The fields from `from` on are 0.
+fn unused(rows: &[u32], r: usize, from: usize) -> bool
+    requires { ⌜ (r < length (now rows) / 8) × (from ≤ 8) ⌝ }
+    ensures { λ b. ⌜ ((ns : List ℕ) → b ≡ unused (table (now (rows .entry)) ns) r from (8 - from)) ⌝ }
 {
     let k = r * 8;
-    (rows[k + 5] == 0) & (rows[k + 6] == 0) & (rows[k + 7] == 0)
-}
-
-// Fields 2 to 4 are 0.
-fn bare(row: Row) -> bool
-    ensures { λ b. ⌜ ((t : Table) (r : ℕ) → row ≡ rowOf t r → b ≡ unused t r 2 3) ⌝ }
-{
-    (row.first == 0) & (row.members == 0) & (row.root == 0)
+    let mut i = from;
+    while i < 8 {
+        if rows[k + i] != 0 {
+            return false;
+        }
+        i += 1;
+    }
+    true
 }
 
 // A type's block of members, by its row and the table's count of rows.
@@ -69,24 +70,24 @@ pub fn good_alone(rows: &[u32], names: &[u8], ascii: bool, r: usize) -> bool
     requires { ⌜ (r < length (now rows) / 8) × (ascii ≡ true → Ascii (now names)) ⌝ }
     ensures { λ b. ⌜ b ≡ goodAlone (table (now (rows .entry)) (now (names .entry))) r ⌝ }
 {
-    if !end_unused(rows, r) {
-        return false;
-    }
     let row = row_in(rows, r);
-    if !row.good_marks() {
+    let carried = Row::carries(row.kind);
+    if !row.good_marks(carried.marks) {
         return false;
     }
     let count = row_count(rows);
-    let kind = row.kind;
-    match kind {
-        Row::BOOLEAN | Row::INTEGER | Row::NULL | Row::OCTET_STRING | Row::UTF8_STRING => bare(row),
-        Row::ENUMERATED | Row::CHOICE => block(row, count, 1),
-        Row::SEQUENCE => block(row, count, 0) & ((row.members != 0) | (row.first == 0)),
-        Row::SEQUENCE_OF => (wide(row.first) < count) & ((row.members == 0) & (row.root == 0)),
-        Row::MEMBER => {
-            let inside = wide(row.first) < count;
-            (r != 0) & inside & good_name(rows, names, ascii, r)
+    let layout = carried.layout;
+    match layout {
+        Layout::Bare => unused(rows, r, 2),
+        Layout::Holds(least) => {
+            let empty = (row.members != 0) | (row.first == 0);
+            unused(rows, r, 5) & block(row, count, least) & empty
         }
-        _ => false,
+        Layout::Lists => unused(rows, r, 3) & (wide(row.first) < count),
+        Layout::Names => {
+            let inside = wide(row.first) < count;
+            unused(rows, r, 5) & (r != 0) & inside & good_name(rows, names, ascii, r)
+        }
+        Layout::Unknown => false,
     }
 }

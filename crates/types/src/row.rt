@@ -1,12 +1,14 @@
 // A row of the type table: its fields by name, its kinds and marks, the tests of its marks, and the rows that it points to.
 use crate::bytes::part;
+use crate::token;
+use jer::Layout;
 ghost use mathlib.Core.Path.{_≡_};
 ghost use mathlib.Core.List.{List};
 ghost use Prim.Native.Nat.{ℕ, _<_, _/_};
 ghost use lib.ListN.{length};
-ghost use Rattle.jer.specs.Table.{Table, rowCount, field, kindOf, isType, marksFor, marked, extensible, isBase64, isArray, isUnwrapped, firstOf, elementOf, countOf, rootOf, memberRow, optional, typeIn, typeAt, nameStart, nameLength, nameIn, mayMiss, mayBeAbsent};
+ghost use Rattle.jer.specs.Table.{Table, rowCount, field, carries, typeKind, kindOf, isType, marked, extensible, isBase64, isArray, isUnwrapped, firstOf, elementOf, countOf, rootOf, memberRow, optional, typeIn, typeAt, nameStart, nameLength, nameIn, codeOf, tokenOf, mayMiss, mayBeAbsent};
 ghost use Rattle.jer.specs.Valid.{goodMarks};
-ghost use Rattle.types.specs.Rows.{table, rowOf};
+ghost use Rattle.types.specs.Rows.{table, rowOf, lineOf, carriedOf};
 
 // Fields 0 to 4; the last three have another use in a member's row.
 pub struct Row {
@@ -18,6 +20,16 @@ pub struct Row {
     pub members: u32,
     // How many of them are root; of a member, its name's length.
     pub root: u32,
+}
+
+// What a row of a kind carries.
+pub struct Carried {
+    // The sum of the marks that it may have.
+    pub marks: u32,
+    pub layout: Layout,
+    // Of a type, the token that a value begins with: without mark 1, and with it.
+    pub token: u32,
+    pub other: u32,
 }
 
 // Field i of row r, or 0 past the end.
@@ -104,6 +116,18 @@ pub fn name_length(rows: &[u32], m: usize) -> usize
     wide(field(rows, m, 4))
 }
 
+// A line of the table of kinds.
+fn line(marks: u32, layout: Layout, token: u32, other: u32) -> Carried
+    ensures { λ c. ⌜ c ≡ lineOf marks layout token other ⌝ }
+{
+    Carried {
+        marks,
+        layout,
+        token,
+        other,
+    }
+}
+
 impl Row {
     // Kinds, field 0.
     pub const BOOLEAN: u32 = 0;
@@ -137,18 +161,45 @@ impl Row {
 
     pub const OPTIONAL: u32 = 1;
 
-    // The sum of the marks that a row of the kind may carry.
-    pub fn marks_for(kind: u32) -> u32
-        ensures { λ m. ⌜ m ≡ marksFor kind ⌝ }
+    // What a row of the kind carries: a kind that has no line here is no kind.
+    pub fn carries(kind: u32) -> Carried
+        ensures { λ c. ⌜ c ≡ carriedOf (carries kind) ⌝ }
     {
         match kind {
-            Row::ENUMERATED => Row::EXTENSIBLE,
-            Row::OCTET_STRING => Row::BASE64,
-            Row::SEQUENCE => Row::ARRAY + Row::EXTENSIBLE,
-            Row::CHOICE => Row::UNWRAPPED + Row::EXTENSIBLE,
-            Row::MEMBER => Row::OPTIONAL,
-            _ => 0,
+            Row::BOOLEAN => line(0, Layout::Bare, token::BOOLEAN, token::BOOLEAN),
+            Row::INTEGER => line(0, Layout::Bare, token::NUMBER, token::NUMBER),
+            Row::ENUMERATED => line(
+                Row::EXTENSIBLE,
+                Layout::Holds(1),
+                token::STRING,
+                token::STRING,
+            ),
+            Row::NULL => line(0, Layout::Bare, token::NULL, token::NULL),
+            Row::OCTET_STRING => line(Row::BASE64, Layout::Bare, token::STRING, token::STRING),
+            Row::UTF8_STRING => line(0, Layout::Bare, token::STRING, token::STRING),
+            Row::SEQUENCE => line(
+                Row::ARRAY + Row::EXTENSIBLE,
+                Layout::Holds(0),
+                token::OBJECT,
+                token::ARRAY,
+            ),
+            Row::SEQUENCE_OF => line(0, Layout::Lists, token::ARRAY, token::ARRAY),
+            Row::CHOICE => line(
+                Row::UNWRAPPED + Row::EXTENSIBLE,
+                Layout::Holds(1),
+                token::OBJECT,
+                token::OBJECT,
+            ),
+            Row::MEMBER => line(Row::OPTIONAL, Layout::Names, token::NONE, token::NONE),
+            _ => line(0, Layout::Unknown, token::NONE, token::NONE),
         }
+    }
+
+    // The kind is a type's.
+    pub fn type_kind(kind: u32) -> bool
+        ensures { λ b. ⌜ b ≡ typeKind kind ⌝ }
+    {
+        Row::carries(kind).token != token::NONE
     }
 
     // Row r, with 0 past the end.
@@ -167,14 +218,13 @@ impl Row {
     pub fn is_type(self) -> bool
         ensures { λ b. ⌜ ((t : Table) (r : ℕ) → self ≡ rowOf t r → b ≡ isType t r) ⌝ }
     {
-        self.kind <= Row::CHOICE
+        Row::type_kind(self.kind)
     }
 
-    // It carries no mark but those of its kind.
-    pub fn good_marks(self) -> bool
-        ensures { λ b. ⌜ ((t : Table) (r : ℕ) → self ≡ rowOf t r → b ≡ goodMarks t r) ⌝ }
+    // It carries no mark but those that its kind may.
+    pub fn good_marks(self, may: u32) -> bool
+        ensures { λ b. ⌜ ((t : Table) (r : ℕ) → self ≡ rowOf t r → may ≡ carries (kindOf t r) .marks → b ≡ goodMarks t r) ⌝ }
     {
-        let may = Row::marks_for(self.kind);
         (self.marks % 2 <= may % 2) & (self.marks / 2 <= may / 2)
     }
 
@@ -208,6 +258,14 @@ impl Row {
         ensures { λ b. ⌜ ((t : Table) (r : ℕ) → self ≡ rowOf t r → b ≡ isUnwrapped t r) ⌝ }
     {
         (self.kind == Row::CHOICE) & self.marked(Row::UNWRAPPED)
+    }
+
+    // The token that a value of the type begins with, if it is not UNWRAPPED.
+    pub fn begins(self) -> u32
+        ensures { λ n. ⌜ ((t : Table) (r : ℕ) → self ≡ rowOf t r → n ≡ codeOf (tokenOf t r)) ⌝ }
+    {
+        let c = Row::carries(self.kind);
+        if self.marked(1) { c.other } else { c.token }
     }
 
     // Of the row of a member.

@@ -23,7 +23,7 @@ fn holds_type(rows: &[u32], r: usize) -> bool
     requires { ⌜ r < length (now rows) / 8 ⌝ }
     ensures { λ b. ⌜ ((ns : List ℕ) → b ≡ isType (table (now (rows .entry)) ns) r) ⌝ }
 {
-    rows[r * 8] <= Row::CHOICE
+    Row::type_kind(rows[r * 8])
 }
 
 // The row m is a member's, with no mark and no type row above these.

@@ -5,7 +5,7 @@ use crate::row::type_at;
 ghost use mathlib.Core.Path.{_≡_};
 ghost use mathlib.Core.List.{List};
 ghost use Prim.Native.Nat.{ℕ};
-ghost use Rattle.jer.specs.Table.{Token, tokenCode, tokenOf, alternative, canBeNull, openUnwrapped, nullTaken};
+ghost use Rattle.jer.specs.Table.{Token, tokenCode, codeOf, tokenOf, alternative, canBeNull, openUnwrapped, nullTaken};
 ghost use Rattle.types.specs.Rows.{table, foundOf};
 
 // Tokens by number.
@@ -21,6 +21,9 @@ pub const ARRAY: u32 = 4;
 
 pub const OBJECT: u32 = 5;
 
+// Of a row that is no type's.
+pub const NONE: u32 = 6;
+
 // A position, if there is one.
 pub enum Found {
     At(u32),
@@ -29,19 +32,9 @@ pub enum Found {
 
 // The token of the type at r, if it is not UNWRAPPED.
 pub fn token_of(rows: &[u32], r: usize) -> u32
-    ensures { λ n. ⌜ ((ns : List ℕ) → n ≡ tokenCode (tokenOf (table (now (rows .entry)) ns) r)) ⌝ }
+    ensures { λ n. ⌜ ((ns : List ℕ) → n ≡ codeOf (tokenOf (table (now (rows .entry)) ns) r)) ⌝ }
 {
-    let row = Row::at(rows, r);
-    let kind = row.kind;
-    match kind {
-        Row::BOOLEAN => BOOLEAN,
-        Row::INTEGER => NUMBER,
-        Row::NULL => NULL,
-        Row::ENUMERATED | Row::OCTET_STRING | Row::UTF8_STRING => STRING,
-        Row::SEQUENCE => if row.is_array() { ARRAY } else { OBJECT },
-        Row::SEQUENCE_OF => ARRAY,
-        _ => OBJECT,
-    }
+    Row::at(rows, r).begins()
 }
 
 // The alternative of the UNWRAPPED choice at r that a token picks.

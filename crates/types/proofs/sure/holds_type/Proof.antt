@@ -1,27 +1,32 @@
+use mathlib.Core.Path.{_∙_}
 use Rattle.types.proofs.SureLaws.{type-told}
 use borrow.Author.Needs.{needs}
 use Rattle.types.proofs.sure.holds_type.Statement.{statement}
 use Rattle.types.proofs.sure.holds_type.Tie as tie
 
-mul-result : tie.Need-mul-result
-mul-result c = search needs
+mul-type-kind : tie.Need-mul-type-kind
+mul-type-kind c = search needs
 
-mul-result-2 : tie.Need-mul-result-2
-mul-result-2 c = search needs
+mul-type-kind-2 : tie.Need-mul-type-kind-2
+mul-type-kind-2 c = search needs
 
-shared-slice-read-result : tie.Need-shared-slice-read-result
-shared-slice-read-result c = search needs
+shared-slice-read-type-kind : tie.Need-shared-slice-read-type-kind
+shared-slice-read-type-kind c = search needs
+
+type-kind-requires : tie.Need-type-kind-requires
+type-kind-requires c κs = search needs
 
 returns : tie.Need-returns
 returns c =
-    let a = c .before .args in
-    λ ns. type-told (a .rows .now) ns (a .r)
+    let a = c .before .before .before .args in
+    λ ns. c .type-kind .ensures ∙ type-told (a .rows .now) ns (a .r)
 
 pub holds-type-spec : {M : Type 1} → statement M
 holds-type-spec =
     tie.close
     (tie.spec
-    mul-result
-    mul-result-2
-    shared-slice-read-result
+    mul-type-kind
+    mul-type-kind-2
+    shared-slice-read-type-kind
+    type-kind-requires
     returns)

@@ -1,13 +1,16 @@
-use mathlib.Core.Path.{ap}
-use lib.Dec.{leb}
-use Rattle.jer.specs.Table.{isType}
-use Rattle.types.specs.declared.row.Row.{Row}
+use mathlib.Core.Path.{ap, _∙_}
+use Rattle.jer.specs.Table.{typeKind, isType}
+use Rattle.types.proofs.RowLaws.{kind-of}
+use borrow.Author.Needs.{needs}
 use Rattle.types.proofs.row.Row.is_type.Statement.{statement}
 use Rattle.types.proofs.row.Row.is_type.Tie as tie
 
+type-kind-requires : tie.Need-type-kind-requires
+type-kind-requires c κs = search needs
+
 returns : tie.Need-returns
 unfolding isType
-returns c = λ t r e. ap (λ (w : Row). leb (w .kind) 8) e
+returns c = λ t r e. c .type-kind .ensures ∙ ap typeKind (kind-of t r e)
 
 pub is-type-spec : {M : Type 1} → statement M
-is-type-spec = tie.close (tie.spec returns)
+is-type-spec = tie.close (tie.spec type-kind-requires returns)
