@@ -7,7 +7,7 @@ use jer::Writing;
 use jer::report;
 ghost use mathlib.Core.Path.{_≡_};
 ghost use Rattle.jer.specs.Answer.{valuesOf};
-ghost use Rattle.types.specs.Rows.{table};
+ghost use Rattle.jer.specs.Table.{table};
 ghost use Rattle.capi.specs.Answers.{amountsAfter, amountsBy, TableFromC, ReadFromC, WriteFromC};
 
 // Stores two amounts, if there is room for both.

@@ -1,6 +1,6 @@
 -- Judging and reading by the grammar are judging and reading by the machine; and what a reading may be refused by.
-use Prim.Native.Nat.{ℕ, _*_, _≤_, _<_}
-use mathlib.Core.Path.{_≡_, refl, sym, ap, _∙_}
+use Prim.Native.Nat.{ℕ, _*_, _≤_}
+use mathlib.Core.Path.{_≡_, refl, sym, _∙_}
 use mathlib.Core.List.{List}
 use mathlib.Core.Bool.{Bool, true, false, _&&_}
 use mathlib.Core.Option.{Option, none, some}
@@ -9,7 +9,7 @@ use lib.Dec.{eqb, leb}
 use lib.ListN.{length}
 use borrow.Author.Tests.{leb-true, leb-false, le-leb, lt-leb}
 use Rattle.json.specs.Tree.{Json}
-use Rattle.json.specs.Grammar.{Text, NotJsonAt, TooDeepAt}
+use Rattle.json.specs.Grammar.{Text}
 use Rattle.json.specs.Machine.{Parsed, tree, refused, notJson, tooDeep, parseWithin, parse}
 use Rattle.json.proofs.Takes.{takes-text}
 use Rattle.json.proofs.Sound.{text-taken}
@@ -21,7 +21,7 @@ use Rattle.jer.specs.declared.Which.the-variants.{TypeTable, ValueTable}
 use Rattle.jer.specs.declared.Refusal.{Refusal}
 use Rattle.jer.specs.declared.Refusal.the-variants.{AtByte, AtRow}
 use Rattle.jer.specs.declared.Judged.{Judged}
-use Rattle.jer.specs.declared.Judged.the-variants.{Good, Refused}
+use Rattle.jer.specs.declared.Judged.the-variants.{Refused}
 use Rattle.jer.specs.Table.{Table}
 use Rattle.jer.specs.Valid.{firstBad}
 use Rattle.jer.specs.Value.{Val}

@@ -1,6 +1,5 @@
 -- The typed reading refuses at a byte, and for nothing else: never by a row, and never for want of room.
 use Prim.Native.Nat.{ℕ, zero, suc, _-_, _^_}
-use mathlib.Core.Path.{_≡_, refl}
 use mathlib.Core.List.{List, [], _∷_}
 use mathlib.Core.Bool.{Bool, true, false, _&&_, not}
 use mathlib.Core.Option.{Option, none, some}
@@ -11,7 +10,7 @@ use Rattle.jer.specs.declared.Cause.{Cause}
 use Rattle.jer.specs.declared.Cause.the-variants.{UnknownName, RepeatedName, Missing, Unknown}
 use Rattle.jer.specs.declared.Refusal.the-variants.{AtByte}
 use Rattle.jer.specs.Table.{Table, NULL, BOOLEAN, INTEGER, SEQUENCE, SEQUENCE-OF, CHOICE, kindOf, extensible, isArray, isUnwrapped, openUnwrapped, elementOf, countOf, typeAt, nameAt, mayMiss, sameBytes, position, Token, tNull, tBoolean, tNumber, tString, tArray, tObject, alternative, isSome}
-use Rattle.jer.specs.Value.{Val, vSeq, Vals, Parts}
+use Rattle.jer.specs.Value.{Val, vSeq, Parts}
 use Rattle.jer.specs.Answer.{Res, ok, no, bind}
 use Rattle.jer.specs.Read.{Meaning, Element, Entry, readInt, readItem, readOctets, octetsOf, readString, atKind, picked, unwrapping, lookup, namesGood, nullAbsent, withAbsent, withPresent, readMember, readMembers, readObject, nullValue, missingElement, readElement, surplus, readElements, readItems, readArray, readChosen, readChoice, readBraces, read, elements, entries}
 use Rattle.jer.proofs.WeightGot.{branch}

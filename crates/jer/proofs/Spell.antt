@@ -6,7 +6,7 @@ use mathlib.Core.Bool.{true}
 use native.Mathlib.Omega.{arith}
 use Rattle.json.specs.Tree.{Json}
 use Rattle.json.specs.Grammar.{Text}
-use Rattle.jer.specs.Table.{Table, SEQUENCE, kindOf, isType, marksOf, elementOf, countOf, rootOf, optional, typeAt, nameAt}
+use Rattle.jer.specs.Table.{Table, kindOf, isType, marksOf, elementOf, countOf, rootOf, optional, typeAt, nameAt}
 use Rattle.jer.specs.Value.{Val, vSeq, vList, vChoice, Vals, Parts, absent}
 use Rattle.jer.specs.Answer.{ok}
 use Rattle.jer.specs.Read.{read}

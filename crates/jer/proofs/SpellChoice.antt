@@ -1,12 +1,11 @@
 -- Spelled choices: a wrapped one is an object of one member; the token of an UNWRAPPED one picks the alternative.
 use Prim.Native.Nat.{ℕ, suc, _<_}
-use mathlib.Core.Path.{_≡_, sym, ap, _∙_}
+use mathlib.Core.Path.{_≡_, _∙_}
 use mathlib.Core.List.{[], _∷_, _++_}
 use mathlib.Core.Bool.{true, false}
-use native.Mathlib.Omega.{arith}
 use Rattle.json.specs.Bytes.{past}
 use Rattle.json.specs.Tree.{jobj, mnil, mcons}
-use Rattle.jer.specs.Table.{Table, CHOICE, kindOf, isType, isUnwrapped, countOf, typeAt, nameAt, alternative}
+use Rattle.jer.specs.Table.{Table, CHOICE, kindOf, isType, isUnwrapped, countOf, typeAt, nameAt}
 use Rattle.jer.specs.Value.{Val, vChoice}
 use Rattle.jer.specs.Answer.{ok}
 use Rattle.jer.specs.Read.{read}

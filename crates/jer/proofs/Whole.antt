@@ -1,6 +1,6 @@
 -- Laws of the typed reading of a whole tree. The laws about the calls use these alone; what the reading of a tree at any row is stands below them.
 use Prim.Native.Nat.{ℕ, _*_, _≤_}
-use mathlib.Core.Path.{_≡_, refl, _∙_}
+use mathlib.Core.Path.{_≡_}
 use mathlib.Core.List.{List}
 use lib.ListN.{length}
 use Rattle.json.specs.Tree.{Json}
@@ -8,7 +8,7 @@ use Rattle.json.specs.Grammar.{Text}
 use Rattle.jer.specs.Table.{Table}
 use Rattle.jer.specs.Value.{Val}
 use Rattle.jer.specs.Answer.{ok}
-use Rattle.jer.specs.Read.{read, readWhole}
+use Rattle.jer.specs.Read.{readWhole}
 use Rattle.jer.specs.Rows.{rowsOf, poolOf}
 use Rattle.jer.specs.Fits.{Fits}
 use Rattle.jer.specs.Write.{write}
@@ -24,7 +24,7 @@ use Rattle.jer.proofs.AlikeRespelled.{respelled-reads}
 use Rattle.jer.proofs.AlikeExactly.{respelled-only}
 use Rattle.jer.proofs.OlderAgrees.{Agrees}
 use Rattle.jer.proofs.Older.{older-reads}
-use Rattle.jer.proofs.Spell.{older-written, same-additions, grow-same}
+use Rattle.jer.proofs.Spell.{older-written}
 
 -- ---- one tree
 

@@ -10,7 +10,6 @@ use Rattle.json.specs.Machine.{Parsed, tree, refused, notJson, tooDeep, parse}
 use Rattle.jer.specs.declared.Cause.the-variants.{TooLong, NotJson, TooDeep}
 use Rattle.jer.specs.declared.Which.the-variants.{TypeTable}
 use Rattle.jer.specs.declared.Limit.the-variants.{HouseSize, LentRoom}
-use Rattle.jer.specs.declared.Refusal.{Refusal}
 use Rattle.jer.specs.declared.Refusal.the-variants.{AtRow, Amounts}
 use Rattle.jer.specs.declared.Judged.{Judged}
 use Rattle.jer.specs.declared.Judged.the-variants as judged

@@ -9,7 +9,7 @@ use Rattle.jer.specs.declared.Reading.{Reading}
 use Rattle.jer.specs.declared.Reading.the-variants as reading
 use Rattle.jer.specs.declared.Writing.{Writing}
 use Rattle.jer.specs.declared.Writing.the-variants as writing
-use Rattle.jer.specs.Table.{Table}
+use Rattle.jer.specs.Table.{Table, table}
 use Rattle.jer.specs.Value.{Val}
 use Rattle.jer.specs.Answer.{Res, ok, no, Values, values, valuesOf}
 use Rattle.jer.specs.Octets.{also, unhex, onlyIf, hex}
@@ -87,7 +87,7 @@ readPrinted t x = printRead t x (readAnswer t 16384 16384 x)
 
 -- a text read by the type table whose rows and names are given
 unfoldable pub readShown : List ℕ → List ℕ → List ℕ → List ℕ
-readShown types names text = readPrinted (record { rows = types; names = names }) (readText (record { rows = types; names = names }) text)
+readShown types names text = readPrinted (table types names) (readText (table types names) text)
 
 -- "input after line three is not read"
 unfoldable pub readThird : List ℕ → List ℕ → List ℕ → List ℕ
@@ -111,7 +111,7 @@ unfoldable pub writePrinted : Res (List ℕ) → List ℕ
 writePrinted x = printWrite x (writeAnswer 65536 x)
 
 unfoldable pub writeShown : List ℕ → List ℕ → List ℕ → List ℕ → List ℕ
-writeShown types names values pool = writePrinted (writeText (record { rows = types; names = names }) values pool)
+writeShown types names values pool = writePrinted (writeText (table types names) values pool)
 
 unfoldable pub writeFourth : List ℕ → List ℕ → List ℕ → List ℕ → List ℕ
 writeFourth types names values s = withLine 4 1 s (λ pool rest. writeShown types names values pool)

@@ -12,7 +12,7 @@ use Rattle.json.specs.Machine.{wideNext, hexRows, hexNext, highNext, lowNext, c
 use Rattle.jer.specs.Table.{Table, rowCount, field, carries, typeKind, kindOf, isType, marksOf, marked, extensible, isBase64, isArray, isUnwrapped, firstOf, elementOf, countOf, rootOf, memberRow, optional, typeAt, nameIn, nameAt, addition, mayMiss, mayBeAbsent, firstWhere, sameBytes, position, tokenCode, codeOf, sameToken, tokenPick, tokenOf, alternative, isSome, canBeNull, openUnwrapped, nullTaken}
 use Rattle.jer.specs.Valid.{every, implies, unused, goodBlock, goodName, goodMarks, goodFields, goodAlone, goodLinks, goodPointers, allDiffer, namesDiffer, noneOptional, goodArray, goodUnwrapped, goodRules, goodSizes, orElse, pass, firstBad}
 use Rattle.jer.specs.Value.{Val, countVals, countPresent}
-use Rattle.jer.specs.Answer.{Res, ok, no, bind, Values, values, valuesOf}
+use Rattle.jer.specs.Answer.{Res, ok, no, bind, Values, valuesOf}
 use Rattle.jer.specs.Octets.{also, hexValue, unhex, hexDigit, hex, base64Value, onlyIf, lastGroup, fullGroup, unbase64, base64Digit, base64}
 use Rattle.jer.specs.Read.{readInt, readItem, readOctets, octetsOf, readString, atKind, picked, unwrapping, lookup, namesGood, nullAbsent, withAbsent, withPresent, readMember, readMembers, readObject, nullValue, missingElement, readElement, surplus, readElements, readItems, readArray, readChosen, readChoice, readBraces, null?, read, readWhole}
 use Rattle.jer.specs.Rows.{numbers, bit, poolOf, above, rowsOf}

@@ -1,7 +1,7 @@
 -- The type table: its rows and fields by name.
 use Prim.Native.Nat.{ℕ, zero, suc, _+_, _*_, _/_, _%_}
 use mathlib.Core.List.{List, [], _∷_}
-use mathlib.Core.Bool.{Bool, true, false, _&&_, _||_, not}
+use mathlib.Core.Bool.{Bool, true, false, _&&_, _||_}
 use mathlib.Core.Option.{Option, none, some}
 use lib.Dec.{eqb, leb}
 use lib.ListN.{length, getD, take, drop}
@@ -13,6 +13,10 @@ use Rattle.jer.specs.declared.Layout.the-variants.{Bare, Holds, Lists, N
 pub record Table : Type 0 where
   pub rows : List ℕ
   pub names : List ℕ
+
+-- the table whose rows and names are lent
+abbrev pub table : List ℕ → List ℕ → Table
+table rows names = record { rows = rows; names = names }
 
 unfoldable pub rowCount : Table → ℕ
 rowCount t = length (t .rows) / 8

@@ -8,7 +8,7 @@ use Rattle.json.specs.Bytes.{In}
 use Rattle.json.specs.Utf8.{Wide, two, threeE0, threeE1, threeED, threeEE, fourF0, fourF1, fourF4, Utf8, noChar, one, more, wideRows, Due, start, due, never, dueNext, dueStep, dueEnd, utf8From, utf8}
 use Rattle.json.proofs.Feed.{pick-row}
 use Rattle.json.proofs.SoundRows.{Within, pick-within, _⨾_, only, behind}
-use Rattle.json.proofs.SoundString.{Conts, noCont, cont, WideEnd, wideEnd, with-one, with-two, with-three}
+use Rattle.json.proofs.SoundString.{noCont, cont, WideEnd, wideEnd, with-one, with-two, with-three}
 
 -- ---- whole characters pass
 

@@ -16,7 +16,7 @@ use Rattle.jer.specs.declared.Cause.the-variants.{OtherKind, BadNumber, BadStri
 use Rattle.jer.specs.declared.Refusal.the-variants.{AtByte}
 use Rattle.jer.specs.Table.{Table, kindOf, typeAt, position, extensible, isBase64, isUnwrapped, openUnwrapped, alternative, Token, tokenCode, tNull, tBoolean, tNumber, tString, tArray, tObject}
 use Rattle.jer.specs.Value.{Val, vBool, vInt, vEnum, vNull, vBytes, vChoice}
-use Rattle.jer.specs.Answer.{Res, ok, no, bind, at}
+use Rattle.jer.specs.Answer.{Res, ok, bind, at}
 use Rattle.jer.specs.Read.{readString, readItem, readOctets, octetsOf, atKind, nullValue, missingElement}
 use Rattle.jer.specs.Octets.{unhex, unbase64}
 use Rattle.jer.proofs.ValidLaws.{code-eq}

@@ -12,9 +12,8 @@ use types::token::NULL;
 use types::token::alternative;
 ghost use mathlib.Core.List.{List};
 ghost use Prim.Native.Nat.{ℕ, _^_, _<_};
-ghost use Rattle.jer.specs.Table.{typeAt};
+ghost use Rattle.jer.specs.Table.{typeAt, table};
 ghost use Rattle.jer.specs.Read.{missingElement};
-ghost use Rattle.types.specs.Rows.{table};
 ghost use Rattle.places.specs.ByPlaces.{ending};
 ghost use Rattle.leaf.specs.Step.{Stepped};
 

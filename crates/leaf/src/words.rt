@@ -13,8 +13,7 @@ use types::row::Row;
 use types::row::kind_of;
 ghost use mathlib.Core.List.{List};
 ghost use Prim.Native.Nat.{ℕ, _^_, _≤_};
-ghost use Rattle.jer.specs.Table.{tNull, tBoolean, tNumber};
-ghost use Rattle.types.specs.Rows.{table};
+ghost use Rattle.jer.specs.Table.{tNull, tBoolean, tNumber, table};
 ghost use Rattle.places.specs.ByPlaces.{leafAt};
 ghost use Rattle.leaf.specs.Step.{Stepped};
 

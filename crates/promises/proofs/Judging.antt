@@ -1,9 +1,8 @@
 -- Judging and reading a text, at the level of the calls, by the grammar alone: the machine in `json` need not be believed.
-use Prim.Native.Nat.{ℕ, _≤_, _<_}
+use Prim.Native.Nat.{ℕ, _≤_}
 use mathlib.Core.Path.{_≡_, refl, sym, ap, _∙_}
 use mathlib.Core.List.{List}
 use mathlib.Core.Option.{none}
-use native.Mathlib.Omega.{arith}
 use lib.ListN.{length}
 use Rattle.json.specs.Tree.{Json}
 use Rattle.json.specs.Grammar.{Text, NotJsonAt, TooDeepAt}
@@ -14,8 +13,6 @@ use Rattle.jer.specs.declared.Judged.the-variants as judged
 use Rattle.jer.specs.declared.Reading.{Reading}
 use Rattle.jer.specs.Table.{Table}
 use Rattle.jer.specs.Valid.{firstBad}
-use Rattle.jer.specs.Value.{Val}
-use Rattle.jer.specs.Answer.{Res}
 use Rattle.jer.specs.Read.{readWhole}
 use Rattle.jer.specs.Means.{Judges, long, broken, deep, json, typed}
 use Rattle.jer.specs.Calls.{readText, readAnswer, rowsAfter, poolAfter}

@@ -1,12 +1,12 @@
 -- Demand 2, the sender's options; the mapper's question; and skipped values: of two calls, whatever their buffers hold.
-use Prim.Native.Nat.{ℕ, _*_, _≤_}
+use Prim.Native.Nat.{ℕ, _≤_}
 use mathlib.Core.Path.{_≡_, refl, sym, ap, _∙_}
 use mathlib.Core.List.{List, [], _∷_}
 use mathlib.Core.Bool.{true, false}
 use mathlib.Core.Option.{none}
 use native.Mathlib.Omega.{arith}
 use lib.Dec.{lit<}
-use lib.ListN.{length, take}
+use lib.ListN.{length}
 use Rattle.json.specs.Tree.{Json, jnull, jint, jarr, inil, icons}
 use Rattle.json.specs.Grammar.{Text}
 use Rattle.jer.specs.declared.Cause.the-variants.{OtherKind, Missing}
@@ -17,7 +17,7 @@ use Rattle.jer.specs.Table.{Table}
 use Rattle.jer.specs.Valid.{firstBad}
 use Rattle.jer.specs.Value.{Val}
 use Rattle.jer.specs.Answer.{Res, ok, no}
-use Rattle.jer.specs.Rows.{rowsOf, poolOf}
+use Rattle.jer.specs.Rows.{poolOf}
 use Rattle.jer.specs.Read.{read}
 use Rattle.jer.specs.Judge.{judge}
 use Rattle.jer.specs.Calls.{rowNumbers, roomy, readText, readAnswer}
@@ -31,7 +31,7 @@ use Rattle.jer.proofs.JudgeTable.{judged-rows}
 use Rattle.jer.proofs.WeightGot.{got}
 use Rattle.jer.proofs.AlikeCalls.{respelled-texts, only-respelled-texts, skipped-texts}
 use Rattle.jer.proofs.MeansCalls.{means, means-fits}
-use Rattle.promises.specs.Statements.{Exactly, SameRoom, SameTable, Stores}
+use Rattle.promises.specs.Statements.{Exactly, SameRoom, SameTable}
 use Rattle.promises.proofs.Buffers.{stores}
 use Rattle.promises.proofs.Outcomes.{Stored, stored, stored-rows, stored-pool}
 

@@ -12,7 +12,7 @@ ghost use Rattle.jer.specs.declared.Limit.the-variants.{LentRoom};
 ghost use Rattle.jer.specs.declared.Reading.the-variants as reading;
 ghost use Rattle.jer.specs.declared.Refusal.the-variants.{Amounts};
 ghost use Rattle.jer.specs.Contracts.{TableCall, TextCall, ReadCall};
-ghost use Rattle.types.specs.Rows.{table};
+ghost use Rattle.jer.specs.Table.{table};
 
 // Reads the text by the type table into the lent rows and pool; a refusal leaves both as they were.
 pub fn read(types: &[u32], names: &[u8], s: &[u8], rows: &mut [u32], pool: &mut [u8]) -> Reading

@@ -6,9 +6,9 @@ use mathlib.Core.Option.{Option, none, some}
 use Prim.Native.Nat.{ℕ, _+_, _-_, _<_, _≤_}
 use native.Mathlib.Omega.{arith}
 use lib.ListN.{length, take, drop}
-use Rattle.jer.specs.Table.{Table, countOf, memberRow, nameIn, nameAt, sameBytes, firstWhere, position, nameStart, nameLength}
+use Rattle.jer.specs.Table.{Table, countOf, memberRow, nameIn, nameAt, sameBytes, firstWhere, position, nameStart, nameLength, table}
 use Rattle.types.specs.declared.token.Found.the-variants.{At, Nothing}
-use Rattle.types.specs.Rows.{table, foundOf}
+use Rattle.types.specs.Rows.{foundOf}
 use Rattle.types.proofs.RowLaws.{name-in}
 use Rattle.tokens.specs.Places.{pastSpace}
 use Rattle.tokens.specs.Strings.{stringEnd}

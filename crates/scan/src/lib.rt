@@ -21,8 +21,7 @@ ghost use mathlib.Core.Path.{_≡_};
 ghost use Prim.Native.Nat.{_≤_, _<_};
 ghost use lib.ListN.{length};
 ghost use Rattle.jer.specs.declared.Refusal.the-variants.{AtByte};
-ghost use Rattle.jer.specs.Table.{countOf};
-ghost use Rattle.types.specs.Rows.{table};
+ghost use Rattle.jer.specs.Table.{countOf, table};
 ghost use Rattle.places.specs.ByPlaces.{firstPart, stopped, scanAt, noPlaces};
 ghost use Rattle.scan.specs.Enums.{scanOf};
 

@@ -13,8 +13,8 @@ use types::token::Found;
 ghost use mathlib.Core.Path.{_≡_};
 ghost use Prim.Native.Nat.{_+_, _<_, _≤_};
 ghost use lib.ListN.{length};
-ghost use Rattle.jer.specs.Table.{nameIn, sameBytes, position};
-ghost use Rattle.types.specs.Rows.{table, foundOf};
+ghost use Rattle.jer.specs.Table.{nameIn, sameBytes, position, table};
+ghost use Rattle.types.specs.Rows.{foundOf};
 ghost use Rattle.tokens.specs.Strings.{bare, pieceAt, denoted};
 ghost use Rattle.places.specs.ByPlaces.{valuePlace};
 

@@ -13,7 +13,7 @@ use Rattle.jer.specs.declared.Cause.the-variants.{Missing, TooDeep, OtherKind, 
 use Rattle.jer.specs.declared.Limit.the-variants.{LentRoom}
 use Rattle.jer.specs.declared.Refusal.{Refusal}
 use Rattle.jer.specs.declared.Refusal.the-variants.{Amounts}
-use Rattle.jer.specs.Table.{Table, elementOf, countOf, NULL, SEQUENCE, SEQUENCE-OF, CHOICE, kindOf, openUnwrapped, typeAt, isArray, isUnwrapped, extensible, alternative, position, Token, tNull, tBoolean, tNumber, tString, tArray, tObject, tokenCode}
+use Rattle.jer.specs.Table.{Table, NULL, SEQUENCE, SEQUENCE-OF, CHOICE, kindOf, openUnwrapped, typeAt, isArray, isUnwrapped, extensible, alternative, position, Token, tNull, tBoolean, tNumber, tString, tArray, tObject, tokenCode}
 use Rattle.jer.specs.Value.{Val, vChoice, vNull}
 use Rattle.jer.specs.Answer.{Res, ok, no, bind, at}
 use Rattle.jer.specs.Read.{nullValue, missingElement}

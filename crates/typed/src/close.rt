@@ -16,7 +16,7 @@ ghost use lib.Seq.{sets};
 ghost use Rattle.leaf.specs.declared.Step.the-variants as step;
 ghost use Rattle.jer.specs.declared.Limit.the-variants.{LentRoom};
 ghost use Rattle.jer.specs.declared.Refusal.the-variants.{Amounts};
-ghost use Rattle.types.specs.Rows.{table};
+ghost use Rattle.jer.specs.Table.{table};
 ghost use Rattle.places.specs.ByPlaces.{surplusAt};
 ghost use Rattle.scan.specs.Enums.{followsOf};
 ghost use Rattle.typed.specs.Cycle.{bounded, ArrayEnd};

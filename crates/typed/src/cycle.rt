@@ -40,9 +40,8 @@ use types::token::alternative;
 ghost use mathlib.Core.Path.{_≡_};
 ghost use Prim.Native.Nat.{_+_, _-_, _≤_, _<_};
 ghost use lib.ListN.{length};
-ghost use Rattle.jer.specs.Table.{tokenCode, kindOf, SEQUENCE, SEQUENCE-OF, CHOICE};
+ghost use Rattle.jer.specs.Table.{tokenCode, kindOf, SEQUENCE, SEQUENCE-OF, CHOICE, table};
 ghost use Rattle.jer.specs.Answer.{bind};
-ghost use Rattle.types.specs.Rows.{table};
 ghost use Rattle.places.specs.ByPlaces.{tokenAt, listAt, arrayAt, objectAt, choiceAt, within, readAt, scanned, afterScan};
 ghost use Rattle.typed.specs.Cycle.{Given, Reads, limit, plainAt};
 

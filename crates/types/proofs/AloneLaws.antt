@@ -11,7 +11,7 @@ use Rattle.json.specs.Utf8.{utf8}
 use Rattle.jer.specs.declared.Layout.{Layout}
 use Rattle.jer.specs.declared.Layout.the-variants.{Bare, Holds, Lists, Names, Unknown}
 use Rattle.jer.specs.Table.{Table, rowCount, field, carries, kindOf, extensible, firstOf, elementOf, countOf, rootOf, nameIn}
-use Rattle.jer.specs.Valid.{every, implies, unused, goodBlock, goodName, goodMarks, goodFields, goodAlone}
+use Rattle.jer.specs.Valid.{implies, unused, goodBlock, goodName, goodMarks, goodFields, goodAlone}
 use Rattle.types.specs.declared.row.Row.{Row}
 use Rattle.types.specs.Rows.{rowOf}
 use Rattle.types.specs.Bytes.{Ascii}

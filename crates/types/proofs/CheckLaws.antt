@@ -2,7 +2,7 @@
 use mathlib.Core.Path.{_≡_, refl, sym, ap, _∙_}
 use mathlib.Core.Bool.{Bool, true, false, not}
 use mathlib.Core.Option.{Option, none, some}
-use Prim.Native.Nat.{ℕ, zero, suc, _+_, _-_, _/_, _<_, _≤_}
+use Prim.Native.Nat.{ℕ, zero, suc, _+_, _-_, _/_, _<_}
 use native.Mathlib.Omega.{arith}
 use borrow.Author.Tests.{not-true, not-false}
 use lib.ListN.{length}
@@ -12,7 +12,7 @@ use Rattle.jer.specs.declared.Refusal.the-variants.{AtRow}
 use Rattle.jer.specs.declared.Judged.{Judged}
 use Rattle.jer.specs.declared.Judged.the-variants.{Good, Refused}
 use Rattle.jer.specs.Table.{Table, rowCount, firstWhere}
-use Rattle.jer.specs.Valid.{goodAlone, goodPointers, goodRules, goodSizes, orElse, pass, firstBad}
+use Rattle.jer.specs.Valid.{goodAlone, goodSizes, orElse, pass, firstBad}
 use Rattle.jer.proofs.ValidLaws.{first-none}
 use Rattle.jer.specs.Calls.{tableOf, goodTable, judgedBy, tableJudged}
 use Rattle.types.specs.declared.passes.Pass.{Pass}

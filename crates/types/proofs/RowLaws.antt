@@ -8,12 +8,12 @@ use native.Mathlib.Omega.{arith}
 use lib.Dec.{eqb, leb}
 use lib.ListN.{length, getD, take, drop, List·getD-eq-default}
 use Rattle.json.specs.Bytes.{pick}
-use Rattle.jer.specs.Table.{Table, field, Token, tNull, tBoolean, tNumber, tString, tArray, tObject, tokenCode, codeOf, tokenPick, isSome, carries, kindOf, marksOf, marked, firstOf, countOf, rootOf, memberRow, optional, addition, mayMiss, mayBeAbsent, nameStart, nameLength, nameIn, tokenOf}
+use Rattle.jer.specs.Table.{Table, field, Token, tNull, tBoolean, tNumber, tString, tArray, tObject, tokenCode, codeOf, tokenPick, isSome, carries, kindOf, marksOf, marked, firstOf, countOf, rootOf, memberRow, optional, addition, mayMiss, mayBeAbsent, nameStart, nameLength, nameIn, tokenOf, table}
 use Rattle.jer.specs.Valid.{goodMarks}
 use Rattle.types.specs.declared.row.Row.{Row}
 use Rattle.jer.specs.declared.Layout.the-variants.{Unknown}
 use Rattle.types.specs.declared.row.Carried.{Carried as CarriedRow}
-use Rattle.types.specs.Rows.{table, rowOf, lineOf, carriedOf}
+use Rattle.types.specs.Rows.{rowOf, lineOf, carriedOf}
 use Rattle.types.proofs.ByteLaws.{other}
 
 -- a field past the end

@@ -11,10 +11,10 @@ use lib.ListN.{length, getD}
 use Rattle.json.specs.Bytes.{pick}
 use Rattle.json.specs.Utf8.{utf8}
 use Rattle.jer.specs.declared.Layout.the-variants.{Holds}
-use Rattle.jer.specs.Table.{Table, rowCount, field, carries, typeKind, isType, kindOf, marksOf, extensible, firstOf, elementOf, countOf, rootOf, nameIn}
+use Rattle.jer.specs.Table.{Table, rowCount, field, carries, typeKind, isType, kindOf, marksOf, extensible, firstOf, elementOf, countOf, rootOf, nameIn, table}
 use Rattle.jer.specs.Valid.{implies, unused, goodBlock, goodName, goodMarks, goodFields, goodAlone}
 use Rattle.types.specs.declared.row.Row.{Row}
-use Rattle.types.specs.Rows.{table, rowOf}
+use Rattle.types.specs.Rows.{rowOf}
 use Rattle.types.specs.Sure.{NameInside, BlockInside, Fits}
 use Rattle.types.proofs.RowLaws.{field-zero, kind-is}
 

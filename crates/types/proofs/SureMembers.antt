@@ -2,23 +2,23 @@
 use mathlib.Core.Path.{_≡_, refl, sym, ap, _∙_}
 use mathlib.Core.Logic.{_⊎_, inl, inr}
 use mathlib.Core.List.{List}
-use mathlib.Core.Bool.{Bool, true, false, not, _&&_}
+use mathlib.Core.Bool.{Bool, true, false, not}
 use Prim.Native.Nat.{ℕ, zero, suc, _+_, _-_, _*_, _/_, _%_, _<_, _≤_}
 use native.Mathlib.Omega.{arith}
 use borrow.Author.Tests.{eqb-true, eqb-false, eq-eqb, ne-eqb}
 use lib.Dec.{eqb}
-use lib.ListN.{length, getD, set, replicate, take, drop, length-drop, length-set, length-replicate}
+use lib.ListN.{length, getD, set, replicate, drop, length-drop, length-set, length-replicate}
 use lib.Seq.{length-take-le, getD-set-same, getD-set-other}
 use Rattle.jer.proofs.ValidLaws.{sameBytes-eq}
-use Rattle.jer.specs.Table.{Table, rowCount, field, isType, isArray, isUnwrapped, kindOf, firstOf, countOf, memberRow, optional, typeAt, nameIn, nameAt, sameBytes}
-use Rattle.jer.specs.Valid.{every, allDiffer, namesDiffer, noneOptional, goodArray, goodUnwrapped, goodPointers, goodRules}
+use Rattle.jer.specs.Table.{Table, rowCount, field, isType, isArray, isUnwrapped, kindOf, firstOf, countOf, memberRow, optional, typeAt, nameIn, nameAt, sameBytes, table}
+use Rattle.jer.specs.Valid.{every, allDiffer, namesDiffer, noneOptional, goodArray, goodUnwrapped}
 use Rattle.types.specs.declared.row.Row.{Row}
 use Rattle.types.specs.declared.members.Rule.the-variants.{IsMember, Untyped}
-use Rattle.types.specs.Rows.{table, rowOf}
+use Rattle.types.specs.Rows.{rowOf}
 use Rattle.types.specs.Check.{keeps}
 use Rattle.types.specs.Sure.{NameInside, BlockInside, signOf, Apart, Fits, SureMember, SureMembers, SureLinks}
 use Rattle.types.proofs.RuleLaws.{pointers-type, pointers-members, pointers-none, rules-enumerated, rules-array, rules-sequence, rules-unwrapped, rules-choice, rules-none}
-use Rattle.types.proofs.SureLaws.{no-true, split-next}
+use Rattle.types.proofs.SureLaws.{split-next}
 
 pub count-is : (rows ns : List ℕ) {n : ℕ} → n ≡ rowCount (table rows ns) → n ≡ length rows / 8
 unfolding rowCount

@@ -1,6 +1,5 @@
--- The type table as the code holds it: two lent slices, a row as a struct, and a position that may be missing.
+-- The type table as the code holds it: a row as a struct, what it carries, and a position that may be missing.
 use Prim.Native.Nat.{ℕ}
-use mathlib.Core.List.{List}
 use mathlib.Core.Option.{Option, none, some}
 use Rattle.jer.specs.declared.Layout.{Layout}
 use Rattle.jer.specs.Table.{Table, Carried, kindOf, marksOf, firstOf, countOf, rootOf, codeOf}
@@ -8,10 +7,6 @@ use Rattle.types.specs.declared.row.Row.{Row}
 use Rattle.types.specs.declared.row.Carried.{Carried as CarriedRow}
 use Rattle.types.specs.declared.token.Found.{Found}
 use Rattle.types.specs.declared.token.Found.the-variants.{At, Nothing}
-
--- the table whose rows and names are lent
-abbrev pub table : List ℕ → List ℕ → Table
-table rows names = record { rows = rows; names = names }
 
 -- the row r of a table, by the accessors of `jer`; a member's row has its type row, and its name's start and length, in fields 2 to 4
 abbrev pub rowOf : Table → ℕ → Row

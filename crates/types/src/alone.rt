@@ -10,9 +10,9 @@ ghost use mathlib.Core.List.{List};
 ghost use mathlib.Core.Bool.{true};
 ghost use Prim.Native.Nat.{ℕ, _-_, _≤_, _<_, _/_};
 ghost use lib.ListN.{length};
-ghost use Rattle.jer.specs.Table.{Table, rowCount};
+ghost use Rattle.jer.specs.Table.{Table, rowCount, table};
 ghost use Rattle.jer.specs.Valid.{unused, goodBlock, goodName, goodAlone};
-ghost use Rattle.types.specs.Rows.{table, rowOf};
+ghost use Rattle.types.specs.Rows.{rowOf};
 ghost use Rattle.types.specs.Bytes.{Ascii};
 
 // The fields from `from` on are 0.

@@ -19,7 +19,7 @@ use passes::passed;
 use passes::passed_alone;
 use sure::sure;
 ghost use Rattle.jer.specs.Contracts.{TableCall};
-ghost use Rattle.types.specs.Rows.{table};
+ghost use Rattle.jer.specs.Table.{table};
 
 // Well formed, or refusal 1 with the first bad row of three passes upwards.
 pub fn check(rows: &[u32], names: &[u8]) -> Judged

@@ -10,9 +10,8 @@ use crate::row::type_at;
 use crate::token::null_taken;
 use crate::token::token_of;
 ghost use mathlib.Core.Path.{_≡_};
-ghost use Rattle.jer.specs.Table.{countOf};
+ghost use Rattle.jer.specs.Table.{countOf, table};
 ghost use Rattle.jer.specs.Valid.{every};
-ghost use Rattle.types.specs.Rows.{table};
 ghost use Rattle.types.specs.Check.{alike, keeps};
 
 // By what two members are compared.

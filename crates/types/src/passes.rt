@@ -9,7 +9,7 @@ use jer::Refusal;
 use jer::Which;
 ghost use mathlib.Core.Path.{_≡_};
 ghost use Rattle.jer.specs.Valid.{goodAlone, goodSizes, pass};
-ghost use Rattle.types.specs.Rows.{table};
+ghost use Rattle.jer.specs.Table.{table};
 ghost use Rattle.types.specs.Check.{goodIn, rowJudged};
 
 // House sizes of document 01: the numbers of 4,096 rows, and bytes of names.

@@ -6,9 +6,9 @@ ghost use mathlib.Core.Path.{_≡_};
 ghost use mathlib.Core.List.{List};
 ghost use Prim.Native.Nat.{ℕ, _<_, _/_};
 ghost use lib.ListN.{length};
-ghost use Rattle.jer.specs.Table.{Table, rowCount, field, carries, typeKind, kindOf, isType, marked, extensible, isBase64, isArray, isUnwrapped, firstOf, elementOf, countOf, rootOf, memberRow, optional, typeIn, typeAt, nameStart, nameLength, nameIn, codeOf, tokenOf, mayMiss, mayBeAbsent};
+ghost use Rattle.jer.specs.Table.{Table, rowCount, field, carries, typeKind, kindOf, isType, marked, extensible, isBase64, isArray, isUnwrapped, firstOf, elementOf, countOf, rootOf, memberRow, optional, typeIn, typeAt, nameStart, nameLength, nameIn, codeOf, tokenOf, mayMiss, mayBeAbsent, table};
 ghost use Rattle.jer.specs.Valid.{goodMarks};
-ghost use Rattle.types.specs.Rows.{table, rowOf, lineOf, carriedOf};
+ghost use Rattle.types.specs.Rows.{rowOf, lineOf, carriedOf};
 
 // Fields 0 to 4; the last three have another use in a member's row.
 pub struct Row {

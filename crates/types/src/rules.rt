@@ -6,7 +6,7 @@ use crate::row::Row;
 use crate::row::wide;
 ghost use mathlib.Core.Path.{_≡_};
 ghost use Rattle.jer.specs.Valid.{goodPointers, namesDiffer, noneOptional, goodArray, goodUnwrapped, goodRules};
-ghost use Rattle.types.specs.Rows.{table};
+ghost use Rattle.jer.specs.Table.{table};
 
 pub fn good_pointers(rows: &[u32], names: &[u8], r: usize) -> bool
     ensures { λ b. ⌜ b ≡ goodPointers (table (now (rows .entry)) (now (names .entry))) r ⌝ }

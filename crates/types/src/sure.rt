@@ -11,8 +11,7 @@ ghost use mathlib.Core.List.{List};
 ghost use mathlib.Core.Bool.{true};
 ghost use Prim.Native.Nat.{ℕ, _+_, _≤_, _<_, _/_};
 ghost use lib.ListN.{length, getD};
-ghost use Rattle.jer.specs.Table.{isType, nameIn};
-ghost use Rattle.types.specs.Rows.{table};
+ghost use Rattle.jer.specs.Table.{isType, nameIn, table};
 ghost use Rattle.types.specs.Sure.{Alone, BlockInside, signOf, NameInside, NamesInside, Apart, Fits, SureMembers, SureLinks};
 
 // Any type row.

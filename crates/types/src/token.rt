@@ -5,8 +5,8 @@ use crate::row::type_at;
 ghost use mathlib.Core.Path.{_≡_};
 ghost use mathlib.Core.List.{List};
 ghost use Prim.Native.Nat.{ℕ};
-ghost use Rattle.jer.specs.Table.{Token, tokenCode, codeOf, tokenOf, alternative, canBeNull, openUnwrapped, nullTaken};
-ghost use Rattle.types.specs.Rows.{table, foundOf};
+ghost use Rattle.jer.specs.Table.{Token, tokenCode, codeOf, tokenOf, alternative, canBeNull, openUnwrapped, nullTaken, table};
+ghost use Rattle.types.specs.Rows.{foundOf};
 
 // Tokens by number.
 pub const NULL: u32 = 0;

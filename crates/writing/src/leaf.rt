@@ -19,11 +19,10 @@ ghost use mathlib.Core.Path.{_≡_};
 ghost use mathlib.Core.List.{List};
 ghost use mathlib.Core.Option.{Option};
 ghost use Prim.Native.Nat.{ℕ, _≤_, _<_};
-ghost use Rattle.jer.specs.Table.{kindOf};
+ghost use Rattle.jer.specs.Table.{kindOf, table};
 ghost use Rattle.jer.specs.Rows as jer;
 ghost use Rattle.jer.specs.Judge.{Taker, takeRow};
 ghost use Rattle.jer.specs.Write.{write};
-ghost use Rattle.types.specs.Rows.{table};
 ghost use Rattle.writing.specs.Rows.{valueRow};
 ghost use Rattle.writing.specs.Text.{formOf, textOf, Writes};
 

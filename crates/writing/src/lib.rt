@@ -16,7 +16,7 @@ use types::check;
 use value::judged;
 use value::value;
 ghost use Rattle.jer.specs.Contracts.{WriteCall};
-ghost use Rattle.types.specs.Rows.{table};
+ghost use Rattle.jer.specs.Table.{table};
 ghost use Rattle.writing.specs.Text.{Wrapped, valueWritten, Answers};
 
 // The one text of the value table, stored from the start of `text`. A refusal leaves it as it was.

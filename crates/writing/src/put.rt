@@ -13,7 +13,7 @@ ghost use lib.ListN.{length};
 ghost use lib.Seq.{sets};
 ghost use Rattle.jer.specs.Write.{nullText, boolText, intText, quotes};
 ghost use Rattle.jer.specs.Calls.{amount};
-ghost use Rattle.types.specs.Rows.{table};
+ghost use Rattle.jer.specs.Table.{table};
 ghost use Rattle.writing.specs.Text.{Puts, spelled, comma, nulls, nameText, lead, opening, closing, keptAfter};
 
 // The place b bytes after a.

@@ -9,7 +9,7 @@ ghost use mathlib.Core.List.{List};
 ghost use Prim.Native.Nat.{ℕ, _<_};
 ghost use lib.ListN.{length};
 ghost use Rattle.jer.specs.Judge.{isAbsent};
-ghost use Rattle.types.specs.Rows.{table};
+ghost use Rattle.jer.specs.Table.{table};
 ghost use Rattle.writing.specs.Rows.{valueRow, rowsFrom, Finds, absentNext, nullNext};
 
 pub struct ValueRow {

@@ -26,9 +26,8 @@ ghost use mathlib.Core.Bool.{false};
 ghost use mathlib.Core.List.{[]};
 ghost use Prim.Native.Nat.{suc, _<_};
 ghost use lib.ListN.{length};
-ghost use Rattle.jer.specs.Table.{isUnwrapped};
+ghost use Rattle.jer.specs.Table.{isUnwrapped, table};
 ghost use Rattle.jer.specs.Judge.{takeSequence, takeList, takeChoice};
-ghost use Rattle.types.specs.Rows.{table};
 ghost use Rattle.writing.specs.Rows.{valueRow, rowsFrom};
 ghost use Rattle.writing.specs.Text.{valueText, bracketText, Writes, Wrapped};
 

@@ -1,5 +1,4 @@
-use Rattle.jer.specs.Table.{tNull, tBoolean, tNumber, tString, tokenCode}
-use Rattle.types.specs.Rows.{table}
+use Rattle.jer.specs.Table.{tNull, tBoolean, tNumber, tString, tokenCode, table}
 use Rattle.leaf.proofs.StoreLaws.{refuses}
 use Rattle.leaf.proofs.LeafLaws.{by-token, leaf-other}
 use borrow.Author.Needs.{needs}

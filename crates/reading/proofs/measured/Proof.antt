@@ -1,6 +1,6 @@
-use mathlib.Core.Path.{refl, _∙_}
+use mathlib.Core.Path.{refl}
 use native.Mathlib.Omega.{arith}
-use Rattle.types.specs.Rows.{table}
+use Rattle.jer.specs.Table.{table}
 use Rattle.places.specs.ByPlaces.{readAt}
 use Rattle.typed.proofs.CycleLaws.{passed, failed, at-place}
 use Rattle.reading.proofs.ReadLaws.{given, means-no, means-ok, refuses, few-rows, few-bytes, stored, whole-rows, whole-pool, tell}

@@ -5,9 +5,8 @@ use Prim.Native.Nat.{ℕ, _+_, _<_}
 use native.Mathlib.Omega.{arith}
 use borrow.Author.Tests.{not-true, not-false}
 use lib.ListN.{length}
-use Rattle.jer.specs.Table.{extensible, position}
+use Rattle.jer.specs.Table.{extensible, position, table}
 use Rattle.jer.proofs.ValidLaws.{position-some}
-use Rattle.types.specs.Rows.{table}
 use Rattle.tokens.specs.Strings.{denoted}
 use Rattle.tokens.specs.Skip.{pastValue}
 use Rattle.places.specs.ByPlaces.{firstPart, afterPart, Scan, scanAt, noPlaces}

@@ -1,4 +1,4 @@
-use Rattle.types.specs.Rows.{table}
+use Rattle.jer.specs.Table.{table}
 use Rattle.types.proofs.CheckLaws.{alone-all, check-sizes, check-alone, check-sure, check-pointers, check-rules}
 use borrow.Author.Needs.{needs}
 use Rattle.types.proofs.check.Statement.{statement}

@@ -2,7 +2,7 @@ use mathlib.Core.Path.{refl}
 use borrow.Author.Tests.{not-true, not-false}
 use Rattle.jer.specs.Judge.{rowsIn}
 use Rattle.jer.specs.Write.{write}
-use Rattle.types.specs.Rows.{table}
+use Rattle.jer.specs.Table.{table}
 use Rattle.writing.proofs.TextLaws.{value-got, value-wrong}
 use Rattle.writing.proofs.CallLaws.{answers-as, refuses, too-long, too-small, written, value-bad, left-over, all-taken, end-of, stored-again}
 use borrow.Author.Needs.{needs}

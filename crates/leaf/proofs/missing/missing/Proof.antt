@@ -1,6 +1,5 @@
 use mathlib.Core.Path.{refl, sym, _∙_}
-use Rattle.jer.specs.Table.{tNull, tokenCode}
-use Rattle.types.specs.Rows.{table}
+use Rattle.jer.specs.Table.{tNull, tokenCode, table}
 use Rattle.leaf.proofs.LeafLaws.{missing-choice, missing-open, missing-closed, missing-null, missing-other, missing-refused, missing-one, missing-two}
 use borrow.Author.Needs.{needs}
 use Rattle.leaf.proofs.missing.missing.Statement.{statement}

@@ -1,8 +1,7 @@
 use mathlib.Core.Path.{sym, _∙_}
 use Prim.Native.Nat.{_+_}
-use Rattle.jer.specs.Table.{position}
+use Rattle.jer.specs.Table.{position, table}
 use Rattle.tokens.specs.Strings.{denoted, stringEnd}
-use Rattle.types.specs.Rows.{table}
 use Rattle.leaf.proofs.StoreLaws.{refuses}
 use Rattle.leaf.proofs.LeafLaws.{item-none, item-bad, item-read}
 use borrow.Author.Needs.{needs}

@@ -2,7 +2,7 @@ use mathlib.Core.Path.{ap, _∙_}
 use Prim.Native.Nat.{_+_}
 use Rattle.tokens.specs.Strings.{denoted}
 use Rattle.octets.specs.Decode.{foundOf}
-use Rattle.types.specs.Rows.{table}
+use Rattle.jer.specs.Table.{table}
 use Rattle.leaf.proofs.LeafLaws.{base64-of, hex-of, stored-at}
 use borrow.Author.Needs.{needs}
 use Rattle.leaf.proofs.strings.octets_at.Statement.{statement}

@@ -1,5 +1,5 @@
 use mathlib.Core.Path.{sym, _∙_}
-use Rattle.types.specs.Rows.{table}
+use Rattle.jer.specs.Table.{table}
 use Rattle.leaf.proofs.StoreLaws.{stepped, refuses}
 use Rattle.leaf.proofs.LeafLaws.{string-item, string-other, octets-bad, octets-read, utf8-read}
 use borrow.Author.Needs.{needs}

@@ -1,5 +1,5 @@
 use mathlib.Core.Path.{sym, _∙_}
-use Rattle.types.specs.Rows.{table}
+use Rattle.jer.specs.Table.{table}
 use Rattle.leaf.proofs.StoreLaws.{refuses}
 use Rattle.leaf.proofs.LeafLaws.{number-other, number-bad, number-read}
 use borrow.Author.Needs.{needs}

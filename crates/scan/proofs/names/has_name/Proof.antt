@@ -1,7 +1,6 @@
 use mathlib.Core.Path.{refl, sym}
-use Rattle.jer.specs.Table.{nameLength}
+use Rattle.jer.specs.Table.{nameLength, table}
 use Rattle.tokens.specs.Strings.{denoted}
-use Rattle.types.specs.Rows.{table}
 use Rattle.scan.proofs.NameLaws.{in-row}
 use borrow.Author.Needs.{needs}
 use Rattle.scan.proofs.names.has_name.Statement.{statement}

@@ -3,9 +3,9 @@ use mathlib.Core.List.{List}
 use mathlib.Core.Bool.{Bool}
 use Prim.Native.Nat.{ℕ, _+_, _-_}
 use native.Mathlib.Omega.{arith}
-use Rattle.jer.specs.Table.{firstWhere, position}
+use Rattle.jer.specs.Table.{firstWhere, position, table}
 use Rattle.tokens.specs.Strings.{denoted}
-use Rattle.types.specs.Rows.{table, foundOf}
+use Rattle.types.specs.Rows.{foundOf}
 use Rattle.types.proofs.RowLaws.{member-row}
 use Rattle.types.proofs.LoopLaws.{first-next, first-found, first-ends}
 use Rattle.scan.proofs.NameLaws.{named, named-is, position-starts}

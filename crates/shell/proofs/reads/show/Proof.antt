@@ -1,7 +1,7 @@
 use borrow.Author.Needs.{needs}
 use native.Mathlib.Omega.{arith}
 use Rattle.jer.specs.Programs.{readShown}
-use Rattle.types.specs.Rows.{table}
+use Rattle.jer.specs.Table.{table}
 use Rattle.lines.proofs.ShownLaws.{shown-as}
 use Rattle.shell.proofs.AnswerLaws.{reading-shown}
 use Rattle.shell.proofs.reads.show.Statement.{statement}

@@ -1,7 +1,7 @@
 use borrow.Author.Needs.{needs}
 use native.Mathlib.Omega.{arith}
 use Rattle.jer.specs.Programs.{writeShown}
-use Rattle.types.specs.Rows.{table}
+use Rattle.jer.specs.Table.{table}
 use Rattle.lines.proofs.ShownLaws.{shown-as}
 use Rattle.shell.proofs.AnswerLaws.{writing-shown}
 use Rattle.shell.proofs.writes.show.Statement.{statement}

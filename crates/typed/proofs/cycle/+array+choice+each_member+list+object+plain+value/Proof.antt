@@ -3,11 +3,10 @@ use mathlib.Core.Path.{_≡_, refl, sym, ap, _∙_}
 use native.Mathlib.Omega.{arith}
 use borrow.Author.Tests.{not-true, not-false}
 use lib.ListN.{length}
-use Rattle.jer.specs.Table.{extensible, elementOf, countOf, typeAt}
+use Rattle.jer.specs.Table.{extensible, elementOf, countOf, typeAt, table}
 use Rattle.jer.specs.Value.{Val}
 use Rattle.jer.specs.Answer.{Res, bind}
 use Rattle.jer.specs.declared.Cause.the-variants.{OtherKind, UnknownName}
-use Rattle.types.specs.Rows.{table}
 use Rattle.jer.specs.Read.{missingElement}
 use Rattle.places.specs.ByPlaces.{ending, Got, firstPart, tokenAt, leafAt, within, readAt, itemsAt, elementsAt, membersAt, noPlaces}
 use Rattle.scan.specs.Enums.{followsOf}
@@ -80,12 +79,8 @@ use Rattle.types.proofs.row.element_of.Reads as element-of-reads
 use Rattle.types.proofs.row.type_at.Reads as type-at-reads
 use Rattle.types.proofs.row.wide.Reads as wide-reads
 use Rattle.types.proofs.token.alternative.Reads as alternative-reads
-use Rattle.typed.proofs.cycle.+array+choice+each_member+list+object+plain+value.{
-  statement,
-}
-use Rattle.typed.proofs.cycle.+array+choice+each_member+list+object+plain+value.Tie.{
-  close,
-}
+use Rattle.typed.proofs.cycle.+array+choice+each_member+list+object+plain+value.{statement}
+use Rattle.typed.proofs.cycle.+array+choice+each_member+list+object+plain+value.Tie.{close}
 
 abbrev μ-array : Measures 5 array-kinds.ps ℕ
 μ-array κs a = a .1 .1 .1 .1 .1 .1 .1 .1 .1 .0 * 4 + 1

@@ -3,7 +3,7 @@ use Rattle.scan.proofs.WithinLaws.{run-within}
 use Rattle.scan.specs.Enums.{followsOf}
 use Rattle.tokens.proofs.SkipLaws.{word-is}
 use Rattle.tokens.specs.Skip.{isEnd}
-use Rattle.types.specs.Rows.{table}
+use Rattle.jer.specs.Table.{table}
 use native.Mathlib.Omega.{arith}
 use mathlib.Core.Bool.{not}
 use mathlib.Core.Path.{ap, _∙_}

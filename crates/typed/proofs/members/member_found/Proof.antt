@@ -1,5 +1,5 @@
 use Rattle.typed.proofs.FoundLaws.{member-absent, member-missing, member-null, member-there}
-use Rattle.types.specs.Rows.{table}
+use Rattle.jer.specs.Table.{table}
 use borrow.Author.Tests.{not-true, not-false}
 use borrow.Author.Needs.{needs}
 use Rattle.typed.proofs.members.member_found.Statement.{statement}

@@ -1,4 +1,4 @@
-use Rattle.types.specs.Rows.{table}
+use Rattle.jer.specs.Table.{table}
 use Rattle.typed.proofs.FoundLaws.{null-told}
 use borrow.Author.Needs.{needs}
 use Rattle.typed.proofs.members.null_absent.Statement.{statement}

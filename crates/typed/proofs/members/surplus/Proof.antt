@@ -1,6 +1,6 @@
 use Rattle.typed.proofs.FoundLaws.{surplus-none, surplus-past, surplus-stops}
 use Rattle.scan.specs.Enums.{followsOf}
-use Rattle.types.specs.Rows.{table}
+use Rattle.jer.specs.Table.{table}
 use mathlib.Core.Path.{sym, ap, _∙_}
 use borrow.Author.Needs.{needs}
 use Rattle.typed.proofs.members.surplus.Statement.{statement}

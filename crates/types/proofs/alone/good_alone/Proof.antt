@@ -1,4 +1,4 @@
-use Rattle.types.specs.Rows.{table}
+use Rattle.jer.specs.Table.{table}
 use Rattle.types.proofs.RowLaws.{marks-told, layout-told}
 use Rattle.types.proofs.AloneLaws.{alone-marked, alone-bare, alone-holds, alone-lists, alone-names, alone-unknown}
 use borrow.Author.Needs.{needs}

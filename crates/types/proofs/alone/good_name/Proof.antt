@@ -1,5 +1,5 @@
 use mathlib.Core.Path.{refl}
-use Rattle.types.specs.Rows.{table}
+use Rattle.jer.specs.Table.{table}
 use Rattle.types.proofs.AloneLaws.{name-empty, name-long, name-out, name-ascii, name-utf8}
 use borrow.Author.Needs.{needs}
 use Rattle.types.proofs.alone.good_name.Statement.{statement}

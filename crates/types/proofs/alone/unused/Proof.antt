@@ -4,9 +4,8 @@ use mathlib.Core.List.{List}
 use Prim.Native.Nat.{ℕ, _-_}
 use native.Mathlib.Omega.{arith}
 use borrow.Author.Tests.{eq-eqb, ne-eqb}
-use Rattle.jer.specs.Table.{field}
+use Rattle.jer.specs.Table.{field, table}
 use Rattle.jer.specs.Valid.{every, unused}
-use Rattle.types.specs.Rows.{table}
 use Rattle.types.proofs.LoopLaws.{every-next, every-fails, every-ends}
 use Rattle.types.proofs.AloneLaws.{zero-at}
 use borrow.Author.Needs.{needs}

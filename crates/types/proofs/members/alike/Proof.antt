@@ -1,4 +1,4 @@
-use Rattle.types.specs.Rows.{table}
+use Rattle.jer.specs.Table.{table}
 use Rattle.types.proofs.MemberLaws.{alike-name, alike-token}
 use borrow.Author.Needs.{needs}
 use Rattle.types.proofs.members.alike.Statement.{statement}

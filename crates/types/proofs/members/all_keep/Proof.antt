@@ -3,9 +3,8 @@ use mathlib.Core.Path.{_≡_}
 use Prim.Native.Nat.{_-_}
 use native.Mathlib.Omega.{arith}
 use borrow.Author.Tests.{not-true, not-false}
-use Rattle.jer.specs.Table.{countOf}
+use Rattle.jer.specs.Table.{countOf, table}
 use Rattle.jer.specs.Valid.{every}
-use Rattle.types.specs.Rows.{table}
 use Rattle.types.specs.Check.{keeps}
 use Rattle.types.proofs.LoopLaws.{every-next, every-fails, every-ends}
 use Rattle.types.proofs.MemberLaws.{all-starts}

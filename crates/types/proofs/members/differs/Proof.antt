@@ -5,7 +5,7 @@ use Prim.Native.Nat.{_-_}
 use native.Mathlib.Omega.{arith}
 use Rattle.jer.specs.Valid.{every}
 use Rattle.types.specs.declared.members.Rule.the-variants.{Differs}
-use Rattle.types.specs.Rows.{table}
+use Rattle.jer.specs.Table.{table}
 use Rattle.types.specs.Check.{keeps}
 use Rattle.types.proofs.LoopLaws.{every-next, every-fails, every-ends}
 use Rattle.types.proofs.MemberLaws.{apart, apart-told, differs-starts}

@@ -1,4 +1,4 @@
-use Rattle.types.specs.Rows.{table}
+use Rattle.jer.specs.Table.{table}
 use Rattle.types.proofs.MemberLaws.{keeps-member, keeps-required, keeps-untyped, keeps-null-free, keeps-wrapped, keeps-differs}
 use borrow.Author.Needs.{needs}
 use Rattle.types.proofs.members.keeps.Statement.{statement}

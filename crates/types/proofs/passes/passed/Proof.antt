@@ -2,9 +2,8 @@
 use mathlib.Core.Path.{_≡_}
 use Prim.Native.Nat.{_-_}
 use native.Mathlib.Omega.{arith}
-use Rattle.jer.specs.Table.{firstWhere}
+use Rattle.jer.specs.Table.{firstWhere, table}
 use Rattle.jer.specs.Valid.{pass}
-use Rattle.types.specs.Rows.{table}
 use Rattle.types.specs.Check.{goodIn}
 use Rattle.types.proofs.LoopLaws.{first-next, first-found, first-ends}
 use Rattle.types.proofs.CheckLaws.{badIn, bad-told, pass-starts, pass-found, pass-ends}

@@ -3,9 +3,8 @@ use mathlib.Core.Path.{_≡_, ap}
 use mathlib.Core.Bool.{not}
 use Prim.Native.Nat.{_-_}
 use native.Mathlib.Omega.{arith}
-use Rattle.jer.specs.Table.{firstWhere}
+use Rattle.jer.specs.Table.{firstWhere, table}
 use Rattle.jer.specs.Valid.{goodAlone, pass}
-use Rattle.types.specs.Rows.{table}
 use Rattle.types.proofs.LoopLaws.{first-next, first-found, first-ends}
 use Rattle.types.proofs.SureMembers.{count-is}
 use Rattle.types.proofs.CheckLaws.{badAlone, alone-starts, pass-found, pass-ends}

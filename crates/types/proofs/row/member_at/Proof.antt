@@ -1,6 +1,7 @@
 use mathlib.Core.Path.{ap, _∙_}
 use Prim.Native.Nat.{ℕ}
-use Rattle.types.specs.Rows.{table, rowOf}
+use Rattle.types.specs.Rows.{rowOf}
+use Rattle.jer.specs.Table.{table}
 use borrow.Author.Needs.{needs}
 use Rattle.types.proofs.row.member_at.Statement.{statement}
 use Rattle.types.proofs.row.member_at.Tie as tie

@@ -1,7 +1,6 @@
 use mathlib.Core.Path.{ap, _∙_}
 use Prim.Native.Nat.{ℕ}
-use Rattle.jer.specs.Table.{typeIn, typeAt}
-use Rattle.types.specs.Rows.{table}
+use Rattle.jer.specs.Table.{typeIn, typeAt, table}
 use borrow.Author.Needs.{needs}
 use Rattle.types.proofs.row.type_at.Statement.{statement}
 use Rattle.types.proofs.row.type_at.Tie as tie

@@ -1,4 +1,4 @@
-use Rattle.types.specs.Rows.{table}
+use Rattle.jer.specs.Table.{table}
 use Rattle.types.proofs.RuleLaws.{pointers-type, pointers-members, pointers-none}
 use borrow.Author.Needs.{needs}
 use Rattle.types.proofs.rules.good_pointers.Statement.{statement}

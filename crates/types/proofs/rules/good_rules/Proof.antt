@@ -1,4 +1,4 @@
-use Rattle.types.specs.Rows.{table}
+use Rattle.jer.specs.Table.{table}
 use Rattle.types.proofs.RuleLaws.{rules-enumerated, rules-array, rules-sequence, rules-unwrapped, rules-choice, rules-none}
 use borrow.Author.Needs.{needs}
 use Rattle.types.proofs.rules.good_rules.Statement.{statement}

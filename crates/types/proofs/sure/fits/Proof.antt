@@ -1,4 +1,4 @@
-use Rattle.types.specs.Rows.{table}
+use Rattle.jer.specs.Table.{table}
 use Rattle.types.proofs.SureLaws.{fits-told}
 use borrow.Author.Needs.{needs}
 use Rattle.types.proofs.sure.fits.Statement.{statement}

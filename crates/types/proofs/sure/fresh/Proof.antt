@@ -1,4 +1,3 @@
-use borrow.Author.Needs.{needs}
 use Rattle.types.proofs.sure.fresh.Statement.{statement}
 use Rattle.types.proofs.sure.fresh.Tie as tie
 

@@ -1,5 +1,5 @@
 use mathlib.Core.Path.{refl}
-use Rattle.types.specs.Rows.{table}
+use Rattle.jer.specs.Table.{table}
 use Rattle.types.proofs.AloneLaws.{name-room, name-told}
 use borrow.Author.Needs.{needs}
 use Rattle.types.proofs.sure.name_inside.Statement.{statement}

@@ -2,7 +2,7 @@
 use Prim.Native.Nat.{ℕ, _-_, _<_}
 use native.Mathlib.Omega.{arith}
 use borrow.Author.Tests.{not-false}
-use Rattle.types.specs.Rows.{table}
+use Rattle.jer.specs.Table.{table}
 use Rattle.types.specs.Sure.{SureLinks}
 use Rattle.types.proofs.SureLaws.{no-true, split-next}
 use Rattle.types.proofs.SureMembers.{count-is}

@@ -1,6 +1,6 @@
 use mathlib.Core.Logic.{inl, inr}
 use borrow.Author.Tests.{not-false}
-use Rattle.types.specs.Rows.{table}
+use Rattle.jer.specs.Table.{table}
 use Rattle.types.proofs.SureLaws.{no-true, block-room, points-room}
 use Rattle.types.proofs.SureMembers.{links-type, links-enumerated, links-array, links-sequence, links-unwrapped, links-choice, links-none}
 use borrow.Author.Needs.{needs}

@@ -2,7 +2,7 @@
 use Prim.Native.Nat.{_+_, _-_}
 use native.Mathlib.Omega.{arith}
 use borrow.Author.Tests.{not-false}
-use Rattle.types.specs.Rows.{table}
+use Rattle.jer.specs.Table.{table}
 use Rattle.types.proofs.SureLaws.{no-true, alone-name}
 use Rattle.types.proofs.SureMembers.{name-length, SoFar, so-far-starts, so-far-next, members-room, members-told}
 use borrow.Author.Needs.{needs}

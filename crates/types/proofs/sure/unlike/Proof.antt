@@ -2,7 +2,7 @@
 use Prim.Native.Nat.{_-_}
 use Rattle.types.proofs.SureMembers.{apart-next}
 use native.Mathlib.Omega.{arith}
-use Rattle.types.specs.Rows.{table}
+use Rattle.jer.specs.Table.{table}
 use Rattle.types.specs.Sure.{Apart}
 use Rattle.types.proofs.SureLaws.{no-true}
 use borrow.Author.Needs.{needs}

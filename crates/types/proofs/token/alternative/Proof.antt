@@ -3,8 +3,8 @@ use mathlib.Core.Path.{_≡_, refl, ap}
 use mathlib.Core.List.{List}
 use Prim.Native.Nat.{ℕ, _-_}
 use native.Mathlib.Omega.{arith}
-use Rattle.jer.specs.Table.{Token, tokenCode, firstWhere, alternative}
-use Rattle.types.specs.Rows.{table, foundOf}
+use Rattle.jer.specs.Table.{Token, tokenCode, firstWhere, alternative, table}
+use Rattle.types.specs.Rows.{foundOf}
 use Rattle.types.proofs.LoopLaws.{first-next, first-found, first-ends}
 use Rattle.types.proofs.TokenLaws.{picks, picks-yes, picks-no, alternative-starts}
 use borrow.Author.Needs.{needs}

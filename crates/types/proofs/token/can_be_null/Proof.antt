@@ -1,6 +1,5 @@
 use mathlib.Core.Path.{refl}
-use Rattle.jer.specs.Table.{tokenCode, tNull}
-use Rattle.types.specs.Rows.{table}
+use Rattle.jer.specs.Table.{tokenCode, tNull, table}
 use Rattle.types.proofs.TokenLaws.{null-yes, null-wrapped, null-found, null-nothing}
 use borrow.Author.Needs.{needs}
 use Rattle.types.proofs.token.can_be_null.Statement.{statement}

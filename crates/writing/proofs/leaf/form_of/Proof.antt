@@ -1,5 +1,5 @@
 use mathlib.Core.Path.{ap}
-use Rattle.types.specs.Rows.{table}
+use Rattle.jer.specs.Table.{table}
 use Rattle.types.specs.declared.row.Row.{Row}
 use Rattle.writing.proofs.LeafLaws.{form-text, form-base64, form-hex}
 use borrow.Author.Needs.{needs}

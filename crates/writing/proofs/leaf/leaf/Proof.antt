@@ -1,4 +1,4 @@
-use Rattle.types.specs.Rows.{table}
+use Rattle.jer.specs.Table.{table}
 use Rattle.writing.proofs.LeafLaws.{bool-ends, int-ends, enum-ends, null-ends}
 use borrow.Author.Needs.{needs}
 use Rattle.writing.proofs.leaf.leaf.Statement.{statement}

@@ -1,4 +1,4 @@
-use Rattle.types.specs.Rows.{table}
+use Rattle.jer.specs.Table.{table}
 use Rattle.writing.proofs.RowLaws.{never, absent-row, absent-none}
 use borrow.Author.Needs.{needs}
 use Rattle.writing.proofs.rows.absent_at.Statement.{statement}

@@ -3,9 +3,8 @@ use mathlib.Core.Path.{_≡_, refl, sym, ap, _∙_}
 use native.Mathlib.Omega.{arith}
 use lib.ListN.{length, drop}
 use borrow.Author.Tests.{not-true, not-false}
-use Rattle.jer.specs.Table.{elementOf, countOf, isUnwrapped}
+use Rattle.jer.specs.Table.{elementOf, countOf, isUnwrapped, table}
 use Rattle.jer.specs.Judge.{rowsIn}
-use Rattle.types.specs.Rows.{table}
 use Rattle.writing.specs.Rows.{valueRow}
 use Rattle.writing.proofs.TextLaws.{gives-wrong, writes-is, writes-as, writes-none, value-got, value-wrong}
 use Rattle.writing.proofs.ListLaws.{Items, items-start, items-next, items-wrong, items-end}

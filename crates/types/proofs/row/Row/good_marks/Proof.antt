@@ -1,5 +1,4 @@
 use Rattle.types.proofs.RowLaws.{marks-among}
-use borrow.Author.Needs.{needs}
 use Rattle.types.proofs.row.Row.good_marks.Statement.{statement}
 use Rattle.types.proofs.row.Row.good_marks.Tie as tie
 
