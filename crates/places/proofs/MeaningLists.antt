@@ -12,7 +12,7 @@ use Rattle.jer.specs.Answer.{Res, ok, no, bind}
 use Rattle.jer.specs.Read.{null?, read, elements, readItems, missingElement, withAbsent, withPresent, readElement, surplus, readElements}
 use Rattle.jer.proofs.Sane.{Sane}
 use Rattle.tokens.proofs.TieFirst.{value-place}
-use Rattle.places.specs.ByPlaces.{Got, got, ending, Reader, Follows, part, shut, followsAt, afterPart, withItem, itemsAt, listAt, gotAbsent, gotPresent, surplusAt, elementsAt, arrayAt}
+use Rattle.places.specs.ByPlaces.{Got, got, ending, Reader, Follows, Part, Shut, followsAt, afterPart, withItem, itemsAt, listAt, gotAbsent, gotPresent, surplusAt, noMore, elementFound, elementThen, elementsAt, arrayAt}
 use Rattle.places.proofs.MeaningFirst.{null-at, null-end}
 use Rattle.places.proofs.MeaningStands.{Stands, Listed, noItem, item, itemCount, InArray}
 
@@ -74,12 +74,12 @@ module _ (t : Table) (s : List ℕ) (d : ℕ) (value : Reader) (reads : Reads t 
 
   -- ---- sequences as arrays
 
-  surplus-means : {q : ℕ} {f : Follows} {is : Items} (r : ℕ) → Listed d s f is q → surplusAt d t s r f ≡ ending q (surplus t r (elements is t))
-  unfolding surplusAt surplus elements ending bind
+  surplus-means : {q : ℕ} {f : Follows} {is : Items} (r : ℕ) → Listed d s f is q → noMore (surplusAt d t s r f) ≡ ending q (surplus t r (elements is t))
+  unfolding surplusAt noMore surplus elements ending bind
   surplus-means r noItem = refl
   surplus-means {q} r (item {p = p} {j = j} {is = is} k a c m) = go′ (extensible t r) refl
     where
-      go′ : (b : Bool) → extensible t r ≡ b → surplusAt d t s r (part p) ≡ ending q (surplus t r (elements (icons j is) t))
+      go′ : (b : Bool) → extensible t r ≡ b → noMore (surplusAt d t s r (Part p)) ≡ ending q (surplus t r (elements (icons j is) t))
       go′ true w = rw (w, surplusAt, surplus, c)
       go′ false w = rw (w, surplusAt, surplus, value-place (k .value))
 
@@ -87,20 +87,20 @@ module _ (t : Table) (s : List ℕ) (d : ℕ) (value : Reader) (reads : Reads t 
   element-means : {q : ℕ} {f : Follows} {is : Items} (r o i n : ℕ) → isType t (typeAt t r i) ≡ true → Listed d s f is q
       → ((f : Follows) (is : Items) → Listed d s f is q → elementsAt value d t s r o (suc i) n f ≡ ending q (readElements t r o (elements is t) (suc i) n))
       → elementsAt value d t s r o i (suc n) f ≡ ending q (readElements t r o (elements is t) i (suc n))
-  unfolding elementsAt readElements readElement elements
+  unfolding elementsAt elementFound elementThen readElements readElement elements
   element-means {q} r o i n h noItem ih = go′ (mayMiss t r i) refl
     where
-      go′ : (b : Bool) → mayMiss t r i ≡ b → elementsAt value d t s r o i (suc n) (shut q) ≡ ending q (readElements t r o [] i (suc n))
-      go′ true w = rw (w, elementsAt, readElement) (absent-ends q (readElements t r o [] (suc i) n) _ (ih (shut q) inil noItem))
-      go′ false w = rw (w, elementsAt, readElement) (missing-ends q (missingElement t r o i) (readElements t r o [] (suc i) n) _ (ih (shut q) inil noItem))
+      go′ : (b : Bool) → mayMiss t r i ≡ b → elementsAt value d t s r o i (suc n) (Shut q) ≡ ending q (readElements t r o [] i (suc n))
+      go′ true w = rw (w, elementFound, readElement) (absent-ends q (readElements t r o [] (suc i) n) _ (ih (Shut q) inil noItem))
+      go′ false w = rw (w, elementFound, readElement) (missing-ends q (missingElement t r o i) (readElements t r o [] (suc i) n) _ (ih (Shut q) inil noItem))
   element-means {q} r o i n h (item {p = p} {e = e} {f = f} {j = j} {is = is} k a c m) ih = go′ (null? j && mayMiss t r i) refl
     where
       rest : elementsAt value d t s r o (suc i) n (afterPart s e) ≡ ending q (readElements t r o (elements is t) (suc i) n)
       rest = rw a (ih f is m)
 
-      go′ : (b : Bool) → (null? j && mayMiss t r i) ≡ b → elementsAt value d t s r o i (suc n) (part p) ≡ ending q (readElements t r o (elements (icons j is) t) i (suc n))
-      go′ true w = rw (null-at k, w, elementsAt, readElement, null-end k (and-left (null? j) (mayMiss t r i) w)) (absent-ends q (readElements t r o (elements is t) (suc i) n) _ rest)
-      go′ false w = rw (null-at k, w, elementsAt, readElement, reads .reads k (typeAt t r i) h)
+      go′ : (b : Bool) → (null? j && mayMiss t r i) ≡ b → elementsAt value d t s r o i (suc n) (Part p) ≡ ending q (readElements t r o (elements (icons j is) t) i (suc n))
+      go′ true w = rw (null-at k, w, elementFound, readElement, null-end k (and-left (null? j) (mayMiss t r i) w)) (absent-ends q (readElements t r o (elements is t) (suc i) n) _ rest)
+      go′ false w = rw (null-at k, w, elementFound, readElement, reads .reads k (typeAt t r i) h)
           (present-ends e q (read j t (typeAt t r i)) (readElements t r o (elements is t) (suc i) n) (λ u. elementsAt value d t s r o (suc i) n (afterPart s u)) rest)
 
   elements-mean : {q : ℕ} {f : Follows} {is : Items} (r o i n : ℕ) → ((k : ℕ) → i ≤ k → k < i + n → isType t (typeAt t r k) ≡ true) → Listed d s f is q

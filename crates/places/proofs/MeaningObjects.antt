@@ -18,7 +18,7 @@ use Rattle.jer.specs.Read.{Entry, null?, read, entries, lookup, namesGood, null
 use Rattle.jer.proofs.Sane.{Sane}
 use Rattle.tokens.specs.Strings.{denoted}
 use Rattle.tokens.specs.Skip.{pastValue}
-use Rattle.places.specs.ByPlaces.{ending, Reader, isNullAt, Follows, part, followsAt, afterPart, bitOf, withBit, valuePlace, Scan, scanned, stopped, scanAt, membersAt, noPlaces, afterScan, objectAt}
+use Rattle.places.specs.ByPlaces.{ending, Reader, isNullAt, Follows, Part, followsAt, afterPart, bitOf, withBit, valuePlace, Scanned, Closed, Stopped, scanned, scanAt, memberFound, memberThen, membersAt, noPlaces, afterScan, objectAt}
 use Rattle.places.proofs.MeaningBits.{no-bit, bit-set, bit-kept}
 use Rattle.places.proofs.MeaningNames.{position-found, names-differ, lookup-met, lookup-other}
 use Rattle.places.proofs.MeaningStands.{Stands, stands-passed, Membered, noMember, member, memberCount, InObject}
@@ -57,9 +57,9 @@ unfolding noPlaces lookup
 tied-none t s value r = record { long = refl; each = λ i h. rw (no-bit i) unmet }
 
 -- a scan that ends at q and the names judged alike
-data Scanned (t : Table) (s : List ℕ) (value : Reader) (r q : ℕ) : Scan → Res (List Entry) → Type 0 where
-  refused : {z : Refusal} → Scanned t s value r q (stopped z) (no z)
-  taken : {m : ℕ} {places : List ℕ} {es : List Entry} → Tied t s value r m places es → Scanned t s value r q (scanned m places q) (ok es)
+data Judged (t : Table) (s : List ℕ) (value : Reader) (r q : ℕ) : Scanned → Res (List Entry) → Type 0 where
+  refused : {z : Refusal} {m : ℕ} {places : List ℕ} → Judged t s value r q (scanned (Stopped z) m places) (no z)
+  taken : {m : ℕ} {places : List ℕ} {es : List Entry} → Tied t s value r m places es → Judged t s value r q (scanned (Closed q) m places) (ok es)
 
 module _ (t : Table) (s : List ℕ) (value : Reader) (r : ℕ) (c : Sane t) (h : isType t r ≡ true) where
   tied-more : {m u i : ℕ} {places : List ℕ} {es : List Entry} {e : Entry} → Tied t s value r m places es → i < countOf t r → nameAt t r i ≡ e .name → Reached t s value u e
@@ -86,17 +86,17 @@ module _ (t : Table) (s : List ℕ) (value : Reader) (r : ℕ) (c : Sane t) (h :
   member-means : {b : Bool} {p : ℕ} {x : Option Entry} (m : ℕ) (places : List ℕ) (es : List Entry) (o i n : ℕ) → isType t (typeAt t r i) ≡ true → Met t s value b p x
       → bitOf m i ≡ b → getD places i 0 ≡ p → lookup (nameAt t r i) es ≡ x → membersAt value t s r o m places (suc i) n ≡ readMembers t r o es (suc i) n
       → membersAt value t s r o m places i (suc n) ≡ readMembers t r o es i (suc n)
-  unfolding membersAt readMembers readMember withAbsent withPresent
+  unfolding memberFound memberThen membersAt readMembers readMember withAbsent withPresent
   member-means m places es o i n f unmet w p l ih = go′ (mayMiss t r i) refl
     where
       go′ : (b : Bool) → mayMiss t r i ≡ b → membersAt value t s r o m places i (suc n) ≡ readMembers t r o es i (suc n)
-      go′ true y = rw (w, membersAt, l, readMember, y, ih)
-      go′ false y = rw (w, membersAt, l, readMember, y)
+      go′ true y = rw (w, memberFound, l, readMember, y, ih)
+      go′ false y = rw (w, memberFound, l, readMember, y)
   member-means m places es o i n f (met {e = e} g) w p l ih = go′ (e .isNull && nullAbsent t r i) refl
     where
       go′ : (b : Bool) → (e .isNull && nullAbsent t r i) ≡ b → membersAt value t s r o m places i (suc n) ≡ readMembers t r o es i (suc n)
-      go′ true y = rw (w, membersAt, l, readMember, p, g .null, y, ih)
-      go′ false y = rw (w, membersAt, l, readMember, p, g .null, y, p, g .means (typeAt t r i) f, ih) (value-only (g .end) (e .means (typeAt t r i)) _)
+      go′ true y = rw (w, memberFound, l, readMember, p, g .null, y, ih)
+      go′ false y = rw (w, memberFound, l, readMember, p, g .null, y, p, g .means (typeAt t r i) f, ih) (value-only (g .end) (e .means (typeAt t r i)) _)
 
   members-mean : {m : ℕ} {places : List ℕ} {es : List Entry} (o i n : ℕ) → i + n ≤ countOf t r → Tied t s value r m places es → membersAt value t s r o m places i n ≡ readMembers t r o es i n
   unfolding membersAt readMembers
@@ -110,11 +110,11 @@ module _ (t : Table) (s : List ℕ) (value : Reader) (r : ℕ) (c : Sane t) (h :
 
     -- the members ms from f on, after the entries es; n names may be looked at
     abbrev Alike : ℕ → ℕ → Follows → Members → ℕ → List ℕ → List Entry → Type 0
-    Alike q n f ms m places es = Scanned t s value r q (scanAt d t s r n f m places) (namesGood t r es (entries ms t))
+    Alike q n f ms m places es = Judged t s value r q (scanAt d t s r n f m places) (namesGood t r es (entries ms t))
 
     -- one name
     scan-name : {u e m : ℕ} {f : Follows} {a places : List ℕ} {j : Json} {es : List Entry} (p q n : ℕ) (ms : Members) → denoted s (p + 1) ≡ a → valuePlace s p ≡ u → Stands d s j u e → afterPart s e ≡ f
-        → ((m : ℕ) (places : List ℕ) (es : List Entry) → Tied t s value r m places es → Alike q n f ms m places es) → Tied t s value r m places es → Alike q (suc n) (part p) (mcons p a j ms) m places es
+        → ((m : ℕ) (places : List ℕ) (es : List Entry) → Tied t s value r m places es → Alike q n f ms m places es) → Tied t s value r m places es → Alike q (suc n) (Part p) (mcons p a j ms) m places es
     unfolding scanAt namesGood entries
     scan-name {u} {e} {m} {f} {a} {places} {j} {es} p q n ms o v g x ih k = go′ (position t r a) refl
       where
@@ -124,17 +124,17 @@ module _ (t : Table) (s : List ℕ) (value : Reader) (r : ℕ) (c : Sane t) (h :
         seen : (i : ℕ) → position t r a ≡ some i → isSome (lookup a es) ≡ bitOf m i
         seen i w = let l = position-found t r a i w in rw (l .0) at (tied-met k (l .1))
 
-        unknown : (b : Bool) → extensible t r ≡ b → position t r a ≡ none → Alike q (suc n) (part p) (mcons p a j ms) m places es
+        unknown : (b : Bool) → extensible t r ≡ b → position t r a ≡ none → Alike q (suc n) (Part p) (mcons p a j ms) m places es
         unknown true y w = rw (o, w, scanAt, namesGood, y, next) (ih m places es k)
         unknown false y w = rw (o, w, scanAt, namesGood, y) refused
 
-        known : (b : Bool) (i : ℕ) → bitOf m i ≡ b → position t r a ≡ some i → Alike q (suc n) (part p) (mcons p a j ms) m places es
+        known : (b : Bool) (i : ℕ) → bitOf m i ≡ b → position t r a ≡ some i → Alike q (suc n) (Part p) (mcons p a j ms) m places es
         known true i y w = rw (o, w, scanAt, namesGood, y, seen i w ∙ y) refused
         known false i y w =
             let l = position-found t r a i w in
             rw (o, w, scanAt, namesGood, y, seen i w ∙ y, next, v) (ih (withBit m i) (set places i u) _ (tied-more k (l .1) (l .0) (stands-reached p a g)))
 
-        go′ : (z : Option ℕ) → position t r a ≡ z → Alike q (suc n) (part p) (mcons p a j ms) m places es
+        go′ : (z : Option ℕ) → position t r a ≡ z → Alike q (suc n) (Part p) (mcons p a j ms) m places es
         go′ none w = unknown (extensible t r) refl w
         go′ (some i) w = known (bitOf m i) i refl w
 
@@ -149,6 +149,6 @@ module _ (t : Table) (s : List ℕ) (value : Reader) (r : ℕ) (c : Sane t) (h :
     unfolding objectAt readObject afterScan bind ending
     object-means p q k = go′ (scan-means (k .membered) (length s) (k .few) (tied-none t s value r))
       where
-        go′ : {x : Scan} {y : Res (List Entry)} → Scanned t s value r q x y → afterScan value t s r p x ≡ ending q (bind y (λ es. bind (readMembers t r p es 0 (countOf t r)) (λ ps. ok (vSeq ps))))
+        go′ : {x : Scanned} {y : Res (List Entry)} → Judged t s value r q x y → afterScan value t s r p x ≡ ending q (bind y (λ es. bind (readMembers t r p es 0 (countOf t r)) (λ ps. ok (vSeq ps))))
         go′ refused = refl
         go′ (taken m) = rw (members-mean p 0 (countOf t r) (omega arith) m)

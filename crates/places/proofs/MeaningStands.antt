@@ -19,7 +19,7 @@ use Rattle.tokens.proofs.TieSpace.{Stops, before, space-passed, EndsHere, space
 use Rattle.tokens.proofs.TieString.{quoted-read}
 use Rattle.tokens.proofs.TieFirst.{FirstByte, first-byte, first-opens, value-stops}
 use Rattle.tokens.proofs.TieSkip.{value-passed, elements-passed}
-use Rattle.places.specs.ByPlaces.{Follows, part, shut, afterPart, firstPart, valuePlace}
+use Rattle.places.specs.ByPlaces.{Follows, Part, Shut, afterPart, firstPart, valuePlace}
 
 -- in the text s the value j, in which at most d brackets are open at one time, stands at p and ends at q
 pub record Stands (d : ℕ) (s : List ℕ) (j : Json) (p q : ℕ) : Type 0 where
@@ -35,15 +35,15 @@ stands-passed {s = s} k = value-passed s (k .rest) (k .value) (k .text) (k .ends
 
 -- from f on these elements stand, and the place q follows their bracket
 pub data Listed (d : ℕ) (s : List ℕ) : Follows → Items → ℕ → Type 0 where
-  noItem : {q : ℕ} → Listed d s (shut q) inil q
+  noItem : {q : ℕ} → Listed d s (Shut q) inil q
   item : {p q e : ℕ} {f : Follows} {j : Json} {is : Items} → Stands d s j p e → afterPart s e ≡ f → partsPast (λ r. pastValue d s r) s (length s) p ≡ q → Listed d s f is q
-      → Listed d s (part p) (icons j is) q
+      → Listed d s (Part p) (icons j is) q
 
 -- from f on these members stand
 pub data Membered (d : ℕ) (s : List ℕ) : Follows → Members → ℕ → Type 0 where
-  noMember : {q : ℕ} → Membered d s (shut q) mnil q
+  noMember : {q : ℕ} → Membered d s (Shut q) mnil q
   member : {p q u e : ℕ} {f : Follows} {n : List ℕ} {j : Json} {ms : Members} → byteAt s p ≡ 0x22 → denoted s (p + 1) ≡ n → valuePlace s p ≡ u → Stands d s j u e → afterPart s e ≡ f → Membered d s f ms q
-      → Membered d s (part p) (mcons p n j ms) q
+      → Membered d s (Part p) (mcons p n j ms) q
 
 -- how many there are
 abbrev pub itemCount : Items → ℕ
@@ -86,11 +86,11 @@ padded-within {d} {p} {j} (padded {q = q} {xs = xs} {ys = us} {zs = zs} x e v z 
 
 -- ---- what follows a part
 
-after-comma : (s ys : List ℕ) (e q : ℕ) → pastSpace s e ≡ q → drop q s ≡ 0x2C ∷ ys → afterPart s e ≡ part (pastSpace s (suc q))
+after-comma : (s ys : List ℕ) (e q : ℕ) → pastSpace s e ≡ q → drop q s ≡ 0x2C ∷ ys → afterPart s e ≡ Part (pastSpace s (suc q))
 unfolding afterPart
 after-comma s ys e q k h = rw (k, afterPart, byte-here s q 0x2C ys h) (rw (k, add-one q))
 
-after-close : (s ys : List ℕ) (b e q : ℕ) → pastSpace s e ≡ q → drop q s ≡ b ∷ ys → eqb b 0x2C ≡ false → afterPart s e ≡ shut (suc q)
+after-close : (s ys : List ℕ) (b e q : ℕ) → pastSpace s e ≡ q → drop q s ≡ b ∷ ys → eqb b 0x2C ≡ false → afterPart s e ≡ Shut (suc q)
 unfolding afterPart
 after-close s ys b e q k h n = rw (k, afterPart, byte-here s q b ys h, n) (rw (k, add-one q))
 
@@ -109,7 +109,7 @@ module _ {d p : ℕ} {j : Json} {bs : List ℕ} (s : List ℕ) (w : Within d s j
       let l : length (w .back ++ cs) ≤ length s = omega (arith, length-left s (pastSpace s p) _ h₂, length-append (w .back ++ cs) ys) in
       elements-passed s ys f h₂ .passed (length s) l ∙ rw (past-append (pastSpace s p) (w .back) cs, bare-past, past-append p bs cs)
 
-pub elements-listed : {d p : ℕ} {is : Items} {bs : List ℕ} → Elements d p is bs → (s ys : List ℕ) → drop p s ≡ bs ++ ys → Listed d s (part (pastSpace s p)) is (past p bs)
+pub elements-listed : {d p : ℕ} {is : Items} {bs : List ℕ} → Elements d p is bs → (s ys : List ℕ) → drop p s ≡ bs ++ ys → Listed d s (Part (pastSpace s p)) is (past p bs)
 unfolding past
 elements-listed (lastElement {p = p} {xs = xs} v c) s ys h =
     let h₁ : drop p s ≡ xs ++ (0x5D ∷ ys) = rw (c, append-assoc) at h in
@@ -156,7 +156,7 @@ name-at {p} {q} {r} {bs = bs} (name {xs = xs} {ys = us} {zs = zs} x e u z c o) s
       left = rw o (drop-past s p bs ys h);
     }
 
-pub members-membered : {d p : ℕ} {ms : Members} {bs : List ℕ} → Named d p ms bs → (s ys : List ℕ) → drop p s ≡ bs ++ ys → Membered d s (part (pastSpace s p)) ms (past p bs)
+pub members-membered : {d p : ℕ} {ms : Members} {bs : List ℕ} → Named d p ms bs → (s ys : List ℕ) → drop p s ≡ bs ++ ys → Membered d s (Part (pastSpace s p)) ms (past p bs)
 unfolding past
 members-membered (lastMember {p = p} {q = q} {r = r} {xs = xs} {ys = us} m v c) s ys h =
     let h₁ : drop p s ≡ xs ++ (us ++ (0x7D ∷ ys)) = simp append-assoc at (rw c at h) in
@@ -187,14 +187,14 @@ members-few (moreMembers {xs = xs} {ys = us} {zs = zs} m v o t c) = let k = memb
 
 -- ---- in their brackets
 
-first-shut : (s xs ys : List ℕ) (p b : ℕ) → Space xs → isSpace b ≡ false → drop (suc p) s ≡ xs ++ (b ∷ ys) → firstPart s b p ≡ shut (suc (past (suc p) xs))
+first-shut : (s xs ys : List ℕ) (p b : ℕ) → Space xs → isSpace b ≡ false → drop (suc p) s ≡ xs ++ (b ∷ ys) → firstPart s b p ≡ Shut (suc (past (suc p) xs))
 unfolding firstPart
 first-shut s xs ys p b z n h =
     let e = space-passed s (suc p) (b ∷ ys) z h (before n) in
     let f = byte-here s (past (suc p) xs) b ys (drop-past s (suc p) xs _ h) in
     rw (add-one p, firstPart, e, f, eq-eqb b b refl) (rw (add-one p, e, add-one))
 
-first-part : (s : List ℕ) (p c : ℕ) → eqb (byteAt s (pastSpace s (suc p))) c ≡ false → firstPart s c p ≡ part (pastSpace s (suc p))
+first-part : (s : List ℕ) (p c : ℕ) → eqb (byteAt s (pastSpace s (suc p))) c ≡ false → firstPart s c p ≡ Part (pastSpace s (suc p))
 unfolding firstPart
 first-part s p c h = rw (add-one p, firstPart, h, add-one p)
 
@@ -208,11 +208,11 @@ closing-not b h = go′ (eqb b 0x5D) refl
 pub stands-byte : {d p q : ℕ} {j : Json} {s : List ℕ} → Stands d s j p q → FirstByte j (byteAt s p)
 stands-byte {s = s} k = first-byte s (k .rest) (k .value) (k .text)
 
-listed-opens : {d q : ℕ} {s : List ℕ} {f : Follows} {is : Items} (u : ℕ) → Listed d s f is q → f ≡ part u → eqb (byteAt s u) 0x5D ≡ false
+listed-opens : {d q : ℕ} {s : List ℕ} {f : Follows} {is : Items} (u : ℕ) → Listed d s f is q → f ≡ Part u → eqb (byteAt s u) 0x5D ≡ false
 listed-opens u noItem e = cc
 listed-opens {s = s} u (item {p = p} k a c l) e = let g : p ≡ u = cc in rw (← g) (closing-not (byteAt s p) (first-opens (stands-byte k) .closing))
 
-membered-opens : {d q : ℕ} {s : List ℕ} {f : Follows} {ms : Members} (u : ℕ) → Membered d s f ms q → f ≡ part u → eqb (byteAt s u) 0x7D ≡ false
+membered-opens : {d q : ℕ} {s : List ℕ} {f : Follows} {ms : Members} (u : ℕ) → Membered d s f ms q → f ≡ Part u → eqb (byteAt s u) 0x7D ≡ false
 membered-opens u noMember e = cc
 membered-opens {s = s} u (member {p = p} b n v k a l) e = let g : p ≡ u = cc in rw (← g, b)
 
@@ -225,7 +225,7 @@ pub record InObject (d : ℕ) (s : List ℕ) (ms : Members) (p q : ℕ) : Type 0
   pub membered : Membered d s (firstPart s 0x7D p) ms q
   pub few : memberCount ms ≤ length s
 
-empty-first : {xs bs : List ℕ} (s ys : List ℕ) (p a b : ℕ) → isSpace b ≡ false → Space xs → bs ≡ xs ++ (b ∷ []) → drop p s ≡ a ∷ bs ++ ys → firstPart s b p ≡ shut (past p (a ∷ bs))
+empty-first : {xs bs : List ℕ} (s ys : List ℕ) (p a b : ℕ) → isSpace b ≡ false → Space xs → bs ≡ xs ++ (b ∷ []) → drop p s ≡ a ∷ bs ++ ys → firstPart s b p ≡ Shut (past p (a ∷ bs))
 unfolding past
 empty-first {xs} s ys p a b n z c h = first-shut s xs ys p b z n (rw (c, append-assoc) at (drop-next s p a _ h)) ∙ rw (c, past-append (suc p) xs (b ∷ []))
 

@@ -10,7 +10,6 @@ use lib.ListN.{length, getD, set, replicate}
 use Rattle.json.specs.Bytes.{on, pick}
 use Rattle.jer.specs.declared.Cause.the-variants.{TooDeep, OtherKind, BadNumber, UnknownName, RepeatedName, Missing, Surplus, NotOne, Unknown}
 use Rattle.jer.specs.declared.Limit.the-variants.{LentRoom}
-use Rattle.jer.specs.declared.Refusal.{Refusal}
 use Rattle.jer.specs.declared.Refusal.the-variants.{AtByte, Amounts}
 use Rattle.jer.specs.Table.{Table, BOOLEAN, INTEGER, NULL, SEQUENCE, SEQUENCE-OF, CHOICE, kindOf, extensible, isArray, isUnwrapped, elementOf, countOf, typeAt, mayMiss, position, Token, tNull, tBoolean, tNumber, tString, tArray, tObject, alternative}
 use Rattle.jer.specs.Value.{Val, vBool, vInt, vNull, vSeq, vList, vChoice, Vals, vnil, vcons, Parts, pnil, absent, present}
@@ -21,6 +20,17 @@ use Rattle.tokens.specs.Places.{byteAt, pastSpace}
 use Rattle.tokens.specs.Strings.{denoted, stringEnd}
 use Rattle.tokens.specs.Skip.{pastWord, pastValue, partsPast}
 use Rattle.tokens.specs.Numbers.{integerAt}
+pub use Rattle.places.specs.declared.Follows.{Follows}
+pub use Rattle.places.specs.declared.Follows.the-variants.{Part, Shut}
+pub use Rattle.places.specs.declared.Ended.{Ended}
+pub use Rattle.places.specs.declared.Ended.the-variants.{Closed, Stopped}
+pub use Rattle.places.specs.declared.Scanned.{Scanned}
+pub use Rattle.places.specs.declared.Member.{Member}
+use Rattle.places.specs.declared.Member.the-variants as member
+pub use Rattle.places.specs.declared.Element.{Element}
+use Rattle.places.specs.declared.Element.the-variants as element
+pub use Rattle.places.specs.declared.One.{One}
+use Rattle.places.specs.declared.One.the-variants as one
 
 -- what was read, and the place after it
 pub record Got (A : Type 0) : Type 0 where
@@ -71,22 +81,17 @@ leafAt t s tObject r p = at OtherKind p
 
 -- ---- what follows a part of a bracket
 
--- the next part begins at a place, or the bracket has been closed and a place follows it
-pub data Follows : Type 0 where
-  part : ℕ → Follows
-  shut : ℕ → Follows
-
 unfoldable pub followsAt : Follows → ℕ
-followsAt (part q) = q
-followsAt (shut q) = q
+followsAt (Part q) = q
+followsAt (Shut q) = q
 
 -- after a part that ends at q: white space, then a comma and the next part, or the closing bracket
 unfoldable pub afterPart : List ℕ → ℕ → Follows
-afterPart s q = elim (eqb (byteAt s (pastSpace s q)) 0x2C) [ true ↦ part (pastSpace s (pastSpace s q + 1)) | false ↦ shut (pastSpace s q + 1) ]
+afterPart s q = elim (eqb (byteAt s (pastSpace s q)) 0x2C) [ true ↦ Part (pastSpace s (pastSpace s q + 1)) | false ↦ Shut (pastSpace s q + 1) ]
 
 -- after the opening bracket at p, which the byte c closes
 unfoldable pub firstPart : List ℕ → ℕ → ℕ → Follows
-firstPart s c p = elim (eqb (byteAt s (pastSpace s (p + 1))) c) [ true ↦ shut (pastSpace s (p + 1) + 1) | false ↦ part (pastSpace s (p + 1)) ]
+firstPart s c p = elim (eqb (byteAt s (pastSpace s (p + 1))) c) [ true ↦ Shut (pastSpace s (p + 1) + 1) | false ↦ Part (pastSpace s (p + 1)) ]
 
 -- ---- lists
 
@@ -96,8 +101,8 @@ withItem v rest = bind rest (λ g. ok (got (vcons v (g .value)) (g .next)))
 -- the items from here on, at most n of them
 unfoldable pub itemsAt : (ℕ → Res (Got Val)) → List ℕ → ℕ → Follows → Res (Got Vals)
 itemsAt value s zero f = ok (got vnil (followsAt f))
-itemsAt value s (suc n) (shut q) = ok (got vnil q)
-itemsAt value s (suc n) (part q) = bind (value q) (λ g. withItem (g .value) (itemsAt value s n (afterPart s (g .next))))
+itemsAt value s (suc n) (Shut q) = ok (got vnil q)
+itemsAt value s (suc n) (Part q) = bind (value q) (λ g. withItem (g .value) (itemsAt value s n (afterPart s (g .next))))
 
 unfoldable pub listAt : Reader → Table → List ℕ → Reader
 listAt value t s r p = bind (itemsAt (λ q. value (elementOf t r) q) s (length s) (firstPart s 0x5D p)) (λ g. ok (got (vList (g .value)) (g .next)))
@@ -111,23 +116,30 @@ unfoldable pub gotPresent : Val → Res (Got Parts) → Res (Got Parts)
 gotPresent v rest = bind rest (λ g. ok (got (present v (g .value)) (g .next)))
 
 -- after the last member, in a bracket in which d more may be open
-unfoldable pub surplusAt : ℕ → Table → List ℕ → ℕ → Follows → Res (Got Parts)
-surplusAt d t s r (shut q) = ok (got pnil q)
-surplusAt d t s r (part q) = elim (extensible t r) [ true ↦ ok (got pnil (partsPast (λ p. pastValue d s p) s (length s) q)) | false ↦ at Surplus q ]
+unfoldable pub surplusAt : ℕ → Table → List ℕ → ℕ → Follows → Ended
+surplusAt d t s r (Shut q) = Closed q
+surplusAt d t s r (Part q) = elim (extensible t r) [ true ↦ Closed (partsPast (λ p. pastValue d s p) s (length s) q) | false ↦ Stopped (AtByte Surplus q) ]
+
+-- no member is left
+unfoldable pub noMore : Ended → Res (Got Parts)
+noMore (Closed q) = ok (got pnil q)
+noMore (Stopped e) = no e
+
+-- the member i: absent, with what follows it; missing, at the array's end; or at a place
+unfoldable pub elementFound : Table → List ℕ → ℕ → ℕ → Follows → Element
+elementFound t s r i (Shut q) = elim (mayMiss t r i) [ true ↦ element.Absent (Shut q) | false ↦ element.Missing q ]
+elementFound t s r i (Part q) = elim (isNullAt s q && mayMiss t r i) [ true ↦ element.Absent (afterPart s (pastWord s q)) | false ↦ element.There q ]
+
+-- the member i of the array at o as it was found, then the rest
+unfoldable pub elementThen : Reader → Table → List ℕ → ℕ → ℕ → ℕ → (Follows → Res (Got Parts)) → Element → Res (Got Parts)
+elementThen value t s r o i rest (element.Absent f) = gotAbsent (rest f)
+elementThen value t s r o i rest (element.Missing q) = bind (missingElement t r o i) (λ v. gotPresent v (rest (Shut q)))
+elementThen value t s r o i rest (element.There q) = bind (value (typeAt t r i) q) (λ g. gotPresent (g .value) (rest (afterPart s (g .next))))
 
 -- n members from i on of the array at o
 unfoldable pub elementsAt : Reader → ℕ → Table → List ℕ → ℕ → ℕ → ℕ → ℕ → Follows → Res (Got Parts)
-elementsAt value d t s r o i zero f = surplusAt d t s r f
-elementsAt value d t s r o i (suc n) (shut q) =
-    elim (mayMiss t r i) [
-      | true ↦ gotAbsent (elementsAt value d t s r o (suc i) n (shut q))
-      | false ↦ bind (missingElement t r o i) (λ v. gotPresent v (elementsAt value d t s r o (suc i) n (shut q)))
-    ]
-elementsAt value d t s r o i (suc n) (part q) =
-    elim (isNullAt s q && mayMiss t r i) [
-      | true ↦ gotAbsent (elementsAt value d t s r o (suc i) n (afterPart s (pastWord s q)))
-      | false ↦ bind (value (typeAt t r i) q) (λ g. gotPresent (g .value) (elementsAt value d t s r o (suc i) n (afterPart s (g .next))))
-    ]
+elementsAt value d t s r o i zero f = noMore (surplusAt d t s r f)
+elementsAt value d t s r o i (suc n) f = elementThen value t s r o i (λ h. elementsAt value d t s r o (suc i) n h) (elementFound t s r i f)
 
 unfoldable pub arrayAt : Reader → ℕ → Table → List ℕ → Reader
 arrayAt value d t s r p = bind (elementsAt value d t s r p 0 (countOf t r) (firstPart s 0x5D p)) (λ g. ok (got (vSeq (g .value)) (g .next)))
@@ -145,45 +157,51 @@ withBit x k = bitOr x (2 ^ k)
 unfoldable pub valuePlace : List ℕ → ℕ → ℕ
 valuePlace s q = pastSpace s (pastSpace s (stringEnd s (q + 1)) + 1)
 
--- the members met, where their values stand, and the place after the bracket; or the refusal of a name
-pub data Scan : Type 0 where
-  scanned : ℕ → List ℕ → ℕ → Scan
-  stopped : Refusal → Scan
+-- the members met, where their values stand, and how the names end
+abbrev pub scanned : Ended → ℕ → List ℕ → Scanned
+scanned e met places = record { end = e; met = met; places = places }
 
 -- the names from here on in text order, at most n of them
-unfoldable pub scanAt : ℕ → Table → List ℕ → ℕ → ℕ → Follows → ℕ → List ℕ → Scan
-scanAt d t s r zero f met places = scanned met places (followsAt f)
-scanAt d t s r (suc n) (shut q) met places = scanned met places q
-scanAt d t s r (suc n) (part q) met places =
+unfoldable pub scanAt : ℕ → Table → List ℕ → ℕ → ℕ → Follows → ℕ → List ℕ → Scanned
+scanAt d t s r zero f met places = scanned (Closed (followsAt f)) met places
+scanAt d t s r (suc n) (Shut q) met places = scanned (Closed q) met places
+scanAt d t s r (suc n) (Part q) met places =
     elim (position t r (denoted s (q + 1))) [
       | none ↦ elim (extensible t r) [
         | true ↦ scanAt d t s r n (afterPart s (pastValue d s (valuePlace s q))) met places
-        | false ↦ stopped (AtByte UnknownName q)
+        | false ↦ scanned (Stopped (AtByte UnknownName q)) met places
       ]
       | some i ↦ elim (bitOf met i) [
-        | true ↦ stopped (AtByte RepeatedName q)
+        | true ↦ scanned (Stopped (AtByte RepeatedName q)) met places
         | false ↦ scanAt d t s r n (afterPart s (pastValue d s (valuePlace s q))) (withBit met i) (set places i (valuePlace s q))
       ]
     ]
 
+-- the member i, given whether it was met and where its value stands
+unfoldable pub memberFound : Table → List ℕ → ℕ → ℕ → Bool → ℕ → Member
+memberFound t s r i false q = elim (mayMiss t r i) [ true ↦ member.Absent | false ↦ member.Missing ]
+memberFound t s r i true q = elim (isNullAt s q && nullAbsent t r i) [ true ↦ member.Absent | false ↦ member.There q ]
+
+-- the member i of the object at o as it was found, then the rest
+unfoldable pub memberThen : Reader → Table → ℕ → ℕ → ℕ → Res Parts → Member → Res Parts
+memberThen value t r o i rest member.Absent = bind rest (λ ps. ok (absent ps))
+memberThen value t r o i rest member.Missing = at (Missing i) o
+memberThen value t r o i rest (member.There q) = bind (value (typeAt t r i) q) (λ g. bind rest (λ ps. ok (present (g .value) ps)))
+
 -- n members from i on of the object at o
 unfoldable pub membersAt : Reader → Table → List ℕ → ℕ → ℕ → ℕ → List ℕ → ℕ → ℕ → Res Parts
 membersAt value t s r o met places i zero = ok pnil
-membersAt value t s r o met places i (suc n) =
-    elim (bitOf met i) [
-      | false ↦ elim (mayMiss t r i) [ true ↦ bind (membersAt value t s r o met places (suc i) n) (λ ps. ok (absent ps)) | false ↦ at (Missing i) o ]
-      | true ↦ elim (isNullAt s (getD places i 0) && nullAbsent t r i) [
-        | true ↦ bind (membersAt value t s r o met places (suc i) n) (λ ps. ok (absent ps))
-        | false ↦ bind (value (typeAt t r i) (getD places i 0)) (λ g. bind (membersAt value t s r o met places (suc i) n) (λ ps. ok (present (g .value) ps)))
-      ]
-    ]
+membersAt value t s r o met places i (suc n) = memberThen value t r o i (membersAt value t s r o met places (suc i) n) (memberFound t s r i (bitOf met i) (getD places i 0))
 
 unfoldable pub noPlaces : List ℕ
 noPlaces = replicate 64 0
 
-unfoldable pub afterScan : Reader → Table → List ℕ → ℕ → ℕ → Scan → Res (Got Val)
-afterScan value t s r o (stopped e) = no e
-afterScan value t s r o (scanned met places q) = ending q (bind (membersAt value t s r o met places 0 (countOf t r)) (λ ps. ok (vSeq ps)))
+unfoldable pub afterScan : Reader → Table → List ℕ → ℕ → ℕ → Scanned → Res (Got Val)
+afterScan value t s r o x =
+    elim (x .end) [
+      | Stopped e ↦ no e
+      | Closed q ↦ ending q (bind (membersAt value t s r o (x .met) (x .places) 0 (countOf t r)) (λ ps. ok (vSeq ps)))
+    ]
 
 unfoldable pub objectAt : Reader → ℕ → Table → List ℕ → Reader
 objectAt value d t s r p = afterScan value t s r p (scanAt d t s r (length s) (firstPart s 0x7D p) 0 noPlaces)
@@ -194,17 +212,18 @@ unfoldable pub chosenAt : Reader → Table → List ℕ → ℕ → ℕ → ℕ 
 chosenAt value t s r p q none = elim (extensible t r) [ true ↦ at Unknown p | false ↦ at UnknownName q ]
 chosenAt value t s r p q (some i) = bind (value (typeAt t r i) (valuePlace s q)) (λ g. ok (got (vChoice i (g .value)) (pastSpace s (g .next) + 1)))
 
--- the one member whose name stands at q
-unfoldable pub memberAt : Reader → ℕ → Table → List ℕ → ℕ → ℕ → Follows → Res (Got Val)
-memberAt value d t s r p (shut q) = at NotOne p
-memberAt value d t s r p (part q) =
-    elim (eqb (byteAt s (pastSpace s (pastValue d s (valuePlace s q)))) 0x2C) [
-      | true ↦ at NotOne p
-      | false ↦ chosenAt value t s r p q (position t r (denoted s (q + 1)))
-    ]
+-- the name of the one member, in whose value d brackets may be open
+unfoldable pub oneAt : ℕ → List ℕ → Follows → One
+oneAt d s (Shut q) = one.NotOne
+oneAt d s (Part q) = elim (eqb (byteAt s (pastSpace s (pastValue d s (valuePlace s q)))) 0x2C) [ true ↦ one.NotOne | false ↦ one.At q ]
+
+-- the one member
+unfoldable pub memberAt : Reader → Table → List ℕ → ℕ → ℕ → One → Res (Got Val)
+memberAt value t s r p one.NotOne = at NotOne p
+memberAt value t s r p (one.At q) = chosenAt value t s r p q (position t r (denoted s (q + 1)))
 
 unfoldable pub choiceAt : Reader → ℕ → Table → List ℕ → Reader
-choiceAt value d t s r p = memberAt value d t s r p (firstPart s 0x7D p)
+choiceAt value d t s r p = memberAt value t s r p (oneAt d s (firstPart s 0x7D p))
 
 -- ---- values
 

@@ -11,7 +11,9 @@ use Rattle.json.specs.Bytes.{pick}
 use Rattle.jer.specs.Table.{tokenCode}
 use Rattle.tokens.specs.Places.{byteAt, pastSpace}
 use Rattle.tokens.proofs.PlaceLaws.{inside}
-use Rattle.places.specs.ByPlaces.{Follows, part, shut, followsAt, afterPart, firstPart, tokenAt}
+use Rattle.places.specs.declared.Follows.{Follows}
+use Rattle.places.specs.declared.Follows.the-variants.{Part, Shut}
+use Rattle.places.specs.ByPlaces.{followsAt, afterPart, firstPart, tokenAt}
 use Rattle.scan.proofs.WithinLaws.{space-ahead, space-within}
 
 -- ---- tokens
@@ -38,11 +40,11 @@ module _ (s : List ℕ) (k p : ℕ) {a c b : ℕ} (e : a ≡ p + 1) (f : c ≡ p
   byte-first : b ≡ byteAt s (pastSpace s (p + 1))
   byte-first = g ∙ rw (f, e)
 
-  pub first-shut : {n : ℕ} → b ≡ k → n ≡ c + 1 → shut n ≡ firstPart s k p
+  pub first-shut : {n : ℕ} → b ≡ k → n ≡ c + 1 → Shut n ≡ firstPart s k p
   unfolding firstPart
   first-shut h w = rw (eq-eqb (byteAt s (pastSpace s (p + 1))) k (sym byte-first ∙ h), firstPart) (rw (w, f, e))
 
-  pub first-part : (b ≡ k → ⊥) → part c ≡ firstPart s k p
+  pub first-part : (b ≡ k → ⊥) → Part c ≡ firstPart s k p
   unfolding firstPart
   first-part h = rw (ne-eqb (byteAt s (pastSpace s (p + 1))) k (λ z. h (byte-first ∙ z)), firstPart) (rw (f, e))
 
@@ -52,29 +54,29 @@ module _ (s : List ℕ) (q : ℕ) {c a b : ℕ} (e : c ≡ pastSpace s q) (f : a
   byte-after : b ≡ byteAt s (pastSpace s q)
   byte-after = g ∙ rw e
 
-  pub after-comma : {n : ℕ} → b ≡ 0x2C → n ≡ pastSpace s a → part n ≡ afterPart s q
+  pub after-comma : {n : ℕ} → b ≡ 0x2C → n ≡ pastSpace s a → Part n ≡ afterPart s q
   unfolding afterPart
   after-comma h w = rw (eq-eqb (byteAt s (pastSpace s q)) 0x2C (sym byte-after ∙ h), afterPart) (rw (w, f, e))
 
-  pub after-shut : (b ≡ 0x2C → ⊥) → shut a ≡ afterPart s q
+  pub after-shut : (b ≡ 0x2C → ⊥) → Shut a ≡ afterPart s q
   unfolding afterPart
   after-shut h = rw (ne-eqb (byteAt s (pastSpace s q)) 0x2C (λ z. h (byte-after ∙ z)), afterPart) (rw (f, e))
 
 -- ---- where the next part stands
 
-pub first-inside : (s : List ℕ) (k p q : ℕ) → p < length s → firstPart s k p ≡ part q → (p < q) × (q ≤ length s)
+pub first-inside : (s : List ℕ) (k p q : ℕ) → p < length s → firstPart s k p ≡ Part q → (p < q) × (q ≤ length s)
 unfolding firstPart
 first-inside s k p q l e = go (eqb (byteAt s (pastSpace s (p + 1))) k) e
   where
-    go : (t : Bool) → _≡_ {A = Follows} (elim t [ true ↦ shut (pastSpace s (p + 1) + 1) | false ↦ part (pastSpace s (p + 1)) ]) (part q) → (p < q) × (q ≤ length s)
+    go : (t : Bool) → _≡_ {A = Follows} (elim t [ true ↦ Shut (pastSpace s (p + 1) + 1) | false ↦ Part (pastSpace s (p + 1)) ]) (Part q) → (p < q) × (q ≤ length s)
     go true w = absurd (let z : _≡_ {A = ℕ} 0 1 = cc in omega arith)
     go false w = let z : pastSpace s (p + 1) ≡ q = cc in omega (arith, space-ahead s (p + 1), space-within s (length s) (p + 1) (omega arith) (omega arith))
 
-pub after-inside : (s : List ℕ) (x q : ℕ) → afterPart s x ≡ part q → (x < q) × (q ≤ length s)
+pub after-inside : (s : List ℕ) (x q : ℕ) → afterPart s x ≡ Part q → (x < q) × (q ≤ length s)
 unfolding afterPart
 after-inside s x q e = go (eqb (byteAt s (pastSpace s x)) 0x2C) refl e
   where
-    go : (t : Bool) → eqb (byteAt s (pastSpace s x)) 0x2C ≡ t → _≡_ {A = Follows} (elim t [ true ↦ part (pastSpace s (pastSpace s x + 1)) | false ↦ shut (pastSpace s x + 1) ]) (part q) → (x < q) × (q ≤ length s)
+    go : (t : Bool) → eqb (byteAt s (pastSpace s x)) 0x2C ≡ t → _≡_ {A = Follows} (elim t [ true ↦ Part (pastSpace s (pastSpace s x + 1)) | false ↦ Shut (pastSpace s x + 1) ]) (Part q) → (x < q) × (q ≤ length s)
     go true h w =
         let z : pastSpace s (pastSpace s x + 1) ≡ q = cc in
         let i = inside s (pastSpace s x) (λ n. omega (arith, eqb-true (byteAt s (pastSpace s x)) 0x2C h)) in
@@ -87,7 +89,7 @@ pub first-within : (s : List ℕ) (k p m : ℕ) → length s ≤ m → p < m →
 unfolding firstPart followsAt
 first-within s k p m l h = go (eqb (byteAt s (pastSpace s (p + 1))) k)
   where
-    go : (t : Bool) → followsAt (elim t [ true ↦ shut (pastSpace s (p + 1) + 1) | false ↦ part (pastSpace s (p + 1)) ]) ≤ m + 1
+    go : (t : Bool) → followsAt (elim t [ true ↦ Shut (pastSpace s (p + 1) + 1) | false ↦ Part (pastSpace s (p + 1)) ]) ≤ m + 1
     go true = omega (arith, space-within s m (p + 1) l (omega arith))
     go false = omega (arith, space-within s m (p + 1) l (omega arith))
 
@@ -95,6 +97,6 @@ pub after-within : (s : List ℕ) (x m : ℕ) → length s ≤ m → x ≤ m →
 unfolding afterPart followsAt
 after-within s x m l h = go (eqb (byteAt s (pastSpace s x)) 0x2C)
   where
-    go : (t : Bool) → followsAt (elim t [ true ↦ part (pastSpace s (pastSpace s x + 1)) | false ↦ shut (pastSpace s x + 1) ]) ≤ m + 1
+    go : (t : Bool) → followsAt (elim t [ true ↦ Part (pastSpace s (pastSpace s x + 1)) | false ↦ Shut (pastSpace s x + 1) ]) ≤ m + 1
     go true = space-within s (m + 1) (pastSpace s x + 1) (omega arith) (omega (arith, space-within s m x l h))
     go false = omega (arith, space-within s m x l h)

@@ -1,4 +1,5 @@
 // What stands at a place, and what follows the opening bracket or a part of a bracket.
+use places::Follows;
 use tokens::cursor::Cursor;
 use tokens::cursor::byte_at;
 use types::token::ARRAY;
@@ -12,7 +13,6 @@ ghost use Prim.Native.Nat.{_≤_};
 ghost use lib.ListN.{length};
 ghost use Rattle.jer.specs.Table.{tokenCode};
 ghost use Rattle.places.specs.ByPlaces.{tokenAt, isNullAt, afterPart, firstPart};
-ghost use Rattle.scan.specs.Enums.{followsOf};
 
 // The token at p, by the numbers of `types::token`.
 pub fn token_at(s: &[u8], p: usize) -> u32
@@ -35,17 +35,10 @@ pub fn null_at(s: &[u8], p: usize) -> bool
     byte_at(s, p) == 0x6E
 }
 
-pub enum Follows {
-    // The next part begins at this place.
-    Part(usize),
-    // The bracket is closed, and this place follows it.
-    Shut(usize),
-}
-
 // After the opening bracket at p, which the byte `close` closes.
 pub fn first_part(s: &[u8], close: u32, p: usize) -> Follows
     requires { ⌜ (length (now s) ≤ 65536) × (p ≤ 4294967295) ⌝ }
-    ensures { λ r. ⌜ followsOf r ≡ firstPart (now (s .entry)) close p ⌝ }
+    ensures { λ r. ⌜ r ≡ firstPart (now (s .entry)) close p ⌝ }
 {
     let start = Cursor { at: p };
     let c = start.advance(1).skip_space(s);
@@ -59,7 +52,7 @@ pub fn first_part(s: &[u8], close: u32, p: usize) -> Follows
 // After a part that ends at q.
 pub fn after_part(s: &[u8], q: usize) -> Follows
     requires { ⌜ (length (now s) ≤ 65536) × (q ≤ 4294967295) ⌝ }
-    ensures { λ r. ⌜ followsOf r ≡ afterPart (now (s .entry)) q ⌝ }
+    ensures { λ r. ⌜ r ≡ afterPart (now (s .entry)) q ⌝ }
 {
     let start = Cursor { at: q };
     let c = start.skip_space(s);

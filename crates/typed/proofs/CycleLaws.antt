@@ -15,12 +15,15 @@ use Rattle.jer.specs.declared.Refusal.the-variants.{AtByte}
 use Rattle.jer.specs.Table.{Table, isType, elementOf, countOf, kindOf, SEQUENCE}
 use Rattle.jer.specs.Value.{Val, vSeq, vList, Vals, Parts}
 use Rattle.jer.specs.Answer.{Res, ok, no, bind, at}
-use Rattle.places.specs.ByPlaces.{Got, got, Reader, Follows, part, shut, valuePlace, firstPart, itemsAt, listAt, elementsAt, arrayAt, surplusAt, within}
+use Rattle.places.specs.declared.Follows.{Follows}
+use Rattle.places.specs.declared.Follows.the-variants.{Part, Shut}
+use Rattle.places.specs.declared.One.{One}
+use Rattle.places.specs.declared.One.the-variants as one
+use Rattle.places.specs.ByPlaces.{Got, got, Reader, valuePlace, firstPart, oneAt, itemsAt, listAt, elementsAt, arrayAt, surplusAt, within}
 use Rattle.types.specs.Rows.{foundOf}
 use Rattle.tokens.specs.Places.{byteAt, pastSpace}
 use Rattle.tokens.specs.Skip.{pastValue}
 use Rattle.scan.proofs.PartLaws.{first-inside}
-use Rattle.typed.specs.Members.{oneAt}
 use Rattle.types.specs.declared.token.Found.the-variants.{At, Nothing}
 use Rattle.leaf.specs.declared.Step.{Step}
 use Rattle.leaf.specs.declared.Step.the-variants.{Read, Refused}
@@ -137,14 +140,14 @@ pub at-place : {z : Step} {rows₁ rows₀ pool₁ pool₀ : List ℕ} {i o b : 
 at-place {z} {rows₁} {rows₀} {pool₁} {pool₀} {i} {o} {b} {t} {r} {e} {p} {q} value h k f = subst (λ (u : ℕ). Reads z rows₁ rows₀ pool₁ pool₀ i o b t e (value e u)) k (at-row value p h f)
 
 -- the name of the one member of an object
-pub one-near : (d : ℕ) (s : List ℕ) (p : ℕ) {q : ℕ} → length s ≤ 65536 → p < length s → some q ≡ oneAt d s (firstPart s 0x7D p) → q ≤ 65536
+pub one-near : (d : ℕ) (s : List ℕ) (p : ℕ) {q : ℕ} → length s ≤ 65536 → p < length s → one.At q ≡ oneAt d s (firstPart s 0x7D p) → q ≤ 65536
 unfolding oneAt
 one-near d s p {q} l h e = go (firstPart s 0x7D p) refl e
   where
-    go : (f : Follows) → firstPart s 0x7D p ≡ f → some q ≡ oneAt d s f → q ≤ 65536
-    go (shut y) w e = absurd (let z : _≡_ {A = ℕ} 0 1 = cc in omega arith)
-    go (part y) w e = go₂ (eqb (byteAt s (pastSpace s (pastValue d s (valuePlace s y)))) 0x2C) e
+    go : (f : Follows) → firstPart s 0x7D p ≡ f → one.At q ≡ oneAt d s f → q ≤ 65536
+    go (Shut y) w e = absurd (let z : _≡_ {A = ℕ} 0 1 = cc in omega arith)
+    go (Part y) w e = go₂ (eqb (byteAt s (pastSpace s (pastValue d s (valuePlace s y)))) 0x2C) e
       where
-        go₂ : (b : Bool) → some q ≡ elim b as (λ x. Option ℕ) [ true ↦ none | false ↦ some y ] → q ≤ 65536
+        go₂ : (b : Bool) → one.At q ≡ elim b as (λ x. One) [ true ↦ one.NotOne | false ↦ one.At y ] → q ≤ 65536
         go₂ true e = absurd (let z : _≡_ {A = ℕ} 0 1 = cc in omega arith)
         go₂ false e = let z : q ≡ y = cc in omega (arith, first-inside s 0x7D p y h w)

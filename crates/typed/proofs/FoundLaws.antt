@@ -2,7 +2,6 @@
 use mathlib.Core.Path.{_≡_, sym, _∙_}
 use mathlib.Core.List.{List}
 use mathlib.Core.Bool.{Bool, true, false, _&&_, not}
-use mathlib.Core.Option.{none, some}
 use Prim.Native.Nat.{ℕ, zero, suc, _-_, _^_, _<_, _≤_}
 use native.Mathlib.Omega.{arith}
 use borrow.Author.Tests.{lt-ltb, le-ltb, eq-eqb, ne-eqb}
@@ -10,19 +9,21 @@ use lib.ListN.{length}
 use Rattle.jer.specs.declared.Cause.the-variants.{Surplus}
 use Rattle.jer.specs.declared.Limit.the-variants.{LentRoom}
 use Rattle.jer.specs.declared.Refusal.{Refusal}
-use Rattle.jer.specs.declared.Refusal.the-variants.{Amounts}
+use Rattle.jer.specs.declared.Refusal.the-variants.{AtByte, Amounts}
 use Rattle.jer.specs.Table.{Table, extensible, optional, typeAt, mayMiss, nullTaken}
-use Rattle.jer.specs.Value.{pnil}
-use Rattle.jer.specs.Answer.{ok, at}
 use Rattle.jer.specs.Read.{nullAbsent}
 use Rattle.tokens.specs.Places.{byteAt, pastSpace}
 use Rattle.tokens.specs.Skip.{pastWord, pastValue, partsPast, pastBracket}
-use Rattle.places.specs.ByPlaces.{got, Follows, part, shut, followsAt, afterPart, isNullAt, valuePlace, surplusAt}
+use Rattle.places.specs.declared.Follows.{Follows}
+use Rattle.places.specs.declared.Follows.the-variants.{Part, Shut}
+use Rattle.places.specs.declared.Ended.the-variants.{Closed, Stopped}
+use Rattle.places.specs.declared.Member.the-variants as member
+use Rattle.places.specs.declared.Element.the-variants as element
+use Rattle.places.specs.declared.One.the-variants as one
+use Rattle.places.specs.ByPlaces.{followsAt, afterPart, isNullAt, valuePlace, memberFound, elementFound, surplusAt, oneAt}
 use Rattle.leaf.specs.declared.Step.{Step}
 use Rattle.leaf.specs.declared.Step.the-variants.{Read, Refused}
-use Rattle.typed.specs.declared.members.Member.the-variants as member
 use Rattle.typed.specs.Cycle.{bounded}
-use Rattle.typed.specs.Members.{memberFound, absentNext, missingNext, thereNext, elementFound, oneAt}
 
 -- ---- counts
 
@@ -75,29 +76,29 @@ module _ (t : Table) (s : List ℕ) (r i q : ℕ) {b : Bool} where
 -- ---- members of an array
 
 -- the place of what follows, once it is known to be a part
-pub shown : {f : Follows} {q b : ℕ} → f ≡ part q → followsAt f ≤ b → q ≤ b
+pub shown : {f : Follows} {q b : ℕ} → f ≡ Part q → followsAt f ≤ b → q ≤ b
 unfolding followsAt
 shown e h = rw e at h
 
 module _ (t : Table) (s : List ℕ) (r i : ℕ) {q : ℕ} {f : Follows} {m : Bool} (g : m ≡ mayMiss t r i) where
-  module _ (e : f ≡ shut q) where
-    pub element-absent : m ≡ true → absentNext (shut q) ≡ elementFound t s r i f
+  module _ (e : f ≡ Shut q) where
+    pub element-absent : m ≡ true → element.Absent (Shut q) ≡ elementFound t s r i f
     unfolding elementFound
     element-absent h = rw (e, sym g ∙ h, elementFound)
 
-    pub element-missing : m ≡ false → missingNext q ≡ elementFound t s r i f
+    pub element-missing : m ≡ false → element.Missing q ≡ elementFound t s r i f
     unfolding elementFound
     element-missing h = rw (e, sym g ∙ h, elementFound)
 
-  module _ (e : f ≡ part q) {n : Bool} (k : n ≡ isNullAt s q) where
+  module _ (e : f ≡ Part q) {n : Bool} (k : n ≡ isNullAt s q) where
     null-may : (isNullAt s q && mayMiss t r i) ≡ (n && m)
     null-may = rw (k, g)
 
-    pub element-null : {w : ℕ} {u : Follows} → (n && m) ≡ true → w ≡ pastWord s q → u ≡ afterPart s w → absentNext u ≡ elementFound t s r i f
+    pub element-null : {w : ℕ} {u : Follows} → (n && m) ≡ true → w ≡ pastWord s q → u ≡ afterPart s w → element.Absent u ≡ elementFound t s r i f
     unfolding elementFound
     element-null h x y = rw (e, null-may ∙ h, elementFound) (rw (y, x))
 
-    pub element-there : (n && m) ≡ false → thereNext q ≡ elementFound t s r i f
+    pub element-there : (n && m) ≡ false → element.There q ≡ elementFound t s r i f
     unfolding elementFound
     element-there h = rw (e, null-may ∙ h, elementFound)
 
@@ -107,34 +108,34 @@ bracket s q zero l = absurd (omega arith)
 bracket s q (suc k) l = let z : suc k - 1 ≡ k = omega arith in rw z
 
 module _ (d : ℕ) (t : Table) (s : List ℕ) (r : ℕ) {q : ℕ} {f : Follows} where
-  pub surplus-none : f ≡ shut q → ok (got pnil q) ≡ surplusAt (d - 1) t s r f
+  pub surplus-none : f ≡ Shut q → Closed q ≡ surplusAt (d - 1) t s r f
   unfolding surplusAt
   surplus-none e = rw e
 
-  module _ (e : f ≡ part q) where
-    pub surplus-past : {x : ℕ} → extensible t r ≡ true → 0 < d → x ≡ pastBracket d s q → ok (got pnil x) ≡ surplusAt (d - 1) t s r f
+  module _ (e : f ≡ Part q) where
+    pub surplus-past : {x : ℕ} → extensible t r ≡ true → 0 < d → x ≡ pastBracket d s q → Closed x ≡ surplusAt (d - 1) t s r f
     unfolding surplusAt
     surplus-past h l w = rw (e, h, surplusAt) (rw (w, bracket s q d l))
 
-    pub surplus-stops : extensible t r ≡ false → at Surplus q ≡ surplusAt (d - 1) t s r f
+    pub surplus-stops : extensible t r ≡ false → Stopped (AtByte Surplus q) ≡ surplusAt (d - 1) t s r f
     unfolding surplusAt
     surplus-stops h = rw (e, h, surplusAt)
 
 -- ---- the one member of a choice
 
 module _ (d : ℕ) (s : List ℕ) {f : Follows} {q : ℕ} where
-  pub one-none : f ≡ shut q → none ≡ oneAt d s f
+  pub one-none : f ≡ Shut q → one.NotOne ≡ oneAt d s f
   unfolding oneAt
   one-none e = rw e
 
-  module _ (e : f ≡ part q) {v w u b : ℕ} (e₁ : v ≡ valuePlace s q) (e₂ : w ≡ pastValue d s v) (e₃ : u ≡ pastSpace s w) (e₄ : b ≡ byteAt s u) where
+  module _ (e : f ≡ Part q) {v w u b : ℕ} (e₁ : v ≡ valuePlace s q) (e₂ : w ≡ pastValue d s v) (e₃ : u ≡ pastSpace s w) (e₄ : b ≡ byteAt s u) where
     one-byte : byteAt s (pastSpace s (pastValue d s (valuePlace s q))) ≡ b
     one-byte = sym (e₄ ∙ rw (e₃, e₂, e₁))
 
-    pub one-more : b ≡ 0x2C → none ≡ oneAt d s f
+    pub one-more : b ≡ 0x2C → one.NotOne ≡ oneAt d s f
     unfolding oneAt
     one-more h = rw (e, eq-eqb (byteAt s (pastSpace s (pastValue d s (valuePlace s q)))) 0x2C (one-byte ∙ h), oneAt)
 
-    pub one-there : (b ≡ 0x2C → ⊥) → some q ≡ oneAt d s f
+    pub one-there : (b ≡ 0x2C → ⊥) → one.At q ≡ oneAt d s f
     unfolding oneAt
     one-there h = rw (e, ne-eqb (byteAt s (pastSpace s (pastValue d s (valuePlace s q)))) 0x2C (λ z. h (sym one-byte ∙ z)), oneAt)

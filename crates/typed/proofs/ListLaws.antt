@@ -9,7 +9,9 @@ use Rattle.jer.specs.Table.{Table}
 use Rattle.jer.specs.Value.{Val, Vals, vnil, vcons}
 use Rattle.jer.specs.Answer.{Res, ok, no, bind}
 use Rattle.jer.specs.Rows.{ValueRow}
-use Rattle.places.specs.ByPlaces.{Got, got, Follows, part, shut, followsAt, afterPart, firstPart, withItem, itemsAt}
+use Rattle.places.specs.declared.Follows.{Follows}
+use Rattle.places.specs.declared.Follows.the-variants.{Part, Shut}
+use Rattle.places.specs.ByPlaces.{Got, got, followsAt, afterPart, firstPart, withItem, itemsAt}
 use Rattle.scan.proofs.PartLaws.{first-inside, after-inside, first-within, after-within}
 use Rattle.leaf.specs.declared.Step.{Step}
 use Rattle.leaf.specs.Step.{Stepped}
@@ -18,23 +20,23 @@ use Rattle.typed.proofs.StoredLaws.{Took, Items, items-start, items-mor
 -- ---- what follows is near
 
 abbrev pub Near : ℕ → Follows → Type 0
-Near b (part q) = q ≤ 65536
-Near b (shut q) = q ≤ b
+Near b (Part q) = q ≤ 65536
+Near b (Shut q) = q ≤ b
 
 pub near-first : (s : List ℕ) (c p b : ℕ) (f : Follows) → length s ≤ 65536 → p < length s → 65540 ≤ b → f ≡ firstPart s c p → Near b f
 unfolding followsAt
-near-first s c p b (part q) l h k e = omega (arith, first-inside s c p q h (sym e))
-near-first s c p b (shut q) l h k e = let w = rw (← e) at (first-within s c p 65539 (omega arith) (omega arith)) in omega arith
+near-first s c p b (Part q) l h k e = omega (arith, first-inside s c p q h (sym e))
+near-first s c p b (Shut q) l h k e = let w = rw (← e) at (first-within s c p 65539 (omega arith) (omega arith)) in omega arith
 
 pub near-after : (s : List ℕ) (x b : ℕ) (f : Follows) → length s ≤ 65536 → x < b → 65536 < b → f ≡ afterPart s x → Near b f
 unfolding followsAt
-near-after s x b (part q) l h k e = omega (arith, after-inside s x q (sym e))
-near-after s x b (shut q) l h k e = let w = rw (← e) at (after-within s x (b - 1) (omega arith) (omega arith)) in omega arith
+near-after s x b (Part q) l h k e = omega (arith, after-inside s x q (sym e))
+near-after s x b (Shut q) l h k e = let w = rw (← e) at (after-within s x (b - 1) (omega arith) (omega arith)) in omega arith
 
-pub near-part : (b : ℕ) {q : ℕ} {f : Follows} → f ≡ part q → Near b f → q ≤ 65536
+pub near-part : (b : ℕ) {q : ℕ} {f : Follows} → f ≡ Part q → Near b f → q ≤ 65536
 near-part b e h = subst (Near b) e h
 
-pub near-shut : (b : ℕ) {q : ℕ} {f : Follows} → f ≡ shut q → Near b f → q ≤ b
+pub near-shut : (b : ℕ) {q : ℕ} {f : Follows} → f ≡ Shut q → Near b f → q ≤ b
 near-shut b e h = subst (Near b) e h
 
 -- ---- results in two steps
@@ -69,19 +71,19 @@ loop-start value s t e h f i o rows pool w =
 
 module _ {value : ℕ → Res (Got Val)} {s : List ℕ} {t : Table} {e : ℕ} {X : Res (Got Vals)} {f : Follows} {i o n m k : ℕ} {rows₁ rows₀ pool₁ pool₀ : List ℕ} (w : Loop value s t e X f i o n m k rows₁ rows₀ pool₁ pool₀) {q : ℕ} where
   -- no item is left
-  pub loop-shut : f ≡ shut q → ok (got (w .acc vnil) q) ≡ X
+  pub loop-shut : f ≡ Shut q → ok (got (w .acc vnil) q) ≡ X
   unfolding itemsAt followsAt bind
   loop-shut h = go (length s - k) (rw h at (w .inv))
     where
-      go : (j : ℕ) → bind (itemsAt value s j (shut q)) (λ g. ok (got (w .acc (g .value)) (g .next))) ≡ X → ok (got (w .acc vnil) q) ≡ X
+      go : (j : ℕ) → bind (itemsAt value s j (Shut q)) (λ g. ok (got (w .acc (g .value)) (g .next))) ≡ X → ok (got (w .acc vnil) q) ≡ X
       go zero h = h
       go (suc j) h = h
 
-  pub loop-full : f ≡ part q → length s ≤ k → ok (got (w .acc vnil) q) ≡ X
+  pub loop-full : f ≡ Part q → length s ≤ k → ok (got (w .acc vnil) q) ≡ X
   unfolding itemsAt followsAt bind
   loop-full h l = let z : length s - k ≡ 0 = omega arith in rw (h, z) at (w .inv)
 
-  module _ (h : f ≡ part q) (l : k < length s) where
+  module _ (h : f ≡ Part q) (l : k < length s) where
     -- the next item, and the rest
     turn : bind (value q) (λ v. bind (itemsAt value s (length s - (k + 1)) (afterPart s (v .next))) (λ g. ok (got (w .acc (vcons (v .value) (g .value))) (g .next)))) ≡ X
     unfolding itemsAt withItem bind

@@ -21,9 +21,9 @@ use Rattle.jer.specs.Rows.{rowsOf, poolOf, above}
 use Rattle.jer.proofs.WeightGot.{found, got as unok}
 use Rattle.tokens.specs.Places.{byteAt, pastSpace}
 use Rattle.tokens.specs.Strings.{denoted}
-use Rattle.tokens.specs.Skip.{pastValue}
 use Rattle.tokens.proofs.PlaceLaws.{inside}
-use Rattle.places.specs.ByPlaces.{Got, got, ending, Reader, Follows, part, shut, firstPart, valuePlace, tokenAt, leafAt, listAt, arrayAt, objectAt, memberAt, chosenAt, choiceAt, within, bracketAt, shallowAt, pickedAt, valueWith, readAt}
+use Rattle.places.specs.declared.One.the-variants as one
+use Rattle.places.specs.ByPlaces.{Got, got, ending, Reader, firstPart, valuePlace, tokenAt, leafAt, listAt, arrayAt, objectAt, oneAt, memberAt, chosenAt, choiceAt, within, bracketAt, shallowAt, pickedAt, valueWith, readAt}
 use Rattle.scan.proofs.WithinLaws.{end-within}
 use Rattle.leaf.specs.declared.Step.{Step}
 use Rattle.leaf.specs.declared.Step.the-variants.{Read, Refused}
@@ -31,7 +31,6 @@ use Rattle.leaf.specs.Step.{Stepped}
 use Rattle.types.specs.declared.row.Row.{Row}
 use Rattle.types.specs.Rows.{rowOf}
 use Rattle.typed.specs.Cycle.{Small, Reads, limit, plainAt, bounded}
-use Rattle.typed.specs.Members.{oneAt}
 use Rattle.typed.proofs.SequenceLaws.{word-near}
 use Rattle.typed.proofs.StoredLaws.{Took}
 
@@ -202,28 +201,14 @@ bounded-reads {rows₁ = rows₁} {rows₀ = rows₀} {pool₁ = pool₁} {pool�
 -- ---- wrapped choices
 
 module _ (value : Reader) (d : ℕ) (t : Table) (s : List ℕ) (r p : ℕ) where
-  abbrev ofOne : Option ℕ → Res (Got Val)
-  ofOne none = at NotOne p
-  ofOne (some q) = chosenAt value t s r p q (position t r (denoted s (q + 1)))
+  pub choice-not-one : one.NotOne ≡ oneAt d s (firstPart s 0x7D p) → at NotOne p ≡ choiceAt value d t s r p
+  unfolding choiceAt memberAt
+  choice-not-one e = rw (← e)
 
-  one-is : (f : Follows) → ofOne (oneAt d s f) ≡ memberAt value d t s r p f
-  unfolding oneAt memberAt
-  one-is (shut q) = refl
-  one-is (part q) = go (eqb (byteAt s (pastSpace s (pastValue d s (valuePlace s q)))) 0x2C)
-    where
-      go : (b : Bool) → ofOne (elim b as (λ x. Option ℕ) [ true ↦ none | false ↦ some q ])
-          ≡ elim b as (λ x. Res (Got Val)) [ true ↦ at NotOne p | false ↦ chosenAt value t s r p q (position t r (denoted s (q + 1))) ]
-      go true = refl
-      go false = refl
-
-  pub choice-not-one : none ≡ oneAt d s (firstPart s 0x7D p) → at NotOne p ≡ choiceAt value d t s r p
-  unfolding choiceAt
-  choice-not-one e = rw (← e) at (one-is (firstPart s 0x7D p))
-
-  module _ {q : ℕ} (e : some q ≡ oneAt d s (firstPart s 0x7D p)) where
+  module _ {q : ℕ} (e : one.At q ≡ oneAt d s (firstPart s 0x7D p)) where
     chosen : chosenAt value t s r p q (position t r (denoted s (q + 1))) ≡ choiceAt value d t s r p
-    unfolding choiceAt
-    chosen = rw (← e) at (one-is (firstPart s 0x7D p))
+    unfolding choiceAt memberAt
+    chosen = rw (← e)
 
     pub choice-none : position t r (denoted s (q + 1)) ≡ none → elim (extensible t r) as (λ b. Res (Got Val)) [ true ↦ at Unknown p | false ↦ at UnknownName q ] ≡ choiceAt value d t s r p
     unfolding chosenAt

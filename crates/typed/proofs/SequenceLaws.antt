@@ -11,7 +11,7 @@ use lib.Count.{ones}
 use lib.Dec.{eqb}
 use lib.ListN.{length, getD, set}
 use lib.Seq.{sets}
-use Rattle.jer.specs.declared.Cause.the-variants.{Missing, Surplus, UnknownName, RepeatedName}
+use Rattle.jer.specs.declared.Cause.the-variants.{Missing, UnknownName, RepeatedName}
 use Rattle.jer.specs.declared.Refusal.the-variants.{AtByte}
 use Rattle.jer.specs.declared.Refusal.{Refusal}
 use Rattle.jer.specs.Table.{Table, countOf, typeAt, mayMiss, extensible, position}
@@ -19,19 +19,24 @@ use Rattle.jer.specs.Value.{Val, vSeq, Parts, pnil, absent, present}
 use Rattle.jer.specs.Answer.{Res, ok, no, bind, at}
 use Rattle.jer.specs.Read.{nullAbsent, missingElement}
 use Rattle.jer.specs.Rows.{ValueRow}
-use Rattle.jer.proofs.WeightGot.{branch, cases, got as unok}
+use Rattle.jer.proofs.WeightGot.{branch, cases}
 use Rattle.tokens.specs.Places.{byteAt}
 use Rattle.tokens.specs.Strings.{denoted}
 use Rattle.tokens.specs.Skip.{isEnd, isBetween, isClosing, pastWord, pastBetween, pastValue, partsPast}
 use Rattle.tokens.proofs.PlaceLaws.{inside}
-use Rattle.places.specs.ByPlaces.{Got, got, ending, Reader, Follows, part, shut, followsAt, afterPart, isNullAt, gotAbsent, gotPresent, surplusAt, elementsAt, bitOf, withBit, valuePlace, Scan, scanned, stopped, scanAt, noPlaces, objectAt, firstPart, membersAt, afterScan}
+use Rattle.places.specs.declared.Follows.{Follows}
+use Rattle.places.specs.declared.Follows.the-variants.{Part, Shut}
+use Rattle.places.specs.declared.Ended.the-variants.{Closed, Stopped}
+use Rattle.places.specs.declared.Scanned.{Scanned}
+use Rattle.places.specs.declared.Member.{Member}
+use Rattle.places.specs.declared.Member.the-variants as member
+use Rattle.places.specs.declared.Element.{Element}
+use Rattle.places.specs.declared.Element.the-variants as element
+use Rattle.places.specs.ByPlaces.{Got, got, ending, Reader, followsAt, afterPart, isNullAt, gotAbsent, gotPresent, surplusAt, noMore, elementFound, elementThen, elementsAt, bitOf, withBit, valuePlace, scanned, scanAt, memberFound, memberThen, noPlaces, objectAt, firstPart, membersAt, afterScan}
 use Rattle.scan.proofs.WithinLaws.{run-within, value-within}
 use Rattle.scan.proofs.NameLaws.{place-within}
 use Rattle.leaf.specs.declared.Step.{Step}
 use Rattle.leaf.specs.Step.{Stepped}
-use Rattle.typed.specs.declared.members.Member.{Member}
-use Rattle.typed.specs.declared.members.Member.the-variants as member
-use Rattle.typed.specs.Members.{memberFound, Next, absentNext, missingNext, thereNext, elementFound}
 use Rattle.typed.proofs.StoredLaws.{Took, Members, members-start, members-gap, members-more, Sofar, sofar-start, sofar-gap, sofar-more, noRows, ones-zero, ones-with, with-low, more-low}
 use Rattle.typed.proofs.ListLaws.{Near, near-after, bind-bind, bind-got}
 
@@ -70,27 +75,6 @@ module _ {t : Table} {r : ℕ} {acc : Parts → Parts} {i o n m k bits : ℕ} {r
 -- ---- arrays
 
 module _ (value : Reader) (d : ℕ) (t : Table) (s : List ℕ) (r p : ℕ) where
-  -- what is left, once a member was found
-  abbrev onward : ℕ → ℕ → Next → Res (Got Parts)
-  onward i n (absentNext u) = gotAbsent (elementsAt value d t s r p (suc i) n u)
-  onward i n (missingNext q) = bind (missingElement t r p i) (λ v. gotPresent v (elementsAt value d t s r p (suc i) n (shut q)))
-  onward i n (thereNext q) = bind (value (typeAt t r i) q) (λ g. gotPresent (g .value) (elementsAt value d t s r p (suc i) n (afterPart s (g .next))))
-
-  elements-found : (i n : ℕ) (f : Follows) → elementsAt value d t s r p i (suc n) f ≡ onward i n (elementFound t s r i f)
-  unfolding elementsAt elementFound
-  elements-found i n (shut q) = go (mayMiss t r i)
-    where
-      go : (b : Bool) → elim b as (λ c. Res (Got Parts)) [ true ↦ gotAbsent (elementsAt value d t s r p (suc i) n (shut q)) | false ↦ bind (missingElement t r p i) (λ v. gotPresent v (elementsAt value d t s r p (suc i) n (shut q))) ]
-          ≡ onward i n (elim b as (λ c. Next) [ true ↦ absentNext (shut q) | false ↦ missingNext q ])
-      go true = refl
-      go false = refl
-  elements-found i n (part q) = go (isNullAt s q && mayMiss t r i)
-    where
-      go : (b : Bool) → elim b as (λ c. Res (Got Parts)) [ true ↦ gotAbsent (elementsAt value d t s r p (suc i) n (afterPart s (pastWord s q))) | false ↦ bind (value (typeAt t r i) q) (λ g. gotPresent (g .value) (elementsAt value d t s r p (suc i) n (afterPart s (g .next)))) ]
-          ≡ onward i n (elim b as (λ c. Next) [ true ↦ absentNext (afterPart s (pastWord s q)) | false ↦ thereNext q ])
-      go true = refl
-      go false = refl
-
   -- the elements from here on, put after those done, are the whole
   pub record Elements (X : Res (Got Parts)) (f : Follows) (i o n m k bits : ℕ) (rows₁ rows₀ pool₁ pool₀ : List ℕ) : Type 0 where
     pub acc : Parts → Parts
@@ -103,51 +87,42 @@ module _ (value : Reader) (d : ℕ) (t : Table) (s : List ℕ) (r p : ℕ) where
       record { acc = λ g. g; done = done-start t r i o rows pool; inv = rw (w, z) (bind-got (elementsAt value d t s r p 0 (countOf t r) h)) }
 
   module _ {X : Res (Got Parts)} {f : Follows} {i o n m k bits : ℕ} {rows₁ rows₀ pool₁ pool₀ : List ℕ} (w : Elements X f i o n m k bits rows₁ rows₀ pool₁ pool₀) where
-    module _ (l : k < countOf t r) {u : Next} (e : u ≡ elementFound t s r k f) where
-      turn : bind (onward k (countOf t r - (k + 1)) u) (λ g. ok (got (w .acc (g .value)) (g .next))) ≡ X
-      turn =
-          let z : countOf t r - k ≡ suc (countOf t r - (k + 1)) = omega arith in
-          ap (λ (y : Res (Got Parts)). bind y (λ g. ok (got (w .acc (g .value)) (g .next)))) (rw (e, z) (sym (elements-found k (countOf t r - (k + 1)) f))) ∙ w .inv
+    module _ (l : k < countOf t r) {u : Element} (e : u ≡ elementFound t s r k f) where
+      turn : bind (elementThen value t s r p k (λ h. elementsAt value d t s r p (suc k) (countOf t r - (k + 1)) h) u) (λ g. ok (got (w .acc (g .value)) (g .next))) ≡ X
+      unfolding elementsAt
+      turn = let z : countOf t r - k ≡ suc (countOf t r - (k + 1)) = omega arith in rw e (rw z at (w .inv))
 
     module _ (l : k < countOf t r) where
-      pub elements-absent : {u : Follows} {rows₂ : List ℕ} → absentNext u ≡ elementFound t s r k f → rows₂ ≡ sets rows₁ ((i + 1 + n) * 4) (15 ∷ 0 ∷ 0 ∷ 1 ∷ []) → length rows₂ ≡ length rows₁
+      pub elements-absent : {u : Follows} {rows₂ : List ℕ} → element.Absent u ≡ elementFound t s r k f → rows₂ ≡ sets rows₁ ((i + 1 + n) * 4) (15 ∷ 0 ∷ 0 ∷ 1 ∷ []) → length rows₂ ≡ length rows₁
           → Elements X u i o (n + 1) m (k + 1) bits rows₂ rows₀ pool₁ pool₀
-      unfolding gotAbsent bind
+      unfolding elementThen gotAbsent bind
       elements-absent {u} e h₁ h₂ = record {
         acc = λ g. w .acc (absent g);
         done = done-gap (w .done) h₁ h₂;
         inv = rw (add-one k) (sym (bind-bind (elementsAt value d t s r p (suc k) (countOf t r - suc k) u) _ _)) ∙ turn l e;
       }
 
-      module _ {q : ℕ} (e : missingNext q ≡ elementFound t s r k f) where
+      module _ {q : ℕ} (e : element.Missing q ≡ elementFound t s r k f) where
         pub elements-lost : {y : Refusal} → missingElement t r p k ≡ no y → no y ≡ X
-        unfolding bind
+        unfolding elementThen bind
         elements-lost h = rw h at (turn l e)
 
-        pub missing-shut : f ≡ shut q
+        pub missing-shut : f ≡ Shut q
         unfolding elementFound
         missing-shut = go f e
           where
-            go : (f : Follows) → missingNext q ≡ elementFound t s r k f → f ≡ shut q
-            go (shut y) h = go₂ (mayMiss t r k) h
-              where
-                go₂ : (b : Bool) → missingNext q ≡ elim b as (λ c. Next) [ true ↦ absentNext (shut y) | false ↦ missingNext y ] → shut y ≡ shut q
-                go₂ true h = absurd (let z : _≡_ {A = ℕ} 0 1 = cc in omega arith)
-                go₂ false h = cc
-            go (part y) h = go₂ (isNullAt s y && mayMiss t r k) h
-              where
-                go₂ : (b : Bool) → missingNext q ≡ elim b as (λ c. Next) [ true ↦ absentNext (afterPart s (pastWord s y)) | false ↦ thereNext y ] → part y ≡ shut q
-                go₂ true h = absurd (let z : _≡_ {A = ℕ} 0 1 = cc in omega arith)
-                go₂ false h = absurd (let z : _≡_ {A = ℕ} 0 1 = cc in omega arith)
+            go : (f : Follows) → element.Missing q ≡ elementFound t s r k f → f ≡ Shut q
+            go (Shut y) h = cases (mayMiss t r k) (λ z h. absurd (let z : _≡_ {A = ℕ} 0 1 = cc in omega arith)) (λ z h. cc) (sym h)
+            go (Part y) h = cases (isNullAt s y && mayMiss t r k) (λ z h. absurd (let z : _≡_ {A = ℕ} 0 1 = cc in omega arith)) (λ z h. absurd (let z : _≡_ {A = ℕ} 0 1 = cc in omega arith)) (sym h)
 
         pub elements-null : {z : Step} {rows₂ pool₂ : List ℕ} {y a b bits₂ : ℕ} (v : Took t (typeAt t r k) (ending q (missingElement t r p k)) y a b)
             → Stepped z rows₂ rows₁ pool₂ pool₁ (i + 1 + n) (o + m) t (typeAt t r k) (ending q (missingElement t r p k))
             → a < 2 ^ 32 → b < 2 ^ 32 → length rows₂ ≡ length rows₁ → length pool₂ ≡ length pool₁ → bits₂ ≡ withBit bits k → Elements X f i o (n + a) (m + b) (k + 1) bits₂ rows₂ rows₀ pool₂ pool₀
-        unfolding gotPresent bind ending
+        unfolding elementThen gotPresent bind ending
         elements-null v st la lb h₁ h₂ c = record {
           acc = λ g. w .acc (present (v .g .value) g);
           done = done-more (w .done) v st la lb h₁ h₂ c;
-          inv = rw (add-one k, missing-shut) (sym (bind-bind (elementsAt value d t s r p (suc k) (countOf t r - suc k) (shut q)) _ _)) ∙ rw (ended (missingElement t r p k) (v .is)) at (turn l e);
+          inv = rw (add-one k, missing-shut) (sym (bind-bind (elementsAt value d t s r p (suc k) (countOf t r - suc k) (Shut q)) _ _)) ∙ rw (ended (missingElement t r p k) (v .is)) at (turn l e);
         }
           where
             ended : (x : Res Val) → ending q x ≡ ok (v .g) → x ≡ ok (v .g .value)
@@ -157,15 +132,15 @@ module _ (value : Reader) (d : ℕ) (t : Table) (s : List ℕ) (r p : ℕ) where
                 go (ok y) h = let z : got y q ≡ v .g = cc in ap (λ (g : Got Val). ok (g .value)) z
                 go (no y) h = absurd (let z : _≡_ {A = ℕ} 0 1 = cc in omega arith)
 
-      module _ {q : ℕ} (e : thereNext q ≡ elementFound t s r k f) where
+      module _ {q : ℕ} (e : element.There q ≡ elementFound t s r k f) where
         pub elements-refused : {y : Refusal} → value (typeAt t r k) q ≡ no y → no y ≡ X
-        unfolding bind
+        unfolding elementThen bind
         elements-refused h = rw h at (turn l e)
 
         pub elements-more : {z : Step} {rows₂ pool₂ : List ℕ} {y a b bits₂ : ℕ} {u : Follows} (v : Took t (typeAt t r k) (value (typeAt t r k) q) y a b)
             → Stepped z rows₂ rows₁ pool₂ pool₁ (i + 1 + n) (o + m) t (typeAt t r k) (value (typeAt t r k) q)
             → a < 2 ^ 32 → b < 2 ^ 32 → length rows₂ ≡ length rows₁ → length pool₂ ≡ length pool₁ → bits₂ ≡ withBit bits k → u ≡ afterPart s y → Elements X u i o (n + a) (m + b) (k + 1) bits₂ rows₂ rows₀ pool₂ pool₀
-        unfolding gotPresent bind
+        unfolding elementThen gotPresent bind
         elements-more v st la lb h₁ h₂ c x = record {
           acc = λ g. w .acc (present (v .g .value) g);
           done = done-more (w .done) v st la lb h₁ h₂ c;
@@ -173,43 +148,21 @@ module _ (value : Reader) (d : ℕ) (t : Table) (s : List ℕ) (r p : ℕ) where
         }
 
     module _ (l : countOf t r ≤ k) where
-      last : bind (surplusAt d t s r f) (λ g. ok (got (w .acc (g .value)) (g .next))) ≡ X
+      last : bind (noMore (surplusAt d t s r f)) (λ g. ok (got (w .acc (g .value)) (g .next))) ≡ X
       unfolding elementsAt
       last = let z : countOf t r - k ≡ 0 = omega arith in rw z at (w .inv)
 
-      pub elements-end : {q : ℕ} → ok (got pnil q) ≡ surplusAt d t s r f → ok (got (w .acc pnil) q) ≡ X
-      unfolding bind
+      pub elements-end : {q : ℕ} → Closed q ≡ surplusAt d t s r f → ok (got (w .acc pnil) q) ≡ X
+      unfolding noMore bind
       elements-end e = rw (← e) at last
 
-      pub elements-surplus : {y : Refusal} → no y ≡ surplusAt d t s r f → no y ≡ X
-      unfolding bind
+      pub elements-surplus : {y : Refusal} → Stopped y ≡ surplusAt d t s r f → no y ≡ X
+      unfolding noMore bind
       elements-surplus e = rw (← e) at last
 
 -- ---- objects
 
 module _ (value : Reader) (t : Table) (s : List ℕ) (r p met : ℕ) (places : List ℕ) where
-  abbrev beyond : ℕ → ℕ → Member → Res Parts
-  beyond i n member.Absent = bind (membersAt value t s r p met places (suc i) n) (λ ps. ok (absent ps))
-  beyond i n member.Missing = at (Missing i) p
-  beyond i n (member.There q) = bind (value (typeAt t r i) q) (λ g. bind (membersAt value t s r p met places (suc i) n) (λ ps. ok (present (g .value) ps)))
-
-  members-found : (i n : ℕ) → membersAt value t s r p met places i (suc n) ≡ beyond i n (memberFound t s r i (bitOf met i) (getD places i 0))
-  unfolding membersAt memberFound
-  members-found i n = go (bitOf met i) (mayMiss t r i) (isNullAt s (getD places i 0) && nullAbsent t r i) refl refl
-    where
-      go : (a b c : Bool) → mayMiss t r i ≡ b → (isNullAt s (getD places i 0) && nullAbsent t r i) ≡ c
-          → elim a as (λ x. Res Parts) [
-            | false ↦ elim (mayMiss t r i) as (λ x. Res Parts) [ true ↦ bind (membersAt value t s r p met places (suc i) n) (λ ps. ok (absent ps)) | false ↦ at (Missing i) p ]
-            | true ↦ elim (isNullAt s (getD places i 0) && nullAbsent t r i) as (λ x. Res Parts) [
-              | true ↦ bind (membersAt value t s r p met places (suc i) n) (λ ps. ok (absent ps))
-              | false ↦ bind (value (typeAt t r i) (getD places i 0)) (λ g. bind (membersAt value t s r p met places (suc i) n) (λ ps. ok (present (g .value) ps)))
-            ]
-          ] ≡ beyond i n (memberFound t s r i a (getD places i 0))
-      go true b true e₁ e₂ = rw (e₂, memberFound)
-      go true b false e₁ e₂ = rw (e₂, memberFound)
-      go false true c e₁ e₂ = rw (e₁, memberFound)
-      go false false c e₁ e₂ = rw (e₁, memberFound)
-
   -- the members from here on, put after those done, are the whole
   pub record InOrder (X : Res Parts) (i o n m k bits : ℕ) (rows₁ rows₀ pool₁ pool₀ : List ℕ) : Type 0 where
     pub acc : Parts → Parts
@@ -228,19 +181,18 @@ module _ (value : Reader) (t : Table) (s : List ℕ) (r p met : ℕ) (places : L
 
   module _ {X : Res Parts} {i o n m k bits : ℕ} {rows₁ rows₀ pool₁ pool₀ : List ℕ} (w : InOrder X i o n m k bits rows₁ rows₀ pool₁ pool₀) where
     module _ (l : k < countOf t r) {u : Member} (e : u ≡ memberFound t s r k (bitOf met k) (getD places k 0)) where
-      step : bind (beyond k (countOf t r - (k + 1)) u) (λ g. ok (w .acc g)) ≡ X
-      step =
-          let z : countOf t r - k ≡ suc (countOf t r - (k + 1)) = omega arith in
-          ap (λ (y : Res Parts). bind y (λ g. ok (w .acc g))) (rw (e, z) (sym (members-found k (countOf t r - (k + 1))))) ∙ w .inv
+      step : bind (memberThen value t r p k (membersAt value t s r p met places (suc k) (countOf t r - (k + 1))) u) (λ g. ok (w .acc g)) ≡ X
+      unfolding membersAt
+      step = let z : countOf t r - k ≡ suc (countOf t r - (k + 1)) = omega arith in rw e (rw z at (w .inv))
 
     module _ (l : k < countOf t r) where
       pub order-missing : member.Missing ≡ memberFound t s r k (bitOf met k) (getD places k 0) → at (Missing k) p ≡ X
-      unfolding bind
+      unfolding memberThen bind
       order-missing e = step l e
 
       pub order-absent : {rows₂ : List ℕ} → member.Absent ≡ memberFound t s r k (bitOf met k) (getD places k 0) → rows₂ ≡ sets rows₁ ((i + 1 + n) * 4) (15 ∷ 0 ∷ 0 ∷ 1 ∷ []) → length rows₂ ≡ length rows₁
           → InOrder X i o (n + 1) m (k + 1) bits rows₂ rows₀ pool₁ pool₀
-      unfolding bind
+      unfolding memberThen bind
       order-absent e h₁ h₂ = record {
         acc = λ g. w .acc (absent g);
         done = done-gap (w .done) h₁ h₂;
@@ -249,13 +201,13 @@ module _ (value : Reader) (t : Table) (s : List ℕ) (r p met : ℕ) (places : L
 
       module _ {q : ℕ} (e : member.There q ≡ memberFound t s r k (bitOf met k) (getD places k 0)) where
         pub order-refused : {y : Refusal} → value (typeAt t r k) q ≡ no y → no y ≡ X
-        unfolding bind
+        unfolding memberThen bind
         order-refused h = rw h at (step l e)
 
         pub order-more : {z : Step} {rows₂ pool₂ : List ℕ} {y a b bits₂ : ℕ} (v : Took t (typeAt t r k) (value (typeAt t r k) q) y a b)
             → Stepped z rows₂ rows₁ pool₂ pool₁ (i + 1 + n) (o + m) t (typeAt t r k) (value (typeAt t r k) q)
             → a < 2 ^ 32 → b < 2 ^ 32 → length rows₂ ≡ length rows₁ → length pool₂ ≡ length pool₁ → bits₂ ≡ withBit bits k → InOrder X i o (n + a) (m + b) (k + 1) bits₂ rows₂ rows₀ pool₂ pool₀
-        unfolding bind
+        unfolding memberThen bind
         order-more v st la lb h₁ h₂ c = record {
           acc = λ g. w .acc (present (v .g .value) g);
           done = done-more (w .done) v st la lb h₁ h₂ c;
@@ -267,11 +219,11 @@ module _ (value : Reader) (t : Table) (s : List ℕ) (r p met : ℕ) (places : L
     order-end l = let z : countOf t r - k ≡ 0 = omega arith in rw z at (w .inv)
 
   -- an object whose names are good
-  pub object-ok : {q : ℕ} {ps : Parts} → ok ps ≡ membersAt value t s r p met places 0 (countOf t r) → ok (got (vSeq ps) q) ≡ afterScan value t s r p (scanned met places q)
+  pub object-ok : {q : ℕ} {ps : Parts} → ok ps ≡ membersAt value t s r p met places 0 (countOf t r) → ok (got (vSeq ps) q) ≡ afterScan value t s r p (scanned (Closed q) met places)
   unfolding afterScan ending bind
   object-ok e = rw (← e)
 
-  pub object-no : (q : ℕ) {y : Refusal} → no y ≡ membersAt value t s r p met places 0 (countOf t r) → no y ≡ afterScan value t s r p (scanned met places q)
+  pub object-no : (q : ℕ) {y : Refusal} → no y ≡ membersAt value t s r p met places 0 (countOf t r) → no y ≡ afterScan value t s r p (scanned (Closed q) met places)
   unfolding afterScan ending bind
   object-no q e = rw (← e)
 
@@ -291,55 +243,49 @@ parts-near s m l v w (suc n) p h =
     (λ e. let i = inside s (pastBetween s p) (eqb-false (byteAt s (pastBetween s p)) 256 e) in
     branch (λ q. q ≤ m) (isClosing (byteAt s (pastBetween s p))) (λ f. omega arith) (λ f. parts-near s m l v w n (v (pastBetween s p)) (w (pastBetween s p) b)))
 
-pub surplus-near : (d : ℕ) (t : Table) (s : List ℕ) (r b q : ℕ) (f : Follows) → length s ≤ 65536 → 65537 ≤ b → Near b f → ok (got pnil q) ≡ surplusAt d t s r f → q ≤ b
+pub surplus-near : (d : ℕ) (t : Table) (s : List ℕ) (r b q : ℕ) (f : Follows) → length s ≤ 65536 → 65537 ≤ b → Near b f → Closed q ≡ surplusAt d t s r f → q ≤ b
 unfolding surplusAt
-surplus-near d t s r b q (shut y) l h n e = rw (ap (λ (g : Got Parts). g .next) (unok e)) n
-surplus-near d t s r b q (part y) l h n e = go (extensible t r) e
-  where
-    go : (c : Bool) → ok (got pnil q) ≡ elim c as (λ x. Res (Got Parts)) [ true ↦ ok (got pnil (partsPast (λ p. pastValue d s p) s (length s) y)) | false ↦ at Surplus y ] → q ≤ b
-    go true e =
-        let z : q ≡ partsPast (λ p. pastValue d s p) s (length s) y = ap (λ (g : Got Parts). g .next) (unok e) in
-        let m = parts-near s 65537 (omega arith) (λ p. pastValue d s p) (λ p k. value-within s 65537 (omega arith) d p k) (length s) y (omega arith) in
-        omega arith
-    go false e = absurd (let z : _≡_ {A = ℕ} 0 1 = cc in omega arith)
+surplus-near d t s r b q (Shut y) l h n e = let z : q ≡ y = cc in omega arith
+surplus-near d t s r b q (Part y) l h n e =
+    cases (extensible t r)
+    (λ x k. let z : q ≡ partsPast (λ p. pastValue d s p) s (length s) y = cc in
+    omega (arith, parts-near s 65537 (omega arith) (λ p. pastValue d s p) (λ p k. value-within s 65537 (omega arith) d p k) (length s) y (omega arith)))
+    (λ x k. absurd (let z : _≡_ {A = ℕ} 0 1 = cc in omega arith)) (sym e)
 
 -- where a scan ends
-pub scan-near : (d : ℕ) (t : Table) (s : List ℕ) (r b : ℕ) → length s ≤ 65536 → 65540 ≤ b → (n : ℕ) (f : Follows) (met : ℕ) (places : List ℕ) (x : ℕ) (xs : List ℕ) (q : ℕ)
-    → Near b f → scanned x xs q ≡ scanAt d t s r n f met places → q ≤ b
+abbrev Ends : ℕ → Scanned → Type 0
+Ends b x = (q : ℕ) → Closed q ≡ x .end → q ≤ b
+
+stopped-ends : {b : ℕ} (z : Refusal) (met : ℕ) (places : List ℕ) → Ends b (scanned (Stopped z) met places)
+stopped-ends z met places q e = absurd (let z : _≡_ {A = ℕ} 0 1 = cc in omega arith)
+
+pub scan-near : (d : ℕ) (t : Table) (s : List ℕ) (r b : ℕ) → length s ≤ 65536 → 65540 ≤ b → (n : ℕ) (f : Follows) (met : ℕ) (places : List ℕ) → Near b f → Ends b (scanAt d t s r n f met places)
 unfolding scanAt followsAt
-scan-near d t s r b l h zero (shut y) met places x xs q w e = let z : y ≡ q = cc in rw (← z) w
-scan-near d t s r b l h zero (part y) met places x xs q w e = let z : y ≡ q = cc in omega arith
-scan-near d t s r b l h (suc n) (shut y) met places x xs q w e = let z : y ≡ q = cc in rw (← z) w
-scan-near d t s r b l h (suc n) (part y) met places x xs q w e = go (λ u us k. scan-near d t s r b l h n (afterPart s (pastValue d s (valuePlace s y))) u us x xs q next k) (position t r (denoted s (y + 1))) e
+scan-near d t s r b l h zero (Shut y) met places w = λ q e. let z : y ≡ q = cc in rw (← z) w
+scan-near d t s r b l h zero (Part y) met places w = λ q e. let z : y ≡ q = cc in omega arith
+scan-near d t s r b l h (suc n) (Shut y) met places w = λ q e. let z : y ≡ q = cc in rw (← z) w
+scan-near d t s r b l h (suc n) (Part y) met places w = go (λ u us. scan-near d t s r b l h n (afterPart s (pastValue d s (valuePlace s y))) u us next) (position t r (denoted s (y + 1)))
   where
     next : Near b (afterPart s (pastValue d s (valuePlace s y)))
     next =
         let v = value-within s 65539 (omega arith) d (valuePlace s y) (omega (arith, place-within s y 65537 (omega arith) (omega arith))) in
         near-after s (pastValue d s (valuePlace s y)) b (afterPart s (pastValue d s (valuePlace s y))) l (omega arith) (omega arith) refl
 
-    go : ((u : ℕ) (us : List ℕ) → scanned x xs q ≡ scanAt d t s r n (afterPart s (pastValue d s (valuePlace s y))) u us → q ≤ b) → (c : Option ℕ) → scanned x xs q ≡ elim c as (λ z. Scan) [
-      | none ↦ elim (extensible t r) as (λ z. Scan) [ true ↦ scanAt d t s r n (afterPart s (pastValue d s (valuePlace s y))) met places | false ↦ stopped (AtByte UnknownName y) ]
-      | some i ↦ elim (bitOf met i) as (λ z. Scan) [ true ↦ stopped (AtByte RepeatedName y) | false ↦ scanAt d t s r n (afterPart s (pastValue d s (valuePlace s y))) (withBit met i) (set places i (valuePlace s y)) ]
-    ] → q ≤ b
-    go ih none e = cases (extensible t r) (λ z k. ih met places (sym k)) (λ z k. absurd (let z : _≡_ {A = ℕ} 0 1 = cc in omega arith)) (sym e)
-    go ih (some i) e = cases (bitOf met i) (λ z k. absurd (let z : _≡_ {A = ℕ} 0 1 = cc in omega arith)) (λ z k. ih (withBit met i) (set places i (valuePlace s y)) (sym k)) (sym e)
+    go : ((u : ℕ) (us : List ℕ) → Ends b (scanAt d t s r n (afterPart s (pastValue d s (valuePlace s y))) u us)) → (c : Option ℕ) → Ends b (elim c as (λ z. Scanned) [
+      | none ↦ elim (extensible t r) as (λ z. Scanned) [ true ↦ scanAt d t s r n (afterPart s (pastValue d s (valuePlace s y))) met places | false ↦ scanned (Stopped (AtByte UnknownName y)) met places ]
+      | some i ↦ elim (bitOf met i) as (λ z. Scanned) [ true ↦ scanned (Stopped (AtByte RepeatedName y)) met places | false ↦ scanAt d t s r n (afterPart s (pastValue d s (valuePlace s y))) (withBit met i) (set places i (valuePlace s y)) ]
+    ])
+    go ih none = branch (Ends b) (extensible t r) (λ z. ih met places) (λ z. stopped-ends (AtByte UnknownName y) met places)
+    go ih (some i) = branch (Ends b) (bitOf met i) (λ z. stopped-ends (AtByte RepeatedName y) met places) (λ z. ih (withBit met i) (set places i (valuePlace s y)))
 
 -- after an absent element
-pub near-absent : (t : Table) (s : List ℕ) (r k b : ℕ) (f u : Follows) → length s ≤ 65536 → 65537 ≤ b → Near b f → absentNext u ≡ elementFound t s r k f → Near b u
+pub near-absent : (t : Table) (s : List ℕ) (r k b : ℕ) (f u : Follows) → length s ≤ 65536 → 65537 ≤ b → Near b f → element.Absent u ≡ elementFound t s r k f → Near b u
 unfolding elementFound
-near-absent t s r k b (shut q) u l h n e = go (mayMiss t r k) e
-  where
-    go : (c : Bool) → absentNext u ≡ elim c as (λ x. Next) [ true ↦ absentNext (shut q) | false ↦ missingNext q ] → Near b u
-    go true e = let z : shut q ≡ u = cc in subst (Near b) z n
-    go false e = absurd (let z : _≡_ {A = ℕ} 0 1 = cc in omega arith)
-near-absent t s r k b (part q) u l h n e = go (isNullAt s q && mayMiss t r k) e
-  where
-    word : pastWord s q ≤ 65536
-    word = word-near s q 65536 l n
-
-    go : (c : Bool) → absentNext u ≡ elim c as (λ x. Next) [ true ↦ absentNext (afterPart s (pastWord s q)) | false ↦ thereNext q ] → Near b u
-    go true e = let z : u ≡ afterPart s (pastWord s q) = cc in near-after s (pastWord s q) b u l (omega (arith, word)) (omega arith) z
-    go false e = absurd (let z : _≡_ {A = ℕ} 0 1 = cc in omega arith)
+near-absent t s r k b (Shut q) u l h n e = cases (mayMiss t r k) (λ z g. let y : Shut q ≡ u = cc in subst (Near b) y n) (λ z g. absurd (let z : _≡_ {A = ℕ} 0 1 = cc in omega arith)) (sym e)
+near-absent t s r k b (Part q) u l h n e =
+    cases (isNullAt s q && mayMiss t r k)
+    (λ z g. let y : u ≡ afterPart s (pastWord s q) = cc in near-after s (pastWord s q) b u l (omega (arith, word-near s q 65536 l n)) (omega arith) y)
+    (λ z g. absurd (let z : _≡_ {A = ℕ} 0 1 = cc in omega arith)) (sym e)
 
 -- ---- the member at a position, as the code finds it
 
@@ -357,22 +303,23 @@ there-place t s r k b p {q} e = go b e
 -- ---- an object, by its scan
 
 module _ (value : Reader) (d : ℕ) (t : Table) (s : List ℕ) (r p : ℕ) where
-  pub object-scanned : {x : Scan} → x ≡ scanAt d t s r (length s) (firstPart s 0x7D p) 0 noPlaces → afterScan value t s r p x ≡ objectAt value d t s r p
-  unfolding objectAt
-  object-scanned e = rw e
+  module _ {x : Scanned} where
+    pub object-scanned : {q : ℕ} → x .end ≡ Closed q → x ≡ scanAt d t s r (length s) (firstPart s 0x7D p) 0 noPlaces → afterScan value t s r p (scanned (Closed q) (x .met) (x .places)) ≡ objectAt value d t s r p
+    unfolding objectAt
+    object-scanned h e = rw (← h) (ap (afterScan value t s r p) e)
 
-  pub object-stopped : {y : Refusal} → stopped y ≡ scanAt d t s r (length s) (firstPart s 0x7D p) 0 noPlaces → no y ≡ objectAt value d t s r p
-  unfolding objectAt afterScan
-  object-stopped e = rw (← e)
+    pub object-stopped : {y : Refusal} → x .end ≡ Stopped y → x ≡ scanAt d t s r (length s) (firstPart s 0x7D p) 0 noPlaces → no y ≡ objectAt value d t s r p
+    unfolding objectAt afterScan
+    object-stopped h e = rw (← e, h, afterScan)
 
 -- ---- an element that is there
 
 pub near-follows : (b c : ℕ) (f : Follows) → b ≤ c → 65536 ≤ c → Near b f → followsAt f ≤ c
 unfolding followsAt
-near-follows b c (part q) l h n = omega arith
-near-follows b c (shut q) l h n = omega arith
+near-follows b c (Part q) l h n = omega arith
+near-follows b c (Shut q) l h n = omega arith
 
-pub near-there : (t : Table) (s : List ℕ) (r k b : ℕ) (f : Follows) {q : ℕ} → Near b f → thereNext q ≡ elementFound t s r k f → q ≤ 65536
+pub near-there : (t : Table) (s : List ℕ) (r k b : ℕ) (f : Follows) {q : ℕ} → Near b f → element.There q ≡ elementFound t s r k f → q ≤ 65536
 unfolding elementFound
-near-there t s r k b (shut y) n e = cases (mayMiss t r k) (λ z h. absurd (let z : _≡_ {A = ℕ} 0 1 = cc in omega arith)) (λ z h. absurd (let z : _≡_ {A = ℕ} 0 1 = cc in omega arith)) (sym e)
-near-there t s r k b (part y) {q} n e = cases (isNullAt s y && mayMiss t r k) (λ z h. absurd (let z : _≡_ {A = ℕ} 0 1 = cc in omega arith)) (λ z h. let w : q ≡ y = cc in omega arith) (sym e)
+near-there t s r k b (Shut y) n e = cases (mayMiss t r k) (λ z h. absurd (let z : _≡_ {A = ℕ} 0 1 = cc in omega arith)) (λ z h. absurd (let z : _≡_ {A = ℕ} 0 1 = cc in omega arith)) (sym e)
+near-there t s r k b (Part y) {q} n e = cases (isNullAt s y && mayMiss t r k) (λ z h. absurd (let z : _≡_ {A = ℕ} 0 1 = cc in omega arith)) (λ z h. let w : q ≡ y = cc in omega arith) (sym e)

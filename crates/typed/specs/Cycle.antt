@@ -10,10 +10,12 @@ use Rattle.jer.specs.declared.Limit.the-variants.{LentRoom}
 use Rattle.jer.specs.declared.Refusal.{Refusal}
 use Rattle.jer.specs.declared.Refusal.the-variants.{Amounts}
 use Rattle.jer.specs.Table.{Table, isType, Token, SEQUENCE}
-use Rattle.jer.specs.Value.{Val, Parts, pnil}
-use Rattle.jer.specs.Answer.{Res, ok, no}
+use Rattle.jer.specs.Value.{Val}
+use Rattle.jer.specs.Answer.{Res}
 use Rattle.jer.proofs.Sane.{Sane}
-use Rattle.places.specs.ByPlaces.{Got, got, Reader, shallowAt, bracketAt, readAt}
+use Rattle.places.specs.declared.Ended.{Ended}
+use Rattle.places.specs.declared.Ended.the-variants.{Closed, Stopped}
+use Rattle.places.specs.ByPlaces.{Got, Reader, shallowAt, bracketAt, readAt}
 use Rattle.leaf.specs.declared.Step.{Step}
 use Rattle.leaf.specs.declared.Step.the-variants.{Read, Refused}
 use Rattle.leaf.specs.Step.{Stepped}
@@ -52,6 +54,6 @@ bounded (Read q n m) = elim (ltb n (2 ^ 32) && ltb m (2 ^ 32)) [ true ↦ Read q
 bounded (Refused e) = Refused e
 
 -- what closing an array after its last member does, by what is surplus: it is refused, or the array's own row is stored above n rows
-pub data ArrayEnd (z : Step) (rows₁ rows₀ : List ℕ) (i a n m : ℕ) (x : Res (Got Parts)) : Type 0 where
-  stops : {e : Refusal} → no e ≡ x → z ≡ Refused e → ArrayEnd z rows₁ rows₀ i a n m x
-  closes : {q : ℕ} → ok (got pnil q) ≡ x → z ≡ bounded (Read q (n + 1) m) → (n + 1 < 2 ^ 32 → rows₁ ≡ sets rows₀ (i * 4) (SEQUENCE ∷ a ∷ 0 ∷ (n + 1) ∷ [])) → ArrayEnd z rows₁ rows₀ i a n m x
+pub data ArrayEnd (z : Step) (rows₁ rows₀ : List ℕ) (i a n m : ℕ) (x : Ended) : Type 0 where
+  stops : {e : Refusal} → Stopped e ≡ x → z ≡ Refused e → ArrayEnd z rows₁ rows₀ i a n m x
+  closes : {q : ℕ} → Closed q ≡ x → z ≡ bounded (Read q (n + 1) m) → (n + 1 < 2 ^ 32 → rows₁ ≡ sets rows₀ (i * 4) (SEQUENCE ∷ a ∷ 0 ∷ (n + 1) ∷ [])) → ArrayEnd z rows₁ rows₀ i a n m x

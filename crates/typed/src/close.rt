@@ -5,8 +5,8 @@ use jer::Refusal;
 use leaf::Step;
 use leaf::store::narrow;
 use leaf::store::put_row;
-use scan::Ended;
-use scan::parts::Follows;
+use places::Ended;
+use places::Follows;
 use types::row::Row;
 ghost use mathlib.Core.Path.{_≡_};
 ghost use mathlib.Core.List.{List, [], _∷_};
@@ -18,7 +18,6 @@ ghost use Rattle.jer.specs.declared.Limit.the-variants.{LentRoom};
 ghost use Rattle.jer.specs.declared.Refusal.the-variants.{Amounts};
 ghost use Rattle.jer.specs.Table.{table};
 ghost use Rattle.places.specs.ByPlaces.{surplusAt};
-ghost use Rattle.scan.specs.Enums.{followsOf};
 ghost use Rattle.typed.specs.Cycle.{bounded, ArrayEnd};
 
 const COUNT: usize = 4294967296;
@@ -71,7 +70,7 @@ pub fn close_array(
     d: u32,
 ) -> Step
     requires { ⌜ (length (now s) ≤ 65536) × (0 < d) × (i ≤ 2 ^ 60) × (n ≤ 2 ^ 60) ⌝ }
-    ensures { λ r. ⌜ ((ns : List ℕ) → ArrayEnd r (now (rows .exit)) (now (rows .entry)) i a n m (surplusAt (d - 1) (table (now (types .entry)) ns) (now (s .entry)) row (followsOf next))) ⌝ }
+    ensures { λ r. ⌜ ((ns : List ℕ) → ArrayEnd r (now (rows .exit)) (now (rows .entry)) i a n m (surplusAt (d - 1) (table (now (types .entry)) ns) (now (s .entry)) row next)) ⌝ }
 {
     match surplus(types, s, row, next, d) {
         Ended::Stopped(e) => Step::Refused(e),

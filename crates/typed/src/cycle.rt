@@ -3,9 +3,6 @@
 use crate::close::bounded;
 use crate::close::close;
 use crate::close::close_array;
-use crate::members::Element;
-use crate::members::Member;
-use crate::members::One;
 use crate::members::element_found;
 use crate::members::member_found;
 use crate::members::one_at;
@@ -17,13 +14,16 @@ use leaf::missing::missing;
 use leaf::refused;
 use leaf::store::narrow;
 use leaf::store::put_row;
-use scan::Ended;
+use places::Element;
+use places::Ended;
+use places::Follows;
+use places::Member;
+use places::One;
 use scan::met::bit;
 use scan::met::ones;
 use scan::met::with;
 use scan::names::position;
 use scan::names::value_place;
-use scan::parts::Follows;
 use scan::parts::after_part;
 use scan::parts::first_part;
 use scan::parts::token_at;
@@ -42,6 +42,7 @@ ghost use Prim.Native.Nat.{_+_, _-_, _≤_, _<_};
 ghost use lib.ListN.{length};
 ghost use Rattle.jer.specs.Table.{tokenCode, kindOf, SEQUENCE, SEQUENCE-OF, CHOICE, table};
 ghost use Rattle.jer.specs.Answer.{bind};
+ghost use Rattle.places.specs.declared.Ended.the-variants.{Closed};
 ghost use Rattle.places.specs.ByPlaces.{tokenAt, listAt, arrayAt, objectAt, choiceAt, within, readAt, scanned, afterScan};
 ghost use Rattle.typed.specs.Cycle.{Given, Reads, limit, plainAt};
 
@@ -284,7 +285,7 @@ fn each_member(
 ) -> Step
     requires { ⌜ Given (table (now types) (now names)) (now s) row p i o d ⌝ }
     requires { ⌜ (0 < d) × (next ≤ limit p + d) × (kindOf (table (now types) (now names)) row ≡ SEQUENCE) ⌝ }
-    ensures { λ r. ⌜ Reads r (now (rows .exit)) (now (rows .entry)) (now (pool .exit)) (now (pool .entry)) i o (limit p + d) (table (now (types .entry)) (now (names .entry))) row (bind (afterScan (λ q u. readAt (d - 1) (table (now (types .entry)) (now (names .entry))) (now (s .entry)) q u) (table (now (types .entry)) (now (names .entry))) (now (s .entry)) row p (scanned met places next)) (within (table (now (types .entry)) (now (names .entry))) row)) ⌝ }
+    ensures { λ r. ⌜ Reads r (now (rows .exit)) (now (rows .entry)) (now (pool .exit)) (now (pool .entry)) i o (limit p + d) (table (now (types .entry)) (now (names .entry))) row (bind (afterScan (λ q u. readAt (d - 1) (table (now (types .entry)) (now (names .entry))) (now (s .entry)) q u) (table (now (types .entry)) (now (names .entry))) (now (s .entry)) row p (scanned (Closed next) met places)) (within (table (now (types .entry)) (now (names .entry))) row)) ⌝ }
 {
     let count = count_of(types, row);
     let mut k: u32 = 0;

@@ -3,9 +3,12 @@ use jer::Cause;
 use jer::Refusal;
 use leaf::Step;
 use leaf::refused;
-use scan::Ended;
+use places::Element;
+use places::Ended;
+use places::Follows;
+use places::Member;
+use places::One;
 use scan::names::value_place;
-use scan::parts::Follows;
 use scan::parts::after_part;
 use scan::parts::first_part;
 use scan::parts::null_at;
@@ -29,20 +32,10 @@ ghost use Rattle.jer.specs.declared.Cause.the-variants.{Unknown};
 ghost use Rattle.jer.specs.Table.{extensible, table};
 ghost use Rattle.jer.specs.Read.{nullAbsent};
 ghost use Rattle.jer.specs.Answer.{at};
-ghost use Rattle.places.specs.ByPlaces.{firstPart, followsAt, surplusAt};
-ghost use Rattle.scan.specs.Enums.{followsOf};
+ghost use Rattle.places.specs.ByPlaces.{firstPart, followsAt, memberFound, elementFound, surplusAt, oneAt};
 ghost use Rattle.leaf.specs.declared.Step.{Step};
 ghost use Rattle.leaf.specs.declared.Step.the-variants as step;
 ghost use Rattle.jer.specs.declared.Refusal.the-variants.{AtByte};
-ghost use Rattle.typed.specs.Members.{memberFound, nextOf, elementFound, surplusOf, oneAt, oneOf};
-
-// A member of an object.
-pub enum Member {
-    Absent,
-    Missing,
-    // Where its value stands.
-    There(usize),
-}
 
 // The member at k of the type at `row`, given whether it was met and where its value stands.
 pub fn member_found(types: &[u32], s: &[u8], row: usize, k: u32, met: bool, q: usize) -> Member
@@ -69,20 +62,10 @@ fn null_absent(types: &[u32], row: usize, k: u32) -> bool
     optional & !taken
 }
 
-// A member of an array.
-pub enum Element {
-    // What follows it.
-    Absent(Follows),
-    // The place after the array.
-    Missing(usize),
-    // Where its value stands.
-    There(usize),
-}
-
 // The member at k of the type at `row`, given the next element.
 pub fn element_found(types: &[u32], s: &[u8], row: usize, k: u32, next: Follows) -> Element
-    requires { ⌜ (length (now s) ≤ 65536) × (followsAt (followsOf next) ≤ 4294967295) ⌝ }
-    ensures { λ r. ⌜ ((ns : List ℕ) → nextOf r ≡ elementFound (table (now (types .entry)) ns) (now (s .entry)) row k (followsOf next)) ⌝ }
+    requires { ⌜ (length (now s) ≤ 65536) × (followsAt next ≤ 4294967295) ⌝ }
+    ensures { λ r. ⌜ ((ns : List ℕ) → r ≡ elementFound (table (now (types .entry)) ns) (now (s .entry)) row k next) ⌝ }
 {
     let missable = may_miss(types, row, k);
     match next {
@@ -104,7 +87,7 @@ pub fn element_found(types: &[u32], s: &[u8], row: usize, k: u32, next: Follows)
 // After the last member of an array, in which `depth` brackets may be open: surplus elements are passed over if the type is extensible.
 pub fn surplus(types: &[u32], s: &[u8], row: usize, next: Follows, depth: u32) -> Ended
     requires { ⌜ (length (now s) ≤ 65536) × (0 < depth) ⌝ }
-    ensures { λ r. ⌜ ((ns : List ℕ) → surplusOf r ≡ surplusAt (depth - 1) (table (now (types .entry)) ns) (now (s .entry)) row (followsOf next)) ⌝ }
+    ensures { λ r. ⌜ ((ns : List ℕ) → r ≡ surplusAt (depth - 1) (table (now (types .entry)) ns) (now (s .entry)) row next) ⌝ }
 {
     match next {
         Follows::Shut(q) => Ended::Closed(q),
@@ -117,16 +100,10 @@ pub fn surplus(types: &[u32], s: &[u8], row: usize, next: Follows, depth: u32) -
     }
 }
 
-// The name of the one member of an object.
-pub enum One {
-    At(usize),
-    NotOne,
-}
-
-// Of the object at p, in whose value `depth` brackets may be open.
+// The name of the one member of the object at p, in whose value `depth` brackets may be open.
 pub fn one_at(s: &[u8], p: usize, depth: u32) -> One
     requires { ⌜ (length (now s) ≤ 65536) × (p < length (now s)) ⌝ }
-    ensures { λ r. ⌜ oneOf r ≡ oneAt depth (now (s .entry)) (firstPart (now (s .entry)) 0x7D p) ⌝ }
+    ensures { λ r. ⌜ r ≡ oneAt depth (now (s .entry)) (firstPart (now (s .entry)) 0x7D p) ⌝ }
 {
     match first_part(s, 0x7D, p) {
         Follows::Shut(_) => One::NotOne,

@@ -9,8 +9,8 @@ use Rattle.jer.specs.Table.{extensible, position, table}
 use Rattle.jer.proofs.ValidLaws.{position-some}
 use Rattle.tokens.specs.Strings.{denoted}
 use Rattle.tokens.specs.Skip.{pastValue}
-use Rattle.places.specs.ByPlaces.{firstPart, afterPart, Scan, scanAt, noPlaces}
-use Rattle.scan.specs.Enums.{followsOf}
+use Rattle.places.specs.declared.Scanned.{Scanned}
+use Rattle.places.specs.ByPlaces.{firstPart, afterPart, scanAt, noPlaces}
 use Rattle.scan.proofs.WithinLaws.{value-within}
 use Rattle.scan.proofs.NameLaws.{found-at, found-nothing}
 use Rattle.scan.proofs.ScanLaws.{left, beyond, falls, Loop, Turn, loop-start, loop-shut, loop-turn, turn-unknown, turn-repeated, turn-skipped, turn-known}
@@ -19,29 +19,29 @@ use Rattle.scan.proofs.scan.Statement.{statement}
 use Rattle.scan.proofs.scan.Tie as tie
 
 -- the whole scan
-abbrev whole : List ℕ → List ℕ → List ℕ → ℕ → ℕ → ℕ → Scan
+abbrev whole : List ℕ → List ℕ → List ℕ → ℕ → ℕ → ℕ → Scanned
 whole types names s row p depth = scanAt depth (table types names) s row (length s) (firstPart s 0x7D p) 0 noPlaces
 
 abbrev Inv-loop : tie.InvT-loop
-Inv-loop types names s row p depth extensible places₀ met₀ next₀ places met next = Loop depth (table types names) s row (whole types names s row p depth) (followsOf next) met places
+Inv-loop types names s row p depth extensible places₀ met₀ next₀ places met next = Loop depth (table types names) s row (whole types names s row p depth) next met places
 
 abbrev μ-loop : tie.MeasureT-loop
-μ-loop types names s row p depth extensible places₀ met₀ next₀ places met next = left s (followsOf next)
+μ-loop types names s row p depth extensible places₀ met₀ next₀ places met next = left s next
 
 -- at a name
 turn : (c : tie.After-known-told2 Inv-loop μ-loop)
     → let a = c .before .before .before .before .before .before .before .before .before .before .args in
     Turn (a .depth) (table (a .types .now) (a .names .now)) (a .s .now) (a .row) (whole (a .types .now) (a .names .now) (a .s .now) (a .row) (a .p) (a .depth)) (c .before .next2 .given .0 .0) (c .before .before .before .loop .met) (c .before .before .before .loop .places)
-turn c = loop-turn _ _ _ _ (c .before .before .before .loop .inv) (ap followsOf (c .before .next2 .given .1))
+turn c = loop-turn _ _ _ _ (c .before .before .before .loop .inv) (c .before .next2 .given .1)
 
 -- past its value
-onward : (c : tie.After-after-part Inv-loop μ-loop) → let a = c .before .before .before .before .before .before .before .before .before .before .before .before .before .args in followsOf (c .after-part .result) ≡ beyond (a .depth) (a .s .now) (c .before .before .before .before .next2 .given .0 .0)
+onward : (c : tie.After-after-part Inv-loop μ-loop) → let a = c .before .before .before .before .before .before .before .before .before .before .before .before .before .args in (c .after-part .result) ≡ beyond (a .depth) (a .s .now) (c .before .before .before .before .next2 .given .0 .0)
 onward c =
     let a = c .before .before .before .before .before .before .before .before .before .before .before .before .before .args in
     c .after-part .ensures ∙ ap (afterPart (a .s .now)) (c .before .skip-value .ensures ∙ ap (pastValue (a .depth) (a .s .now)) (c .before .before .value-place .ensures .0))
 
-less : (c : tie.After-after-part Inv-loop μ-loop) → left (c .before .before .before .before .before .before .before .before .before .before .before .before .before .args .s .now) (followsOf (c .after-part .result)) < left (c .before .before .before .before .before .before .before .before .before .before .before .before .before .args .s .now) (followsOf (c .before .before .before .before .before .before .loop .next))
-less c = let a = c .before .before .before .before .before .before .before .before .before .before .before .before .before .args in falls (a .depth) (a .s .now) _ (followsOf (c .after-part .result)) (turn (c .before .before .before) .within) (ap followsOf (c .before .before .before .before .next2 .given .1)) (onward c)
+less : (c : tie.After-after-part Inv-loop μ-loop) → left (c .before .before .before .before .before .before .before .before .before .before .before .before .before .args .s .now) (c .after-part .result) < left (c .before .before .before .before .before .before .before .before .before .before .before .before .before .args .s .now) (c .before .before .before .before .before .before .loop .next)
+less c = let a = c .before .before .before .before .before .before .before .before .before .before .before .before .before .args in falls (a .depth) (a .s .now) _ (c .after-part .result) (turn (c .before .before .before) .within) (c .before .before .before .before .next2 .given .1) (onward c)
 
 -- at a name that no member has
 unknown : (c : tie.After-enum-told Inv-loop μ-loop)
@@ -74,13 +74,13 @@ loop-holds : tie.Need-loop-holds Inv-loop μ-loop
 unfolding noPlaces
 loop-holds c =
     let entry = c .before .before .before .before .before .before in
-    loop-start _ _ _ _ 0x7D (entry .args .p) (followsOf (c .first-part .result)) (entry .pre .1) (c .first-part .ensures)
+    loop-start _ _ _ _ 0x7D (entry .args .p) (c .first-part .result) (entry .pre .1) (c .first-part .ensures)
 
 enum-known-next : tie.Need-enum-known-next Inv-loop μ-loop
 enum-known-next c = search needs
 
 returns : tie.Need-returns Inv-loop μ-loop
-returns c = loop-shut _ _ _ _ (c .before .before .before .loop .inv) (ap followsOf (c .before .next .given .1))
+returns c = loop-shut _ _ _ _ (c .before .before .before .loop .inv) (c .before .next .given .1)
 
 enum-known-next-2 : tie.Need-enum-known-next-2 Inv-loop μ-loop
 enum-known-next-2 c = search needs
@@ -102,13 +102,10 @@ position-requires c κs = omega (arith, turn (c .before .before .before) .within
 enum-told : tie.Need-enum-told Inv-loop μ-loop
 enum-told c = search needs
 
-stopped-requires : tie.Need-stopped-requires Inv-loop μ-loop
-stopped-requires c κs = search needs
-
 returns-2 : tie.Need-returns-2 Inv-loop μ-loop
 returns-2 c =
-    let fact₂ = c .before .before in
-    c .stopped .ensures ∙ turn-unknown _ _ _ _ (turn (c .before .before .before .before .before .before .before .before)) (unknown fact₂) (mark fact₂ ∙ not-true _ (c .before .if1 .taken))
+    let told = c .before in
+    turn-unknown _ _ _ _ (turn (c .before .before .before .before .before .before .before)) (unknown told) (mark told ∙ not-true _ (c .if1 .taken))
 
 loop-less : tie.Need-loop-less Inv-loop μ-loop
 loop-less c = less (c .before .before .before .before)
@@ -122,11 +119,8 @@ enum-known-i c = search needs
 bit-requires : tie.Need-bit-requires Inv-loop μ-loop
 bit-requires c κs = few c
 
-stopped-requires-2 : tie.Need-stopped-requires-2 Inv-loop μ-loop
-stopped-requires-2 c κs = search needs
-
 returns-3 : tie.Need-returns-3 Inv-loop μ-loop
-returns-3 c = c .stopped2 .ensures ∙ turn-repeated _ _ _ _ (turn (c .before .before .before .before .before .before .before .before .before .before)) (known (c .before .before .before)) (sym (c .before .before .bit .ensures) ∙ c .before .if2 .taken)
+returns-3 c = turn-repeated _ _ _ _ (turn (c .before .before .before .before .before .before .before .before .before)) (known (c .before .before)) (sym (c .before .bit .ensures) ∙ c .if2 .taken)
 
 with-requires : tie.Need-with-requires Inv-loop μ-loop
 with-requires c κs = few (c .before .before)
@@ -167,13 +161,11 @@ scan-spec =
     after-part-requires
     position-requires
     enum-told
-    stopped-requires
     returns-2
     loop-less
     loop-again
     enum-known-i
     bit-requires
-    stopped-requires-2
     returns-3
     with-requires
     wide-requires

@@ -1,7 +1,6 @@
-use mathlib.Core.Path.{refl, sym, ap, _∙_}
+use mathlib.Core.Path.{refl, sym, _∙_}
 use borrow.Author.Needs.{needs}
 use Rattle.typed.specs.Cycle.{stops, closes}
-use Rattle.typed.specs.Members.{surplusOf}
 use Rattle.typed.proofs.close.close_array.Statement.{statement}
 use Rattle.typed.proofs.close.close_array.Tie as tie
 
@@ -18,7 +17,7 @@ close-requires : tie.Need-close-requires
 close-requires c κs = search needs
 
 returns : tie.Need-returns
-returns c = λ ns. stops (sym (ap surplusOf (c .before .e .given .1)) ∙ c .before .before .before .surplus .ensures ns) refl
+returns c = λ ns. stops (sym (c .before .e .given .1) ∙ c .before .before .before .surplus .ensures ns) refl
 
 same-length : tie.Need-same-length
 same-length c = search needs
@@ -26,7 +25,7 @@ same-length c = search needs
 returns-2 : tie.Need-returns-2
 returns-2 c =
     let c₅ = c .before .before .before .before .before in
-    λ ns. closes (sym (ap surplusOf (c₅ .q .given .1)) ∙ c₅ .before .before .surplus .ensures ns) (c .before .before .close .ensures .0) (c .before .before .close .ensures .1)
+    λ ns. closes (sym (c₅ .q .given .1) ∙ c₅ .before .before .surplus .ensures ns) (c .before .before .close .ensures .0) (c .before .before .close .ensures .1)
 
 pub close-array-spec : {M : Type 1} → statement M
 close-array-spec = tie.close (tie.spec surplus-requires enum-known-e enum-known-q close-requires returns same-length returns-2)

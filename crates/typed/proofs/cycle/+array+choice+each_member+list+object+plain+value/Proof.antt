@@ -8,18 +8,15 @@ use Rattle.jer.specs.Value.{Val}
 use Rattle.jer.specs.Answer.{Res, bind}
 use Rattle.jer.specs.declared.Cause.the-variants.{OtherKind, UnknownName}
 use Rattle.jer.specs.Read.{missingElement}
+use Rattle.places.specs.declared.Scanned.{Scanned}
 use Rattle.places.specs.ByPlaces.{ending, Got, firstPart, tokenAt, leafAt, within, readAt, itemsAt, elementsAt, membersAt, noPlaces}
-use Rattle.scan.specs.Enums.{followsOf}
 use Rattle.scan.proofs.WithinLaws.{space-within}
 use Rattle.tokens.specs.Places.{pastSpace}
 use Rattle.tokens.specs.Strings.{denoted}
-use Rattle.typed.specs.Members.{oneOf, nextOf}
 use Rattle.typed.specs.Cycle.{limit, plainAt}
 use Rattle.typed.proofs.StoredLaws.{took, not-took, whole-list, whole-seq, whole-choice, closed, along, reads-no}
 use Rattle.typed.proofs.ListLaws.{Near, near-first, near-after, near-part, near-shut, Loop, loop-start, loop-shut, loop-full, loop-refused, loop-more}
 use Rattle.typed.proofs.SequenceLaws.{Elements, elements-start, elements-absent, elements-lost, elements-null, elements-refused, elements-more, near-absent, near-follows, near-there, InOrder, order-start, order-missing, order-absent, order-refused, order-more, order-end, object-ok, object-no, member-is, there-place, object-scanned, object-stopped, scan-near}
-use Rattle.scan.specs.declared.Ended.{Ended}
-use Rattle.scan.specs.Enums.{endedOf}
 use Rattle.typed.proofs.PlainLaws.{array-kind, object-kind, unwrapped-kind, value-plain, value-none, value-refused, value-picked, plain-leaf, plain-deep, plain-list, plain-array, plain-no-array, plain-choice, plain-object, plain-no-object, token-inside, token-array, token-object, string-not, string-code, positive, sequence-is, choice-not-one, choice-none, choice-refused, choice-picked, missing-small, missing-no, bounded-reads, bounded-near, leaf-near}
 use Rattle.typed.proofs.CycleLaws.{passed, failed, given-below, given-type, given-part, given-one, over-ok, over-no, list-ok, list-no, array-no, array-end, found-some, found-none, at-row, at-place, one-near, unknown-reads, unknown-over}
 use Rattle.places.proofs.MeaningNames.{alternative-found, position-found}
@@ -170,7 +167,7 @@ value-calls t = (token-at-reads.Asked, token-at-reads.Learnt, at-reads.Asked, at
 
 abbrev array-Inv-loop : array-lts.InvT-loop
 array-Inv-loop types names s rows₀ pool₀ row p i o d count next₀ k₀ present₀ n₀ m₀ rows pool next k present n m =
-    (count ≡ countOf (table types names) row) × (count ≤ 64) × Near (65539 + d) (followsOf next) × Elements (λ q u. readAt (d - 1) (table types names) s q u) (d - 1) (table types names) s row p (elementsAt (λ q u. readAt (d - 1) (table types names) s q u) (d - 1) (table types names) s row p 0 (countOf (table types names) row) (firstPart s 0x5D p)) (followsOf next) i o n m k present rows rows₀ pool pool₀ × (k ≤ count)
+    (count ≡ countOf (table types names) row) × (count ≤ 64) × Near (65539 + d) next × Elements (λ q u. readAt (d - 1) (table types names) s q u) (d - 1) (table types names) s row p (elementsAt (λ q u. readAt (d - 1) (table types names) s q u) (d - 1) (table types names) s row p 0 (countOf (table types names) row) (firstPart s 0x5D p)) next i o n m k present rows rows₀ pool pool₀ × (k ≤ count)
 
 abbrev array-μ-loop : array-lts.MeasureT-loop
 array-μ-loop types names s rows₀ pool₀ row p i o d count next₀ k₀ present₀ n₀ m₀ rows pool next k present n m =
@@ -190,15 +187,15 @@ array-loop-holds t c =
     let tab = table (entry .args .types .now) names in
     let s = entry .args .s .now in
     let d = entry .args .d in
-    let followsOf′ = followsOf (c .first-part .result) in
+    let first = c .first-part .result in
     let first-part-said = c .first-part .ensures in
-    (c .before .count-of .ensures names, omega (arith, (entry .pre .1 .0) .sane .few (entry .args .row) ((entry .pre .1 .0) .typed), c .before .count-of .ensures names), near-first s 0x5D (entry .args .p) (65539 + d) followsOf′ ((entry .pre .1 .0) .short) (entry .pre .1 .1 .0) (omega (arith, entry .pre .1 .1 .1)) first-part-said, elements-start (λ q u. readAt (d - 1) tab s q u) (d - 1) tab s (entry .args .row) (entry .args .p) (firstPart s 0x5D (entry .args .p)) followsOf′ (entry .args .i) (entry .args .o) (entry .args .rows .now) (entry .args .pool .now) first-part-said, omega arith)
+    (c .before .count-of .ensures names, omega (arith, (entry .pre .1 .0) .sane .few (entry .args .row) ((entry .pre .1 .0) .typed), c .before .count-of .ensures names), near-first s 0x5D (entry .args .p) (65539 + d) first ((entry .pre .1 .0) .short) (entry .pre .1 .1 .0) (omega (arith, entry .pre .1 .1 .1)) first-part-said, elements-start (λ q u. readAt (d - 1) tab s q u) (d - 1) tab s (entry .args .row) (entry .args .p) (firstPart s 0x5D (entry .args .p)) first (entry .args .i) (entry .args .o) (entry .args .rows .now) (entry .args .pool .now) first-part-said, omega arith)
 
 array-element-found-requires : (t : ℕ) → array-lts.Need-element-found-requires (array-calls t) (array-at t) array.Post array-Inv-loop array-μ-loop
 array-element-found-requires t c κs =
     let c₅ = c .before .before .before .before .before in
     let entry = c₅ .before .before .before .before in
-    ((entry .pre .1 .0) .short, near-follows (65539 + entry .args .d) 4294967295 (followsOf (c .before .loop .next)) (omega (arith, (entry .pre .1 .0) .rowRoom)) (omega arith) (c .before .loop .inv .2))
+    ((entry .pre .1 .0) .short, near-follows (65539 + entry .args .d) 4294967295 (c .before .loop .next) (omega (arith, (entry .pre .1 .0) .rowRoom)) (omega arith) (c .before .loop .inv .2))
 
 array-enum-known-f : (t : ℕ) → array-lts.Need-enum-known-f (array-calls t) (array-at t) array.Post array-Inv-loop array-μ-loop
 array-enum-known-f t c = search needs
@@ -234,9 +231,9 @@ array-loop-again t c =
     let tab = table (entry .args .types .now) names in
     let s = entry .args .s .now in
     let d = entry .args .d in
-    let back = sym (ap nextOf (f .given .1)) ∙ c₅ .before .before .element-found .ensures names in
+    let back = sym (f .given .1) ∙ c₅ .before .before .element-found .ensures names in
     let loop-test-yes = c₅ .before .before .before .loop-test .taken in
-    (loop-inv, loop .inv .1, near-absent tab s (entry .args .row) (loop .k) (65539 + d) (followsOf (loop .next)) (followsOf (f .given .0 .0)) ((entry .pre .1 .0) .short) (omega (arith, entry .pre .1 .1 .1)) (loop .inv .2) back, elements-absent (λ q u. readAt (d - 1) tab s q u) (d - 1) tab s (entry .args .row) (entry .args .p) (loop .inv .3) (rw (← loop-inv) (c₅ .before .before .before .loop-test .taken)) back (c .before .before .put-row .ensures) (c .before .before .put-row .kept .0), omega (arith, loop-test-yes))
+    (loop-inv, loop .inv .1, near-absent tab s (entry .args .row) (loop .k) (65539 + d) (loop .next) (f .given .0 .0) ((entry .pre .1 .0) .short) (omega (arith, entry .pre .1 .1 .1)) (loop .inv .2) back, elements-absent (λ q u. readAt (d - 1) tab s q u) (d - 1) tab s (entry .args .row) (entry .args .p) (loop .inv .3) (rw (← loop-inv) (c₅ .before .before .before .loop-test .taken)) back (c .before .before .put-row .ensures) (c .before .before .put-row .kept .0), omega (arith, loop-test-yes))
 
 array-enum-known-q : (t : ℕ) → array-lts.Need-enum-known-q (array-calls t) (array-at t) array.Post array-Inv-loop array-μ-loop
 array-enum-known-q t c = search needs
@@ -271,7 +268,7 @@ array-returns t c =
     let names = entry .args .names .now in
     let tab = table (entry .args .types .now) names in
     let s = entry .args .s .now in
-    reads-no (over-no tab (entry .args .row) (array-no (λ q u. readAt (entry .args .d - 1) tab s q u) tab s (entry .args .row) (entry .args .p) (entry .args .d - 1) (elements-lost (λ q u. readAt (entry .args .d - 1) tab s q u) (entry .args .d - 1) tab s (entry .args .row) (entry .args .p) (loop .inv .3) (rw (← loop .inv .0) (c₁₀ .before .loop-test .taken)) (sym (ap nextOf (q₂ .given .1)) ∙ c₁₀ .element-found .ensures names) (missing-no tab (entry .args .row) (entry .args .p) (loop .k) (q₂ .given .0 .0) (not-took tab (typeAt tab (entry .args .row) (loop .k)) _ (c .before .e .given .0 .0) (sym (c .before .e .given .1) ∙ (c₅ .missing .ensures names (loop .pool) (entry .args .o + loop .m)) .answer))))))
+    reads-no (over-no tab (entry .args .row) (array-no (λ q u. readAt (entry .args .d - 1) tab s q u) tab s (entry .args .row) (entry .args .p) (entry .args .d - 1) (elements-lost (λ q u. readAt (entry .args .d - 1) tab s q u) (entry .args .d - 1) tab s (entry .args .row) (entry .args .p) (loop .inv .3) (rw (← loop .inv .0) (c₁₀ .before .loop-test .taken)) (sym (q₂ .given .1) ∙ c₁₀ .element-found .ensures names) (missing-no tab (entry .args .row) (entry .args .p) (loop .k) (q₂ .given .0 .0) (not-took tab (typeAt tab (entry .args .row) (loop .k)) _ (c .before .e .given .0 .0) (sym (c .before .e .given .1) ∙ (c₅ .missing .ensures names (loop .pool) (entry .args .o + loop .m)) .answer))))))
 
 array-enum-known-a : (t : ℕ) → array-lts.Need-enum-known-a (array-calls t) (array-at t) array.Post array-Inv-loop array-μ-loop
 array-enum-known-a t c = search needs
@@ -327,7 +324,7 @@ array-loop-again-2 t c =
     let s = entry .args .s .now in
     let took′ = took tab (typeAt tab (entry .args .row) (loop .k)) (ending (q₂ .given .0 .0) (missingElement tab (entry .args .row) (entry .args .p) (loop .k))) (c .before .before .a .given .0 .0) (c .before .before .a .given .0 .1 .0) (c .before .before .a .given .0 .1 .1 .0) (sym (c .before .before .a .given .1) ∙ (missing .ensures names (loop .pool) (entry .args .o + loop .m)) .answer) in
     let loop-test-yes = c₁₀ .before .before .loop-test .taken in
-    (loop-inv, loop .inv .1, loop .inv .2, elements-null (λ q u. readAt (entry .args .d - 1) tab s q u) (entry .args .d - 1) tab s (entry .args .row) (entry .args .p) (loop .inv .3) (rw (← loop-inv) (c₁₀ .before .before .loop-test .taken)) (sym (ap nextOf (q₂ .given .1)) ∙ c₁₀ .before .element-found .ensures names) took′ (missing .ensures names (loop .pool) (entry .args .o + loop .m)) (missing-small tab (entry .args .row) (entry .args .p) (loop .k) (q₂ .given .0 .0) took′ .0) (missing-small tab (entry .args .row) (entry .args .p) (loop .k) (q₂ .given .0 .0) took′ .1) (missing .kept .1 .0) refl (c .with .ensures), omega (arith, loop-test-yes))
+    (loop-inv, loop .inv .1, loop .inv .2, elements-null (λ q u. readAt (entry .args .d - 1) tab s q u) (entry .args .d - 1) tab s (entry .args .row) (entry .args .p) (loop .inv .3) (rw (← loop-inv) (c₁₀ .before .before .loop-test .taken)) (sym (q₂ .given .1) ∙ c₁₀ .before .element-found .ensures names) took′ (missing .ensures names (loop .pool) (entry .args .o + loop .m)) (missing-small tab (entry .args .row) (entry .args .p) (loop .k) (q₂ .given .0 .0) took′ .0) (missing-small tab (entry .args .row) (entry .args .p) (loop .k) (q₂ .given .0 .0) took′ .1) (missing .kept .1 .0) refl (c .with .ensures), omega (arith, loop-test-yes))
 
 array-enum-known-q-2 : (t : ℕ) → array-lts.Need-enum-known-q-2 (array-calls t) (array-at t) array.Post array-Inv-loop array-μ-loop
 array-enum-known-q-2 t c = search needs
@@ -357,7 +354,7 @@ array-value-requires t c κs =
     let names = entry .args .names .now in
     let loop-inv = loop .inv .1 in
     let loop-test-yes = c₅ .before .before .loop-test .taken in
-    (omega arith, given-part (entry .pre .1 .0) (entry .pre .1 .1 .1) (rw (c .before .before .type-at .ensures names) ((entry .pre .1 .0) .sane .member (entry .args .row) (loop .k) ((entry .pre .1 .0) .typed) (rw (← loop .inv .0) (c₅ .before .before .loop-test .taken)))) (omega (arith, near-there (table (entry .args .types .now) names) (entry .args .s .now) (entry .args .row) (loop .k) (65539 + entry .args .d) (followsOf (loop .next)) (loop .inv .2) (sym (ap nextOf (c .before .before .before .before .q2 .given .1)) ∙ c₅ .before .element-found .ensures names))) (omega (arith, loop .inv .3 .done .sofar .fewRows, loop-inv, loop-test-yes)) (omega (arith, loop .inv .3 .done .sofar .fewBytes, loop-inv, loop-test-yes)))
+    (omega arith, given-part (entry .pre .1 .0) (entry .pre .1 .1 .1) (rw (c .before .before .type-at .ensures names) ((entry .pre .1 .0) .sane .member (entry .args .row) (loop .k) ((entry .pre .1 .0) .typed) (rw (← loop .inv .0) (c₅ .before .before .loop-test .taken)))) (omega (arith, near-there (table (entry .args .types .now) names) (entry .args .s .now) (entry .args .row) (loop .k) (65539 + entry .args .d) (loop .next) (loop .inv .2) (sym (c .before .before .before .before .q2 .given .1) ∙ c₅ .before .element-found .ensures names))) (omega (arith, loop .inv .3 .done .sofar .fewRows, loop-inv, loop-test-yes)) (omega (arith, loop .inv .3 .done .sofar .fewBytes, loop-inv, loop-test-yes)))
 
 array-enum-known-e-2 : (t : ℕ) → array-lts.Need-enum-known-e-2 (array-calls t) (array-at t) array.Post array-Inv-loop array-μ-loop
 array-enum-known-e-2 t c = search needs
@@ -380,7 +377,7 @@ array-returns-2 t c =
     let names = entry .args .names .now in
     let tab = table (entry .args .types .now) names in
     let s = entry .args .s .now in
-    reads-no (over-no tab (entry .args .row) (array-no (λ q u. readAt (entry .args .d - 1) tab s q u) tab s (entry .args .row) (entry .args .p) (entry .args .d - 1) (elements-refused (λ q u. readAt (entry .args .d - 1) tab s q u) (entry .args .d - 1) tab s (entry .args .row) (entry .args .p) (loop .inv .3) (rw (← loop .inv .0) (c₁₅ .loop-test .taken)) (sym (ap nextOf (q2 .given .1)) ∙ c₁₀ .before .before .before .before .element-found .ensures names) (failed (at-row (λ q u. readAt (entry .args .d - 1) tab s q u) (q2 .given .0 .0) (c₁₀ .type-at .ensures names) (c₅ .before .before .value .ensures)) (c .before .e2 .given .1)))))
+    reads-no (over-no tab (entry .args .row) (array-no (λ q u. readAt (entry .args .d - 1) tab s q u) tab s (entry .args .row) (entry .args .p) (entry .args .d - 1) (elements-refused (λ q u. readAt (entry .args .d - 1) tab s q u) (entry .args .d - 1) tab s (entry .args .row) (entry .args .p) (loop .inv .3) (rw (← loop .inv .0) (c₁₅ .loop-test .taken)) (sym (q2 .given .1) ∙ c₁₀ .before .before .before .before .element-found .ensures names) (failed (at-row (λ q u. readAt (entry .args .d - 1) tab s q u) (q2 .given .0 .0) (c₁₀ .type-at .ensures names) (c₅ .before .before .value .ensures)) (c .before .e2 .given .1)))))
 
 array-enum-known-end : (t : ℕ) → array-lts.Need-enum-known-end (array-calls t) (array-at t) array.Post array-Inv-loop array-μ-loop
 array-enum-known-end t c = search needs
@@ -398,7 +395,7 @@ array-after-part-requires t c κs =
     let names = entry .args .names .now in
     let tab = table (entry .args .types .now) names in
     let s = entry .args .s .now in
-    ((entry .pre .1 .0) .short, omega (arith, (passed (at-row (λ q u. readAt (d - 1) tab s q u) (q2 .given .0 .0) (c₁₀ .type-at .ensures names) (c₅ .before .before .value .ensures)) (c .before .end .given .1)) .near, near-there tab s (entry .args .row) (loop .k) (65539 + d) (followsOf (loop .next)) (loop .inv .2) (sym (ap nextOf (q2 .given .1)) ∙ c₁₀ .before .before .before .before .element-found .ensures names), (entry .pre .1 .0) .rowRoom))
+    ((entry .pre .1 .0) .short, omega (arith, (passed (at-row (λ q u. readAt (d - 1) tab s q u) (q2 .given .0 .0) (c₁₀ .type-at .ensures names) (c₅ .before .before .value .ensures)) (c .before .end .given .1)) .near, near-there tab s (entry .args .row) (loop .k) (65539 + d) (loop .next) (loop .inv .2) (sym (q2 .given .1) ∙ c₁₀ .before .before .before .before .element-found .ensures names), (entry .pre .1 .0) .rowRoom))
 
 array-with-requires-2 : (t : ℕ) → array-lts.Need-with-requires-2 (array-calls t) (array-at t) array.Post array-Inv-loop array-μ-loop
 array-with-requires-2 t c κs = search needs
@@ -452,10 +449,10 @@ array-loop-again-3 t c =
     let tab = table (entry .args .types .now) names in
     let there = at-row (λ q u. readAt (d - 1) tab s q u) (q2 .given .0 .0) (c₁₀ .before .before .type-at .ensures names) (value₂ .ensures) in
     let went = passed there (c .before .before .before .end .given .1) in
-    let back = sym (ap nextOf (q2 .given .1)) ∙ c₁₅ .before .element-found .ensures names in
+    let back = sym (q2 .given .1) ∙ c₁₅ .before .element-found .ensures names in
     let after-part-said = c .before .after-part .ensures in
     let loop-test-yes = c₁₅ .before .before .loop-test .taken in
-    (loop-inv, loop .inv .1, near-after s (c .before .before .before .end .given .0 .0) it (followsOf (c .before .after-part .result)) ((entry .pre .1 .0) .short) (omega (arith, went .near, near-there tab s (entry .args .row) (loop .k) it (followsOf (loop .next)) (loop .inv .2) back, entry .pre .1 .1 .1)) (omega arith) after-part-said, elements-more (λ q u. readAt (d - 1) tab s q u) (d - 1) tab s (entry .args .row) (entry .args .p) (loop .inv .3) (rw (← loop-inv) (c₁₅ .before .before .loop-test .taken)) back (went .took) (there .stepped) (went .fewRows) (went .fewBytes) (value₂ .kept .1 .1 .1 .0) (value₂ .kept .1 .1 .1 .1 .0) (c .with2 .ensures) after-part-said, omega (arith, loop-test-yes))
+    (loop-inv, loop .inv .1, near-after s (c .before .before .before .end .given .0 .0) it (c .before .after-part .result) ((entry .pre .1 .0) .short) (omega (arith, went .near, near-there tab s (entry .args .row) (loop .k) it (loop .next) (loop .inv .2) back, entry .pre .1 .1 .1)) (omega arith) after-part-said, elements-more (λ q u. readAt (d - 1) tab s q u) (d - 1) tab s (entry .args .row) (entry .args .p) (loop .inv .3) (rw (← loop-inv) (c₁₅ .before .before .loop-test .taken)) back (went .took) (there .stepped) (went .fewRows) (went .fewBytes) (value₂ .kept .1 .1 .1 .0) (value₂ .kept .1 .1 .1 .1 .0) (c .with2 .ensures) after-part-said, omega (arith, loop-test-yes))
 
 array-ones-requires : (t : ℕ) → array-lts.Need-ones-requires (array-calls t) (array-at t) array.Post array-Inv-loop array-μ-loop
 array-ones-requires t c κs = search needs
@@ -503,7 +500,7 @@ choice-position-requires : (t : ℕ) → choice-lts.Need-position-requires (choi
 choice-position-requires t c κs =
     let c₅ = c .before .before .before .before .before in
     let entry = c₅ .before .before .before .before in
-    ((entry .pre .1 .0) .short, one-near (entry .args .d - 1) (entry .args .s .now) (entry .args .p) ((entry .pre .1 .0) .short) (entry .pre .1 .1 .0) (sym (ap oneOf (c .before .q .given .1)) ∙ c .before .before .before .one-at .ensures))
+    ((entry .pre .1 .0) .short, one-near (entry .args .d - 1) (entry .args .s .now) (entry .args .p) ((entry .pre .1 .0) .short) (entry .pre .1 .1 .0) (sym (c .before .q .given .1) ∙ c .before .before .before .one-at .ensures))
 
 choice-enum-told-2 : (t : ℕ) → choice-lts.Need-enum-told-2 (choice-calls t) (choice-at t) choice.Post
 choice-enum-told-2 t c = search needs
@@ -522,7 +519,7 @@ choice-value-place-requires t c κs =
     let c₅ = c .before .before .before .before .before in
     let c₁₀ = c₅ .before .before .before .before .before in
     let entry = c₁₀ .before .before .before .before in
-    ((entry .pre .1 .0) .short, one-near (entry .args .d - 1) (entry .args .s .now) (entry .args .p) ((entry .pre .1 .0) .short) (entry .pre .1 .1 .0) (sym (ap oneOf (c₅ .before .q .given .1)) ∙ c₅ .before .before .before .one-at .ensures))
+    ((entry .pre .1 .0) .short, one-near (entry .args .d - 1) (entry .args .s .now) (entry .args .p) ((entry .pre .1 .0) .short) (entry .pre .1 .1 .0) (sym (c₅ .before .q .given .1) ∙ c₅ .before .before .before .one-at .ensures))
 
 choice-add-value : (t : ℕ) → choice-lts.Need-add-value (choice-calls t) (choice-at t) choice.Post
 choice-add-value t c = search needs
@@ -569,7 +566,7 @@ choice-returns t c =
     let entry = c₅ .before .before .before .before in
     let tab = table (entry .args .types .now) (entry .args .names .now) in
     let s = entry .args .s .now in
-    rw (c .refused .ensures) (reads-no (over-no tab (entry .args .row) (choice-not-one (λ q u. readAt (entry .args .d - 1) tab s q u) (entry .args .d - 1) tab s (entry .args .row) (entry .args .p) (sym (ap oneOf (c .before .enum-told .given .1)) ∙ c .before .before .before .one-at .ensures))))
+    rw (c .refused .ensures) (reads-no (over-no tab (entry .args .row) (choice-not-one (λ q u. readAt (entry .args .d - 1) tab s q u) (entry .args .d - 1) tab s (entry .args .row) (entry .args .p) (sym (c .before .enum-told .given .1) ∙ c .before .before .before .one-at .ensures))))
 
 choice-returns-2 : (t : ℕ) → choice-lts.Need-returns-2 (choice-calls t) (choice-at t) choice.Post
 choice-returns-2 t c =
@@ -580,7 +577,7 @@ choice-returns-2 t c =
     let names = entry .args .names .now in
     let tab = table (entry .args .types .now) names in
     let s = entry .args .s .now in
-    unknown-over UnknownName (entry .args .p) (q₂ .given .0 .0) (extensible tab (entry .args .row)) (c .unknown .ensures names) (choice-none (λ q u. readAt (entry .args .d - 1) tab s q u) (entry .args .d - 1) tab s (entry .args .row) (entry .args .p) (sym (ap oneOf (q₂ .given .1)) ∙ c₅ .before .before .one-at .ensures) (found-none _ (sym (c .before .enum-told2 .given .1) ∙ c .before .before .before .position .ensures)))
+    unknown-over UnknownName (entry .args .p) (q₂ .given .0 .0) (extensible tab (entry .args .row)) (c .unknown .ensures names) (choice-none (λ q u. readAt (entry .args .d - 1) tab s q u) (entry .args .d - 1) tab s (entry .args .row) (entry .args .p) (sym (q₂ .given .1) ∙ c₅ .before .before .one-at .ensures) (found-none _ (sym (c .before .enum-told2 .given .1) ∙ c .before .before .before .position .ensures)))
 
 choice-same-length : (t : ℕ) → choice-lts.Need-same-length (choice-calls t) (choice-at t) choice.Post
 choice-same-length t c = search needs
@@ -599,7 +596,7 @@ choice-returns-3 t c =
     let names = entry .args .names .now in
     let tab = table (entry .args .types .now) names in
     let s = entry .args .s .now in
-    reads-no (over-no tab (entry .args .row) (choice-refused (λ q u. readAt (entry .args .d - 1) tab s q u) (entry .args .d - 1) tab s (entry .args .row) (entry .args .p) (sym (ap oneOf (c₁₅ .before .before .q .given .1)) ∙ c₁₅ .before .before .before .before .one-at .ensures) (found-some _ (sym (c₁₀ .before .before .before .k .given .1) ∙ c₁₅ .position .ensures)) (failed (at-place (λ q u. readAt (entry .args .d - 1) tab s q u) (c₁₀ .before .type-at .ensures names) (c₁₀ .value-place .ensures .0) (c₅ .before .before .value .ensures)) (c .before .e .given .1))))
+    reads-no (over-no tab (entry .args .row) (choice-refused (λ q u. readAt (entry .args .d - 1) tab s q u) (entry .args .d - 1) tab s (entry .args .row) (entry .args .p) (sym (c₁₅ .before .before .q .given .1) ∙ c₁₅ .before .before .before .before .one-at .ensures) (found-some _ (sym (c₁₀ .before .before .before .k .given .1) ∙ c₁₅ .position .ensures)) (failed (at-place (λ q u. readAt (entry .args .d - 1) tab s q u) (c₁₀ .before .type-at .ensures names) (c₁₀ .value-place .ensures .0) (c₅ .before .before .value .ensures)) (c .before .e .given .1))))
 
 choice-same-length-3 : (t : ℕ) → choice-lts.Need-same-length-3 (choice-calls t) (choice-at t) choice.Post
 choice-same-length-3 t c = search needs
@@ -624,7 +621,7 @@ choice-returns-4 t c =
     let here = at-place (λ q u. readAt (entry .args .d - 1) tab s q u) (c₁₅ .before .before .type-at .ensures names) (value-place .ensures .0) value-said in
     let next = c₅ .before .before .next .given .1 in
     let went = passed here next in
-    along (over-ok tab (entry .args .row) (choice-picked (λ q u. readAt (entry .args .d - 1) tab s q u) (entry .args .d - 1) tab s (entry .args .row) (entry .args .p) (sym (ap oneOf (c₂₀ .before .before .before .q .given .1)) ∙ c₂₅ .one-at .ensures) (found-some _ (sym (c₁₅ .before .before .before .before .k .given .1) ∙ c₂₀ .before .position .ensures)) (went .took .is))) (closed (whole-choice (went .took) (here .stepped) (entry .pre .1 .1 .2)) (omega (arith, space-within s (limit (value-place .result) + (entry .args .d - 1)) (went .took .g .next) (omega (arith, (entry .pre .1 .0) .short)) (omega (arith, went .took .next, passed value-said next .near)), entry .pre .1 .1 .0, entry .pre .1 .1 .1, value-place .ensures .1, (entry .pre .1 .0) .short)) (rw (sym (c .before .before .before .before .advance .ensures ∙ ap (λ (x : ℕ). x + 1) (c₅ .skip-space .ensures ∙ ap (λ (x : ℕ). pastSpace s x) (sym (went .took .next))))) (c .before .before .close .ensures .0)) (c .before .before .close .ensures .1))
+    along (over-ok tab (entry .args .row) (choice-picked (λ q u. readAt (entry .args .d - 1) tab s q u) (entry .args .d - 1) tab s (entry .args .row) (entry .args .p) (sym (c₂₀ .before .before .before .q .given .1) ∙ c₂₅ .one-at .ensures) (found-some _ (sym (c₁₅ .before .before .before .before .k .given .1) ∙ c₂₀ .before .position .ensures)) (went .took .is))) (closed (whole-choice (went .took) (here .stepped) (entry .pre .1 .1 .2)) (omega (arith, space-within s (limit (value-place .result) + (entry .args .d - 1)) (went .took .g .next) (omega (arith, (entry .pre .1 .0) .short)) (omega (arith, went .took .next, passed value-said next .near)), entry .pre .1 .1 .0, entry .pre .1 .1 .1, value-place .ensures .1, (entry .pre .1 .0) .short)) (rw (sym (c .before .before .before .before .advance .ensures ∙ ap (λ (x : ℕ). x + 1) (c₅ .skip-space .ensures ∙ ap (λ (x : ℕ). pastSpace s x) (sym (went .took .next))))) (c .before .before .close .ensures .0)) (c .before .before .close .ensures .1))
 
 abbrev each-member-Inv-loop : each-member-lts.InvT-loop
 each-member-Inv-loop types names s rows₀ pool₀ met row p next i o d places count k₀ present₀ n₀ m₀ rows pool k present n m =
@@ -869,7 +866,7 @@ each-member-returns-3 t c =
 
 abbrev list-Inv-loop : list-lts.InvT-loop
 list-Inv-loop types names s rows₀ pool₀ row p i o d element next₀ count₀ n₀ m₀ rows pool next count n m =
-    (element ≡ elementOf (table types names) row) × Near (65539 + d) (followsOf next) × Loop (λ q. readAt (d - 1) (table types names) s (elementOf (table types names) row) q) s (table types names) (elementOf (table types names) row) (itemsAt (λ q. readAt (d - 1) (table types names) s (elementOf (table types names) row) q) s (length s) (firstPart s 0x5D p)) (followsOf next) i o n m count rows rows₀ pool pool₀
+    (element ≡ elementOf (table types names) row) × Near (65539 + d) next × Loop (λ q. readAt (d - 1) (table types names) s (elementOf (table types names) row) q) s (table types names) (elementOf (table types names) row) (itemsAt (λ q. readAt (d - 1) (table types names) s (elementOf (table types names) row) q) s (length s) (firstPart s 0x5D p)) next i o n m count rows rows₀ pool pool₀
 
 abbrev list-μ-loop : list-lts.MeasureT-loop
 list-μ-loop types names s rows₀ pool₀ row p i o d element next₀ count₀ n₀ m₀ rows pool next count n m =
@@ -889,10 +886,10 @@ list-loop-holds t c =
     let tab = table (entry .args .types .now) names in
     let s = entry .args .s .now in
     let d = entry .args .d in
-    let followsOf′ = followsOf (c .first-part .result) in
+    let first = c .first-part .result in
     let first-part-said = c .first-part .ensures in
     let elementOf′ = elementOf tab (entry .args .row) in
-    (c .before .element-of .ensures names, near-first s 0x5D (entry .args .p) (65539 + d) followsOf′ ((entry .pre .1 .0) .short) (entry .pre .1 .1 .0) (omega (arith, entry .pre .1 .1 .1)) first-part-said, loop-start (λ q. readAt (d - 1) tab s elementOf′ q) s tab elementOf′ (firstPart s 0x5D (entry .args .p)) followsOf′ (entry .args .i) (entry .args .o) (entry .args .rows .now) (entry .args .pool .now) first-part-said)
+    (c .before .element-of .ensures names, near-first s 0x5D (entry .args .p) (65539 + d) first ((entry .pre .1 .0) .short) (entry .pre .1 .1 .0) (omega (arith, entry .pre .1 .1 .1)) first-part-said, loop-start (λ q. readAt (d - 1) tab s elementOf′ q) s tab elementOf′ (firstPart s 0x5D (entry .args .p)) first (entry .args .i) (entry .args .o) (entry .args .rows .now) (entry .args .pool .now) first-part-said)
 
 list-enum-known-next : (t : ℕ) → list-lts.Need-enum-known-next (list-calls t) (list-at t) list.Post list-Inv-loop list-μ-loop
 list-enum-known-next t c = search needs
@@ -919,8 +916,8 @@ list-returns t c =
     let tab = table (entry .args .types .now) (entry .args .names .now) in
     let d = entry .args .d in
     let s = entry .args .s .now in
-    let ap′ = ap followsOf (c₅ .before .next .given .1) in
-    along (over-ok tab (entry .args .row) (list-ok (λ q u. readAt (d - 1) tab s q u) tab s (entry .args .row) (entry .args .p) (loop-shut (loop .inv .2) ap′))) (closed (whole-list (loop .inv .2 .sofar) (entry .pre .1 .1 .2) (loop .inv .2 .items) (c .before .before .before .narrow .ensures (omega (arith, (entry .pre .1 .0) .short, loop .inv .2 .few)))) (omega (arith, entry .pre .1 .1 .0, near-shut (65539 + d) ap′ (loop .inv .1))) (c .before .before .close .ensures .0) (c .before .before .close .ensures .1))
+    let here = c₅ .before .next .given .1 in
+    along (over-ok tab (entry .args .row) (list-ok (λ q u. readAt (d - 1) tab s q u) tab s (entry .args .row) (entry .args .p) (loop-shut (loop .inv .2) here))) (closed (whole-list (loop .inv .2 .sofar) (entry .pre .1 .1 .2) (loop .inv .2 .items) (c .before .before .before .narrow .ensures (omega (arith, (entry .pre .1 .0) .short, loop .inv .2 .few)))) (omega (arith, entry .pre .1 .1 .0, near-shut (65539 + d) here (loop .inv .1))) (c .before .before .close .ensures .0) (c .before .before .close .ensures .1))
 
 list-enum-known-next-2 : (t : ℕ) → list-lts.Need-enum-known-next-2 (list-calls t) (list-at t) list.Post list-Inv-loop list-μ-loop
 list-enum-known-next-2 t c = search needs
@@ -947,8 +944,8 @@ list-returns-2 t c =
     let tab = table (entry .args .types .now) (entry .args .names .now) in
     let d = entry .args .d in
     let s = entry .args .s .now in
-    let ap′ = ap followsOf (c₅ .before .before .next2 .given .1) in
-    along (over-ok tab (entry .args .row) (list-ok (λ q u. readAt (d - 1) tab s q u) tab s (entry .args .row) (entry .args .p) (loop-full (loop .inv .2) ap′ (c₅ .if1 .taken)))) (closed (whole-list (loop .inv .2 .sofar) (entry .pre .1 .1 .2) (loop .inv .2 .items) (c .before .before .before .narrow2 .ensures (omega (arith, (entry .pre .1 .0) .short, loop .inv .2 .few)))) (omega (arith, entry .pre .1 .1 .0, near-part (65539 + d) ap′ (loop .inv .1))) (c .before .before .close2 .ensures .0) (c .before .before .close2 .ensures .1))
+    let here = c₅ .before .before .next2 .given .1 in
+    along (over-ok tab (entry .args .row) (list-ok (λ q u. readAt (d - 1) tab s q u) tab s (entry .args .row) (entry .args .p) (loop-full (loop .inv .2) here (c₅ .if1 .taken)))) (closed (whole-list (loop .inv .2 .sofar) (entry .pre .1 .1 .2) (loop .inv .2 .items) (c .before .before .before .narrow2 .ensures (omega (arith, (entry .pre .1 .0) .short, loop .inv .2 .few)))) (omega (arith, entry .pre .1 .1 .0, near-part (65539 + d) here (loop .inv .1))) (c .before .before .close2 .ensures .0) (c .before .before .close2 .ensures .1))
 
 list-add-value : (t : ℕ) → list-lts.Need-add-value (list-calls t) (list-at t) list.Post list-Inv-loop list-μ-loop
 list-add-value t c = search needs
@@ -969,7 +966,7 @@ list-value-requires t c κs =
     let entry = c₁₀ .before .before .before .before in
     let loop = c₅ .before .loop in
     let if1-no = c .before .before .if1 .left in
-    (omega arith, given-part (entry .pre .1 .0) (entry .pre .1 .1 .1) (rw (loop .inv .0) ((entry .pre .1 .0) .sane .element (entry .args .row) (entry .pre .1 .1 .2))) (omega (arith, near-part (65539 + entry .args .d) (ap followsOf (c .before .before .before .before .next2 .given .1)) (loop .inv .1))) (omega (arith, loop .inv .2 .sofar .fewRows, if1-no, (entry .pre .1 .0) .short)) (omega (arith, loop .inv .2 .sofar .fewBytes, if1-no, (entry .pre .1 .0) .short)))
+    (omega arith, given-part (entry .pre .1 .0) (entry .pre .1 .1 .1) (rw (loop .inv .0) ((entry .pre .1 .0) .sane .element (entry .args .row) (entry .pre .1 .1 .2))) (omega (arith, near-part (65539 + entry .args .d) (c .before .before .before .before .next2 .given .1) (loop .inv .1))) (omega (arith, loop .inv .2 .sofar .fewRows, if1-no, (entry .pre .1 .0) .short)) (omega (arith, loop .inv .2 .sofar .fewBytes, if1-no, (entry .pre .1 .0) .short)))
 
 list-enum-known-e : (t : ℕ) → list-lts.Need-enum-known-e (list-calls t) (list-at t) list.Post list-Inv-loop list-μ-loop
 list-enum-known-e t c = search needs
@@ -991,7 +988,7 @@ list-returns-3 t c =
     let next2 = c₁₀ .before .before .next2 in
     let tab = table (entry .args .types .now) (entry .args .names .now) in
     let s = entry .args .s .now in
-    reads-no (over-no tab (entry .args .row) (list-no (λ q u. readAt (entry .args .d - 1) tab s q u) tab s (entry .args .row) (entry .args .p) (loop-refused (loop .inv .2) (ap followsOf (next2 .given .1)) (c₁₀ .if1 .left) (failed (at-row (λ q u. readAt (entry .args .d - 1) tab s q u) (next2 .given .0 .0) (loop .inv .0) (c₅ .before .before .value .ensures)) (c .before .e .given .1)))))
+    reads-no (over-no tab (entry .args .row) (list-no (λ q u. readAt (entry .args .d - 1) tab s q u) tab s (entry .args .row) (entry .args .p) (loop-refused (loop .inv .2) (next2 .given .1) (c₁₀ .if1 .left) (failed (at-row (λ q u. readAt (entry .args .d - 1) tab s q u) (next2 .given .0 .0) (loop .inv .0) (c₅ .before .before .value .ensures)) (c .before .e .given .1)))))
 
 list-enum-known-end : (t : ℕ) → list-lts.Need-enum-known-end (list-calls t) (list-at t) list.Post list-Inv-loop list-μ-loop
 list-enum-known-end t c = search needs
@@ -1003,7 +1000,7 @@ list-after-part-requires t c κs =
     let c₁₅ = c₁₀ .before .before .before .before .before in
     let c₂₀ = c₁₅ .before .before .before .before .before in
     let entry = c₂₀ .before .before in
-    ((entry .pre .1 .0) .short, omega (arith, passed (c₅ .before .before .value .ensures) (c .before .end .given .1) .near, near-part (65539 + entry .args .d) (ap followsOf (c₁₀ .before .before .next2 .given .1)) (c₁₀ .before .before .before .before .loop .inv .1), (entry .pre .1 .0) .rowRoom))
+    ((entry .pre .1 .0) .short, omega (arith, passed (c₅ .before .before .value .ensures) (c .before .end .given .1) .near, near-part (65539 + entry .args .d) (c₁₀ .before .before .next2 .given .1) (c₁₀ .before .before .before .before .loop .inv .1), (entry .pre .1 .0) .rowRoom))
 
 list-add-count : (t : ℕ) → list-lts.Need-add-count (list-calls t) (list-at t) list.Post list-Inv-loop list-μ-loop
 list-add-count t c =
@@ -1047,10 +1044,10 @@ list-loop-again t c =
     let d = entry .args .d in
     let it = 65539 + d in
     let end = c .before .before .end .given .1 in
-    let ap′ = ap followsOf (next2 .given .1) in
+    let here = next2 .given .1 in
     let after-part-said = c .after-part .ensures in
     let there = at-row (λ q u. readAt (d - 1) (table (entry .args .types .now) (entry .args .names .now)) s q u) (next2 .given .0 .0) loop-inv (value₂ .ensures) in
-    (loop-inv, near-after s (c .before .before .end .given .0 .0) it (followsOf (c .after-part .result)) ((entry .pre .1 .0) .short) (omega (arith, passed (value₂ .ensures) end .near, near-part it ap′ (loop .inv .1), entry .pre .1 .1 .1)) (omega arith) after-part-said, loop-more (loop .inv .2) ap′ (c₁₀ .before .if1 .left) (passed there end .took) (there .stepped) (passed (value₂ .ensures) end .fewRows) (passed (value₂ .ensures) end .fewBytes) (value₂ .kept .1 .1 .1 .0) (value₂ .kept .1 .1 .1 .1 .0) after-part-said)
+    (loop-inv, near-after s (c .before .before .end .given .0 .0) it (c .after-part .result) ((entry .pre .1 .0) .short) (omega (arith, passed (value₂ .ensures) end .near, near-part it here (loop .inv .1), entry .pre .1 .1 .1)) (omega arith) after-part-said, loop-more (loop .inv .2) here (c₁₀ .before .if1 .left) (passed there end .took) (there .stepped) (passed (value₂ .ensures) end .fewRows) (passed (value₂ .ensures) end .fewBytes) (value₂ .kept .1 .1 .1 .0) (value₂ .kept .1 .1 .1 .1 .0) after-part-said)
 
 object-sub-scan : (t : ℕ) → object-lts.Need-sub-scan (object-calls t) (object-at t) object.Post
 object-sub-scan t c = search needs
@@ -1077,10 +1074,8 @@ object-each-member-requires t c κs =
     let s = entry .args .s .now in
     let it = (entry .pre .1 .0) .short in
     let firstPart′ = firstPart s 0x7D (entry .args .p) in
-    let scan-result-met = scan .result .met in
-    let scan-result-places = scan .result .places in
     let pre₂ = entry .pre .1 .1 .0 in
-    (omega arith, ((entry .pre .1 .0), (pre, omega (arith, scan-near (entry .args .d - 1) (table (entry .args .types .now) (entry .args .names .now)) s (entry .args .row) 65540 it (omega arith) (length s) firstPart′ 0 noPlaces scan-result-met scan-result-places (c .before .before .before .end2 .given .0 .0) (near-first s 0x7D (entry .args .p) 65540 firstPart′ it (entry .pre .1 .1 .0) (omega arith) refl) (sym (ap (λ (e : Ended). endedOf e scan-result-met scan-result-places) (c .before .before .before .end2 .given .1)) ∙ scan .ensures), pre, pre₂, (entry .pre .1 .0) .short), entry .pre .1 .1 .2)))
+    (omega arith, ((entry .pre .1 .0), (pre, omega (arith, scan-near (entry .args .d - 1) (table (entry .args .types .now) (entry .args .names .now)) s (entry .args .row) 65540 it (omega arith) (length s) firstPart′ 0 noPlaces (near-first s 0x7D (entry .args .p) 65540 firstPart′ it (entry .pre .1 .1 .0) (omega arith) refl) (c .before .before .before .end2 .given .0 .0) (sym (c .before .before .before .end2 .given .1) ∙ ap (λ (x : Scanned). x .end) (scan .ensures)), pre, pre₂, (entry .pre .1 .0) .short), entry .pre .1 .1 .2)))
 
 object-returns : (t : ℕ) → object-lts.Need-returns (object-calls t) (object-at t) object.Post
 object-returns t c =
@@ -1090,7 +1085,7 @@ object-returns t c =
     let scan = c .before .before .before .before .scan in
     let tab = table (entry .args .types .now) (entry .args .names .now) in
     let s = entry .args .s .now in
-    reads-no (over-no tab (entry .args .row) (object-stopped (λ q u. readAt (entry .args .d - 1) tab s q u) (entry .args .d - 1) tab s (entry .args .row) (entry .args .p) (sym (ap (λ (e : Ended). endedOf e (scan .result .met) (scan .result .places)) (c .before .end .given .1)) ∙ scan .ensures)))
+    reads-no (over-no tab (entry .args .row) (object-stopped (λ q u. readAt (entry .args .d - 1) tab s q u) (entry .args .d - 1) tab s (entry .args .row) (entry .args .p) (c .before .end .given .1) (scan .ensures)))
 
 object-same-length : (t : ℕ) → object-lts.Need-same-length (object-calls t) (object-at t) object.Post
 object-same-length t c = search needs
@@ -1107,7 +1102,7 @@ object-returns-2 t c =
     let scan = c₁₀ .before .scan in
     let tab = table (entry .args .types .now) (entry .args .names .now) in
     let s = entry .args .s .now in
-    along (ap (λ (x : Res (Got Val)). bind x (within tab (entry .args .row))) (object-scanned (λ q u. readAt (entry .args .d - 1) tab s q u) (entry .args .d - 1) tab s (entry .args .row) (entry .args .p) (sym (ap (λ (e : Ended). endedOf e (scan .result .met) (scan .result .places)) (c₅ .before .before .before .end2 .given .1)) ∙ scan .ensures))) (c .before .before .before .before .each-member .ensures)
+    along (ap (λ (x : Res (Got Val)). bind x (within tab (entry .args .row))) (object-scanned (λ q u. readAt (entry .args .d - 1) tab s q u) (entry .args .d - 1) tab s (entry .args .row) (entry .args .p) (c₅ .before .before .before .end2 .given .1) (scan .ensures))) (c .before .before .before .before .each-member .ensures)
 
 plain-leaf-requires : (t : ℕ) → plain-lts.Need-leaf-requires (plain-calls t) (plain-at t) plain.Post
 plain-leaf-requires t c κs =

@@ -1,12 +1,11 @@
 use Rattle.typed.proofs.FoundLaws.{element-absent, element-missing, element-null, element-there, shown}
 use Rattle.scan.proofs.WithinLaws.{run-within}
-use Rattle.scan.specs.Enums.{followsOf}
 use Rattle.tokens.proofs.SkipLaws.{word-is}
 use Rattle.tokens.specs.Skip.{isEnd}
 use Rattle.jer.specs.Table.{table}
 use native.Mathlib.Omega.{arith}
 use mathlib.Core.Bool.{not}
-use mathlib.Core.Path.{ap, _∙_}
+use mathlib.Core.Path.{_∙_}
 use borrow.Author.Needs.{needs}
 use Rattle.typed.proofs.members.element_found.Statement.{statement}
 use Rattle.typed.proofs.members.element_found.Tie as tie
@@ -21,7 +20,7 @@ returns : tie.Need-returns
 returns c =
     let c₅ = c .before .before .before .before .before in
     let entry = c₅ .before .before in
-    λ ns. element-absent (table (entry .args .types .now) ns) (entry .args .s .now) (entry .args .row) (entry .args .k) (c .before .before .before .before .may-miss .ensures ns) (ap followsOf (c .before .before .next .given .1)) (c .if1 .taken)
+    λ ns. element-absent (table (entry .args .types .now) ns) (entry .args .s .now) (entry .args .row) (entry .args .k) (c .before .before .before .before .may-miss .ensures ns) (c .before .before .next .given .1) (c .if1 .taken)
 
 enum-known-next-2 : tie.Need-enum-known-next-2
 enum-known-next-2 c = search needs
@@ -38,7 +37,7 @@ after-part-requires c κs =
     let entry = c₅ .before .before .before .before in
     let next2 = c .before .before .before .before .next2 in
     let pre = entry .pre .0 in
-    (pre, omega (arith, c .run .ensures, run-within (λ b. not (isEnd b)) (entry .args .s .now) 4294967295 (next2 .given .0 .0) (omega (arith, pre)) (shown (ap followsOf (next2 .given .1)) (entry .pre .1))))
+    (pre, omega (arith, c .run .ensures, run-within (λ b. not (isEnd b)) (entry .args .s .now) 4294967295 (next2 .given .0 .0) (omega (arith, pre)) (shown (next2 .given .1) (entry .pre .1))))
 
 returns-2 : tie.Need-returns-2
 returns-2 c =
@@ -47,19 +46,19 @@ returns-2 c =
     let entry = c₁₀ in
     let next2 = c₅ .next2 in
     let s = entry .args .s .now in
-    λ ns. element-null (table (entry .args .types .now) ns) s (entry .args .row) (entry .args .k) (c₅ .before .before .may-miss .ensures ns) (ap followsOf (next2 .given .1)) (c .before .before .before .null-at .ensures) (c .before .before .if2 .taken) (c .before .run .ensures ∙ word-is s (next2 .given .0 .0)) (c .after-part .ensures)
+    λ ns. element-null (table (entry .args .types .now) ns) s (entry .args .row) (entry .args .k) (c₅ .before .before .may-miss .ensures ns) (next2 .given .1) (c .before .before .before .null-at .ensures) (c .before .before .if2 .taken) (c .before .run .ensures ∙ word-is s (next2 .given .0 .0)) (c .after-part .ensures)
 
 returns-3 : tie.Need-returns-3
 returns-3 c =
     let c₅ = c .before .before .before .before .before in
     let entry = c₅ .before .before in
-    λ ns. element-missing (table (entry .args .types .now) ns) (entry .args .s .now) (entry .args .row) (entry .args .k) (c .before .before .before .before .may-miss .ensures ns) (ap followsOf (c .before .before .next .given .1)) (c .if1 .left)
+    λ ns. element-missing (table (entry .args .types .now) ns) (entry .args .s .now) (entry .args .row) (entry .args .k) (c .before .before .before .before .may-miss .ensures ns) (c .before .before .next .given .1) (c .if1 .left)
 
 returns-4 : tie.Need-returns-4
 returns-4 c =
     let c₅ = c .before .before .before .before .before in
     let entry = c₅ .before .before .before in
-    λ ns. element-there (table (entry .args .types .now) ns) (entry .args .s .now) (entry .args .row) (entry .args .k) (c₅ .may-miss .ensures ns) (ap followsOf (c .before .before .before .next2 .given .1)) (c .before .null-at .ensures) (c .if2 .left)
+    λ ns. element-there (table (entry .args .types .now) ns) (entry .args .s .now) (entry .args .row) (entry .args .k) (c₅ .may-miss .ensures ns) (c .before .before .before .next2 .given .1) (c .before .null-at .ensures) (c .if2 .left)
 
 pub element-found-spec : {M : Type 1} → statement M
 element-found-spec =

@@ -1,8 +1,7 @@
 use Rattle.typed.proofs.FoundLaws.{one-none, one-more, one-there}
 use Rattle.scan.proofs.PartLaws.{first-inside}
-use Rattle.scan.specs.Enums.{followsOf}
 use native.Mathlib.Omega.{arith}
-use mathlib.Core.Path.{sym, ap, _∙_}
+use mathlib.Core.Path.{sym, _∙_}
 use borrow.Author.Needs.{needs}
 use Rattle.typed.proofs.members.one_at.Statement.{statement}
 use Rattle.typed.proofs.members.one_at.Tie as tie
@@ -21,7 +20,7 @@ value-place-requires c κs =
     let c₅ = c .before .before .before .before .before in
     let entry = c₅ in
     let pre = entry .pre .0 in
-    (pre, omega (arith, pre, first-inside (entry .args .s .now) 0x7D (entry .args .p) (c .before .q .given .0 .0) (entry .pre .1) (sym (c .before .before .before .first-part .ensures) ∙ ap followsOf (c .before .q .given .1))))
+    (pre, omega (arith, pre, first-inside (entry .args .s .now) 0x7D (entry .args .p) (c .before .q .given .0 .0) (entry .pre .1) (sym (c .before .before .before .first-part .ensures) ∙ c .before .q .given .1)))
 
 skip-value-requires : tie.Need-skip-value-requires
 skip-value-requires c κs = search needs
@@ -37,19 +36,19 @@ returns c =
     let c₅ = c .before .before .before .before .before in
     let c₁₀ = c₅ .before .before .before .before .before in
     let entry = c₁₀ in
-    one-more (entry .args .depth) (entry .args .s .now) (sym (c₅ .before .before .before .first-part .ensures) ∙ ap followsOf (c₅ .before .q .given .1)) (c .before .before .before .before .value-place .ensures .0) (c .before .before .before .skip-value .ensures) (c .before .before .skip-space .ensures) (c .before .byte-at .ensures .0) (c .if1 .taken)
+    one-more (entry .args .depth) (entry .args .s .now) (sym (c₅ .before .before .before .first-part .ensures) ∙ c₅ .before .q .given .1) (c .before .before .before .before .value-place .ensures .0) (c .before .before .before .skip-value .ensures) (c .before .before .skip-space .ensures) (c .before .byte-at .ensures .0) (c .if1 .taken)
 
 returns-2 : tie.Need-returns-2
 returns-2 c =
     let entry = c .before .before .before .before in
-    one-none (entry .args .depth) (entry .args .s .now) (sym (c .before .before .first-part .ensures) ∙ ap followsOf (c .enum-told .given .1))
+    one-none (entry .args .depth) (entry .args .s .now) (sym (c .before .before .first-part .ensures) ∙ c .enum-told .given .1)
 
 returns-3 : tie.Need-returns-3
 returns-3 c =
     let c₅ = c .before .before .before .before .before in
     let c₁₀ = c₅ .before .before .before .before .before in
     let entry = c₁₀ in
-    one-there (entry .args .depth) (entry .args .s .now) (sym (c₅ .before .before .before .first-part .ensures) ∙ ap followsOf (c₅ .before .q .given .1)) (c .before .before .before .before .value-place .ensures .0) (c .before .before .before .skip-value .ensures) (c .before .before .skip-space .ensures) (c .before .byte-at .ensures .0) (c .if1 .left)
+    one-there (entry .args .depth) (entry .args .s .now) (sym (c₅ .before .before .before .first-part .ensures) ∙ c₅ .before .q .given .1) (c .before .before .before .before .value-place .ensures .0) (c .before .before .before .skip-value .ensures) (c .before .before .skip-space .ensures) (c .before .byte-at .ensures .0) (c .if1 .left)
 
 pub one-at-spec : {M : Type 1} → statement M
 one-at-spec =

@@ -1,7 +1,6 @@
 use Rattle.typed.proofs.FoundLaws.{surplus-none, surplus-past, surplus-stops}
-use Rattle.scan.specs.Enums.{followsOf}
 use Rattle.jer.specs.Table.{table}
-use mathlib.Core.Path.{sym, ap, _∙_}
+use mathlib.Core.Path.{sym, _∙_}
 use borrow.Author.Needs.{needs}
 use Rattle.typed.proofs.members.surplus.Statement.{statement}
 use Rattle.typed.proofs.members.surplus.Tie as tie
@@ -25,19 +24,19 @@ returns : tie.Need-returns
 returns c =
     let c₅ = c .before .before .before .before .before in
     let entry = c₅ .before .before .before .before in
-    λ ns. surplus-past (entry .args .depth) (table (entry .args .types .now) ns) (entry .args .s .now) (entry .args .row) (ap followsOf (c₅ .next2 .given .1)) (sym (c .before .before .extensible .ensures _ _ (c .before .before .before .at .ensures ns)) ∙ c .before .if1 .taken) (entry .pre .1) (c .skip-bracket .ensures)
+    λ ns. surplus-past (entry .args .depth) (table (entry .args .types .now) ns) (entry .args .s .now) (entry .args .row) (c₅ .next2 .given .1) (sym (c .before .before .extensible .ensures _ _ (c .before .before .before .at .ensures ns)) ∙ c .before .if1 .taken) (entry .pre .1) (c .skip-bracket .ensures)
 
 returns-2 : tie.Need-returns-2
 returns-2 c =
     let c₅ = c .before .before .before .before .before in
     let entry = c₅ in
-    λ ns. surplus-none (entry .args .depth) (table (entry .args .types .now) ns) (entry .args .s .now) (entry .args .row) (ap followsOf (c .before .next .given .1))
+    λ ns. surplus-none (entry .args .depth) (table (entry .args .types .now) ns) (entry .args .s .now) (entry .args .row) (c .before .next .given .1)
 
 returns-3 : tie.Need-returns-3
 returns-3 c =
     let c₅ = c .before .before .before .before .before in
     let entry = c₅ .before .before .before in
-    λ ns. surplus-stops (entry .args .depth) (table (entry .args .types .now) ns) (entry .args .s .now) (entry .args .row) (ap followsOf (c .before .before .before .before .next2 .given .1)) (sym (c .before .extensible .ensures _ _ (c .before .before .at .ensures ns)) ∙ c .if1 .left)
+    λ ns. surplus-stops (entry .args .depth) (table (entry .args .types .now) ns) (entry .args .s .now) (entry .args .row) (c .before .before .before .before .next2 .given .1) (sym (c .before .extensible .ensures _ _ (c .before .before .at .ensures ns)) ∙ c .if1 .left)
 
 pub surplus-spec : {M : Type 1} → statement M
 surplus-spec =
