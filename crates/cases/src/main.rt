@@ -147,17 +147,22 @@ fn call_case(buf: &mut [u8], input: Input, kind: u32) -> Line {
     write_values(buf, next, rows, bytes)
 }
 
-// The whole standard input of a program: what it prints.
-fn program_case(buf: &mut [u8], input: Input, kind: u32) -> Line {
+// The whole standard input of `jerread`: what it prints.
+fn jerread_case(buf: &mut [u8], input: Input) -> Line {
     let mut given = [0u8; 65600];
     let a = octets(buf, input, &mut given);
     let mut out = [0u8; 168000];
-    let bytes = part(&given, 0, a.count);
-    let k = if kind == JERREAD {
-        shell::reads::answer(bytes, &mut out)
-    } else {
-        shell::writes::answer(bytes, &mut out)
-    };
+    let k = shell::reads::answer(part(&given, 0, a.count), &mut out);
+    io::write_all(STDOUT_FILENO, part(&out, 0, k));
+    a
+}
+
+// The same of `jerwrite`.
+fn jerwrite_case(buf: &mut [u8], input: Input) -> Line {
+    let mut given = [0u8; 65600];
+    let a = octets(buf, input, &mut given);
+    let mut out = [0u8; 131200];
+    let k = shell::writes::answer(part(&given, 0, a.count), &mut out);
     io::write_all(STDOUT_FILENO, part(&out, 0, k));
     a
 }
@@ -168,7 +173,8 @@ fn one(buf: &mut [u8], input: Input, kind: u32) -> Line {
         TABLE => table_case(buf, input),
         TEXT => text_case(buf, input),
         READ | WRITE => call_case(buf, input, kind),
-        _ => program_case(buf, input, kind),
+        JERREAD => jerread_case(buf, input),
+        _ => jerwrite_case(buf, input),
     }
 }
 
