@@ -196,7 +196,7 @@ fn main() {
     let mut input = Input { at: 0, end: 0 };
     let mut turns: u32 = 4294967295;
     while 0 < turns {
-        let mut head = [0u32; 2];
+        let mut head = [0u32; 3];
         let line = numbers(&mut buf, input, &mut head);
         if line.over {
             return;

@@ -3,9 +3,6 @@ use lib.ListN.{length}
 use borrow.Author.Needs.{needs}
 use Rattle.cases.proofs.cases.Statement.{statement}
 use Rattle.cases.proofs.cases.Tie as tie
-use Rattle.cases.proofs.cases.Reads as reads
-use Rattle.cases.proofs.cases.Lts as lts
-use Rattle.cases.proofs.one.Reads as one-reads
 
 abbrev Inv-loop : tie.InvT-loop
 Inv-loop buf₀ kind count at₀ left₀ buf at left = length buf ≡ length buf₀
@@ -13,31 +10,24 @@ Inv-loop buf₀ kind count at₀ left₀ buf at left = length buf ≡ length buf
 abbrev μ-loop : tie.MeasureT-loop
 μ-loop buf₀ kind count at₀ left₀ buf at left = left
 
--- src/main.rt:179:5
 loop-holds : tie.Need-loop-holds Inv-loop μ-loop
 loop-holds c = search needs
 
--- src/main.rt:180:13
 one-requires : tie.Need-one-requires Inv-loop μ-loop
 one-requires c κs = search needs
 
--- src/main.rt:182:9
 sub-left : tie.Need-sub-left Inv-loop μ-loop
 sub-left c = search needs
 
--- src/main.rt:179:5
 loop-less : tie.Need-loop-less Inv-loop μ-loop
 loop-less c = search needs
 
--- src/main.rt:179:5
 loop-again : tie.Need-loop-again Inv-loop μ-loop
 loop-again c = search needs
 
--- src/main.rt:176:1
 same-length : tie.Need-same-length Inv-loop μ-loop
 same-length c = search needs
 
--- src/main.rt:176:1
 returns : tie.Need-returns Inv-loop μ-loop
 returns c = search needs
 
