@@ -17,7 +17,7 @@ use Rattle.jer.specs.Moved as moved
 use Rattle.jer.specs.Moved.{tokenIn}
 use Rattle.jer.specs.Respelled as spell
 use Rattle.jer.specs.Respelled.{Respelled}
-use Rattle.jer.proofs.Sane.{Sane}
+use Rattle.jer.specs.Sane.{Sane}
 use Rattle.jer.proofs.ValidRows.{both}
 use Rattle.jer.proofs.WeightGot.{refused, steps, at-kind}
 use Rattle.jer.proofs.SpellRead.{read-token}

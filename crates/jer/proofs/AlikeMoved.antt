@@ -7,7 +7,7 @@ use Rattle.jer.specs.Table.{Table, BOOLEAN, INTEGER, NULL, tNull, tBoole
 use Rattle.jer.specs.Read.{null?, read, elements, entries}
 use Rattle.jer.specs.Moved.{Moved, null, boolean, number, real, string, array, object, MovedItems, noItem, item, MovedMembers, noMember, member, tokenIn}
 use Rattle.jer.specs.Skipped.{SameAnswer, sameValue}
-use Rattle.jer.proofs.Sane.{Sane}
+use Rattle.jer.specs.Sane.{Sane}
 use Rattle.jer.proofs.OlderAgrees.{Each, end, more}
 use Rattle.jer.proofs.AlikeSame.{same-cause, int-same, string-same, kind-same, unwrapping-same}
 use Rattle.jer.proofs.AlikeArray.{ReadAlike, Elementwise, done, each, array-same}

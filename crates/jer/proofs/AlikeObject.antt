@@ -14,7 +14,7 @@ use Rattle.jer.specs.Value.{Val, vSeq, Parts}
 use Rattle.jer.specs.Answer.{Res, ok, no, bind, at, numberOf}
 use Rattle.jer.specs.Read.{Meaning, Entry, lookup, namesGood, nullAbsent, readMember, readMembers, readObject, readChosen, readChoice, readBraces}
 use Rattle.jer.specs.Skipped.{SameAnswer, sameValue, sameNumber}
-use Rattle.jer.proofs.Sane.{Sane}
+use Rattle.jer.specs.Sane.{Sane}
 use Rattle.jer.proofs.ValidLaws.{sameBytes-eq, position-of}
 use Rattle.jer.proofs.ValidRows.{both, sequence-type}
 use Rattle.jer.proofs.OlderAgrees.{Each, end, more}

@@ -18,7 +18,7 @@ use Rattle.jer.specs.Moved as moved
 use Rattle.jer.specs.Moved.{tokenIn}
 use Rattle.jer.specs.Respelled as spell
 use Rattle.jer.specs.Respelled.{Respelled}
-use Rattle.jer.proofs.Sane.{Sane}
+use Rattle.jer.specs.Sane.{Sane}
 use Rattle.jer.proofs.ValidLaws.{sameBytes-eq, position-some, alternative-some}
 use Rattle.jer.proofs.WeightGot.{cases, refused, got, steps}
 use Rattle.jer.proofs.OlderChoice.{refused-both}

@@ -14,7 +14,7 @@ use Rattle.jer.specs.Moved.{tokenIn}
 use Rattle.jer.specs.Skipped.{sameValue}
 use Rattle.jer.specs.Respelled as spell
 use Rattle.jer.specs.Respelled.{NamesTaken, Respelled, RespelledItems, RespelledElements, RespelledMembers, RespelledMember}
-use Rattle.jer.proofs.Sane.{Sane}
+use Rattle.jer.specs.Sane.{Sane}
 use Rattle.jer.proofs.ValidLaws.{alternative-some}
 use Rattle.jer.proofs.OlderAgrees.{Each, end, more}
 use Rattle.jer.proofs.AlikeRead.{octets-as, items-as, elements-as, object-as, choice-as, picked-as}

@@ -12,7 +12,7 @@ use Rattle.jer.specs.Read.{null?, read, elements, entries}
 use Rattle.jer.specs.Moved.{tokenIn}
 use Rattle.jer.specs.Skipped as skip
 use Rattle.jer.specs.Skipped.{SameAnswer, SkipAlike, SkipAlikeItems, SkipAlikeElements, SkipAlikeMembers}
-use Rattle.jer.proofs.Sane.{Sane}
+use Rattle.jer.specs.Sane.{Sane}
 use Rattle.jer.proofs.ValidLaws.{alternative-some}
 use Rattle.jer.proofs.WeightGot.{nothing, found}
 use Rattle.jer.proofs.OlderAgrees.{Each, end, more}

@@ -19,7 +19,7 @@ use Rattle.jer.specs.Answer.{Res, ok, no, bind, at}
 use Rattle.jer.specs.Octets.{unhex, unbase64}
 use Rattle.jer.specs.Read.{Meaning, Element, Entry, readInt, readItem, readOctets, octetsOf, readString, atKind, picked, unwrapping, lookup, namesGood, nullAbsent, withAbsent, withPresent, readMember, readMembers, readObject, nullValue, missingElement, readElement, surplus, readElements, readItems, readArray, readChosen, readChoice, readBraces, read, elements, entries}
 use Rattle.jer.specs.Fits.{Octets, Fits, fLeaf, fBool, fInt, fEnum, fNull, fOctets, fText, fSeq, fList, fWrapped, fUnwrapped, FitsItems, noItem, item, FitsParts, noMember, absentMember, presentMember}
-use Rattle.jer.proofs.Sane.{Sane}
+use Rattle.jer.specs.Sane.{Sane}
 use Rattle.jer.proofs.Absent.{left-absent}
 use Rattle.jer.proofs.ValidLaws.{position-some, alternative-some}
 use Rattle.jer.proofs.ValidRows.{both, array-kind}

@@ -16,7 +16,7 @@ use Rattle.jer.specs.Value.{Leaf, lBool, lInt, lEnum, lNull, lBytes, Val
 use Rattle.jer.specs.Rows.{ValueRow, row, bit, leafRow, poolOf, itemPool, partPool, above, rowsOf, itemRows, partRows}
 use Rattle.jer.specs.Judge.{took, andThen, Taker, isAbsent, takeParts, takeItems, rightRow, leaf, stringRow, sized, inBracket, takeSequence, takeList, takeChoice, takeRow, onRow, takeUnwrapped, takeValue}
 use Rattle.jer.specs.Fits.{FitsLeaf, Fits, fLeaf, fBool, fInt, fEnum, fNull, fOctets, fText, fSeq, fList, fWrapped, fUnwrapped, FitsItems, noItem, item, FitsParts, noMember, absentMember, presentMember}
-use Rattle.jer.proofs.Sane.{Sane}
+use Rattle.jer.specs.Sane.{Sane}
 use Rattle.jer.proofs.ValidRows.{unwrapped-kind}
 use Rattle.jer.proofs.JudgeTakes.{Stands, stands-first, stands-later, inner, take-plain, take-unwrapped}
 

@@ -17,7 +17,7 @@ use Rattle.jer.specs.Rows.{ValueRow, numbers, poolOf, rowsOf}
 use Rattle.jer.specs.Judge.{Took, took, wrong, takeValue, rowsIn, allTaken, judge}
 use Rattle.jer.specs.Fits.{Octets, Words, word, Fits}
 use Rattle.jer.specs.Means.{TableOf}
-use Rattle.jer.proofs.Sane.{Sane}
+use Rattle.jer.specs.Sane.{Sane}
 use Rattle.jer.proofs.ValidRows.{both}
 use Rattle.jer.proofs.JudgeRows.{takes-rows}
 use Rattle.jer.proofs.JudgeSpent.{After, WordRows, noRow, wordRow}

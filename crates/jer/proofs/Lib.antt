@@ -1,4 +1,3 @@
-pub mod Sane
 pub mod ValidLaws
 pub mod ValidRows
 pub mod ValidSane

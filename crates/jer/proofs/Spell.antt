@@ -13,7 +13,7 @@ use Rattle.jer.specs.Read.{read}
 use Rattle.jer.specs.Fits.{Fits, fLeaf, fSeq, fList, fWrapped, fUnwrapped, FitsItems, noItem, item, FitsParts, noMember, absentMember, presentMember}
 use Rattle.jer.specs.Write.{write}
 use Rattle.jer.specs.Cut.{ByAdditions, absents, grow, growItems, growParts}
-use Rattle.jer.proofs.Sane.{Sane}
+use Rattle.jer.specs.Sane.{Sane}
 use Rattle.jer.proofs.SpellLists.{unpadded}
 use Rattle.jer.proofs.ValidRows.{sequence-type}
 use Rattle.jer.proofs.SpellLeaf.{Spelled, spell-leaf}

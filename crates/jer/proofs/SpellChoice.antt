@@ -11,7 +11,7 @@ use Rattle.jer.specs.Answer.{ok}
 use Rattle.jer.specs.Read.{read}
 use Rattle.jer.specs.Write.{stringText, choiceText, write}
 use Rattle.jer.specs.Cut.{ByAdditions, grow}
-use Rattle.jer.proofs.Sane.{Sane}
+use Rattle.jer.specs.Sane.{Sane}
 use Rattle.jer.proofs.ValidLaws.{alternative-of}
 use Rattle.jer.proofs.OlderNames.{unwrapped-same}
 use Rattle.jer.proofs.SpellString.{string-quoted}

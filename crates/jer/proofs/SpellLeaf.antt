@@ -16,7 +16,7 @@ use Rattle.jer.specs.Read.{octetsOf, read}
 use Rattle.jer.specs.Fits.{Octets, FitsLeaf, fBool, fInt, fEnum, fNull, fOctets, fText}
 use Rattle.jer.specs.Write.{nullText, boolText, quotes, bytesText, write}
 use Rattle.jer.specs.Cut.{ByAdditions, grow}
-use Rattle.jer.proofs.Sane.{Sane}
+use Rattle.jer.specs.Sane.{Sane}
 use Rattle.jer.proofs.OlderNames.{base64-same}
 use Rattle.jer.proofs.SpellString.{string-quoted}
 use Rattle.jer.proofs.SpellNumber.{integer-spelled}

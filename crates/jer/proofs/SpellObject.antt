@@ -13,7 +13,7 @@ use Rattle.jer.specs.Value.{Val, vSeq, Parts, pnil, absent, present}
 use Rattle.jer.specs.Answer.{Res, ok, bind}
 use Rattle.jer.specs.Read.{Entry, lookup, namesGood, nullAbsent, readMember, readMembers, readObject, null?, read, entries}
 use Rattle.jer.specs.Cut.{absents}
-use Rattle.jer.proofs.Sane.{Sane}
+use Rattle.jer.specs.Sane.{Sane}
 use Rattle.jer.proofs.ValidLaws.{sameBytes-eq, sameBytes-refl, position-of}
 use Rattle.jer.proofs.SpellRead.{null-is-value, value-takes-null}
 use Rattle.jer.proofs.SpellArray.{with-absent, with-present}

@@ -13,7 +13,7 @@ use Rattle.jer.specs.Answer.{ok}
 use Rattle.jer.specs.Read.{readElements, readItems, null?, read, elements, entries}
 use Rattle.jer.specs.Write.{nullText, stringText, dropNulls, memberText, sequenceText, write, itemTexts, elementTexts, memberTexts}
 use Rattle.jer.specs.Cut.{ByAdditions, grow, growItems, growParts}
-use Rattle.jer.proofs.Sane.{Sane}
+use Rattle.jer.specs.Sane.{Sane}
 use Rattle.jer.proofs.Absent.{absent-left}
 use Rattle.jer.proofs.OlderNames.{array-same, miss-same}
 use Rattle.jer.proofs.SpellString.{string-quoted}

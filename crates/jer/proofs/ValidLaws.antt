@@ -10,7 +10,7 @@ use lib.ListN.{getD}
 use borrow.Author.Tests.{ltb-true, ltb-false, eqb-true, eqb-false, eq-eqb, not-true}
 use Rattle.jer.specs.Table.{Table, isType, isUnwrapped, countOf, typeAt, nameAt, firstWhere, sameBytes, position, Token, tNull, tBoolean, tNumber, tString, tArray, tObject, tokenCode, codeOf, sameToken, tokenOf, alternative}
 use Rattle.jer.specs.Valid.{every, allDiffer}
-use Rattle.jer.proofs.Sane.{Sane}
+use Rattle.jer.specs.Sane.{Sane}
 
 -- what a test says at i, and at j if j is later, it says at j
 from-next : (f : ℕ → Bool) (c : Bool) (i j : ℕ) → f i ≡ c → i ≤ j → (suc i ≤ j → f j ≡ c) → f j ≡ c

@@ -12,7 +12,7 @@ use borrow.Author.Tests.{ltb-true, ltb-false, leb-true, eqb-true, not-true, not-
 use Rattle.json.specs.Utf8.{utf8}
 use Rattle.jer.specs.Table.{Table, rowCount, field, MEMBER, kindOf, isType, countOf, rootOf, memberRow, typeAt, nameIn, nameAt}
 use Rattle.jer.specs.Valid.{goodAlone, goodPointers, goodRules, namesDiffer, noneOptional, goodArray, goodUnwrapped, goodSizes, orElse, pass, firstBad}
-use Rattle.jer.proofs.Sane.{Sane}
+use Rattle.jer.specs.Sane.{Sane}
 use Rattle.jer.proofs.ValidLaws.{every-below, differ-at, first-none}
 use Rattle.jer.proofs.ValidRows.{both, Holder, Block, Alone, aType, aMember, block-empty, member-no-type, alone, element-type, member-type, member-kind, names-differ, choice-required, array-good, unwrapped-good}
 

@@ -13,7 +13,7 @@ use Rattle.jer.specs.Answer.{ok}
 use Rattle.jer.specs.Read.{read}
 use Rattle.jer.specs.Rows.{rowsOf, poolOf}
 use Rattle.jer.specs.Write.{write}
-use Rattle.jer.proofs.Sane.{Sane}
+use Rattle.jer.specs.Sane.{Sane}
 use Rattle.jer.proofs.Weight.{weight, weight-least, padded-least}
 use Rattle.jer.proofs.WeightMeasure.{Light, Fair, rows-length}
 use Rattle.jer.proofs.WeightLeaf.{unwrapping-fair, null-fair, bool-fair, int-fair, real-fair, string-fair}

@@ -18,7 +18,7 @@ use Rattle.jer.specs.Octets.{unhex, hex, unbase64, base64, hexValue, bas
 use Rattle.jer.specs.Read.{Meaning, readInt, readItem, readOctets, octetsOf, readString, atKind, picked, unwrapping}
 use Rattle.jer.specs.Rows.{bit, poolOf}
 use Rattle.jer.specs.Write.{write, nullText, boolText, digits, intText, escapes, quotes, bytesText, choiceText}
-use Rattle.jer.proofs.Sane.{Sane}
+use Rattle.jer.specs.Sane.{Sane}
 use Rattle.jer.proofs.ValidLaws.{sameBytes-eq, position-some, alternative-some}
 use Rattle.jer.proofs.Weight.{weight, escapes-least}
 use Rattle.jer.proofs.WeightGot.{branch, cases, refused, nothing, got, found, steps, finds, at-kind}

@@ -15,7 +15,7 @@ use Rattle.jer.specs.Answer.{Res, ok}
 use Rattle.jer.specs.Read.{Entry, null?, lookup, namesGood, nullAbsent, readMember, readMembers, readObject, readChosen, readChoice, readBraces, read, entries}
 use Rattle.jer.specs.Rows.{poolOf, partPool}
 use Rattle.jer.specs.Write.{write, memberTexts, memberText, choiceText, sequenceText, braces, escapes}
-use Rattle.jer.proofs.Sane.{Sane}
+use Rattle.jer.specs.Sane.{Sane}
 use Rattle.jer.proofs.ValidLaws.{sameBytes-eq, position-some}
 use Rattle.jer.proofs.ValidRows.{both}
 use Rattle.jer.proofs.Weight.{weight, membersWeight}

@@ -15,7 +15,7 @@ use Rattle.jer.specs.Answer.{Res, ok, bind}
 use Rattle.jer.specs.Read.{null?, withAbsent, withPresent, nullValue, missingElement, readElement, surplus, readElements, readItems, readArray, read, elements}
 use Rattle.jer.specs.Rows.{poolOf, itemPool, partPool}
 use Rattle.jer.specs.Write.{write, itemTexts, elementTexts, nullText, sequenceText, keep, dropNulls, brackets}
-use Rattle.jer.proofs.Sane.{Sane}
+use Rattle.jer.specs.Sane.{Sane}
 use Rattle.jer.proofs.ValidRows.{both}
 use Rattle.jer.proofs.Weight.{weight, itemsWeight}
 use Rattle.jer.proofs.WeightGot.{cases, refused, nothing, got, found, steps}

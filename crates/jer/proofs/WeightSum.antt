@@ -8,7 +8,7 @@ use native.Mathlib.Omega.{arith}
 use Rattle.jer.specs.Table.{Table, isType, extensible, countOf, nameAt, sameBytes, position, isSome}
 use Rattle.jer.specs.Answer.{ok}
 use Rattle.jer.specs.Read.{Entry, lookup, namesGood}
-use Rattle.jer.proofs.Sane.{Sane}
+use Rattle.jer.specs.Sane.{Sane}
 use Rattle.jer.proofs.ValidLaws.{sameBytes-eq}
 use Rattle.jer.proofs.WeightGot.{branch, cases, refused, nothing}
 

@@ -15,7 +15,7 @@ use Rattle.jer.specs.Write.{write}
 use Rattle.jer.specs.Cut.{ByAdditions, cut, lacks, grow}
 use Rattle.jer.specs.Skipped.{SameAnswer, SkipAlike}
 use Rattle.jer.specs.Respelled.{Respelled}
-use Rattle.jer.proofs.Sane.{Sane}
+use Rattle.jer.specs.Sane.{Sane}
 use Rattle.jer.proofs.ReadPlaces.{AtBytes, read-at}
 use Rattle.jer.proofs.WeightLaws.{text-bounds}
 use Rattle.jer.proofs.JudgeRead.{text-fits}

@@ -10,6 +10,7 @@ pub mod Judge
 pub mod Fits
 pub mod Write
 pub mod Means
+pub mod Sane
 pub mod Cut
 pub mod Calls
 pub mod Contracts

@@ -12,7 +12,8 @@ use Rattle.json.specs.Utf8.{encode}
 use Rattle.json.proofs.Feed.{pick-none, pick-row}
 use Rattle.json.proofs.SoundRows.{pick-within, only, _⨾_}
 use Rattle.jer.specs.Octets.{onlyIf, hexValue, base64Value}
-use Rattle.tokens.specs.Strings.{bare, escaped, pieceAt, denoted}
+use Rattle.tokens.specs.declared.strings.Piece.the-variants.{Bare, Escaped}
+use Rattle.tokens.specs.Strings.{pieceAt, denoted}
 use Rattle.tokens.proofs.StringLaws.{bare-inside, escaped-inside, denoted-bare, denoted-escaped}
 use Rattle.octets.specs.Decode.{asciiValue, Digit, NoDigit}
 
@@ -41,13 +42,13 @@ unfolding asciiValue onlyIf
 wide x h = rw (le-ltb x 0x80 h)
 
 module _ {s : List ℕ} {i : ℕ} where
-  pub char-bare : {b : ℕ} → bare b ≡ pieceAt s i → b < 0x80 → Digit asciiValue s i b (i + 1)
+  pub char-bare : {b : ℕ} → Bare b ≡ pieceAt s i → b < 0x80 → Digit asciiValue s i b (i + 1)
   char-bare {b} e h = record { char = b; here = denoted-bare s i b e; is = ascii b h; inside = bare-inside s i e; ahead = omega arith }
 
-  pub char-wide : {b : ℕ} → bare b ≡ pieceAt s i → 0x80 ≤ b → NoDigit asciiValue s i
+  pub char-wide : {b : ℕ} → Bare b ≡ pieceAt s i → 0x80 ≤ b → NoDigit asciiValue s i
   char-wide {b} e h = record { char = b; rest = denoted s (i + 1); here = denoted-bare s i b e; is = wide b h }
 
-  module _ {x q : ℕ} (e : escaped x q ≡ pieceAt s i) where
+  module _ {x q : ℕ} (e : Escaped x q ≡ pieceAt s i) where
     pub escape-ascii : x < 0x80 → Digit asciiValue s i x q
     escape-ascii h =
         let w = escaped-inside s i e in

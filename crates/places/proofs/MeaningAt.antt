@@ -17,7 +17,7 @@ use Rattle.jer.specs.Value.{Val, vChoice}
 use Rattle.jer.specs.Answer.{Res, ok, no, bind}
 use Rattle.jer.specs.Read.{read, picked, unwrapping, readArray, readBraces, elements, entries}
 use Rattle.jer.specs.Rows.{rowsOf, poolOf}
-use Rattle.jer.proofs.Sane.{Sane}
+use Rattle.jer.specs.Sane.{Sane}
 use Rattle.jer.proofs.WeightLaws.{bounds-at}
 use Rattle.tokens.specs.Places.{pastSpace}
 use Rattle.tokens.proofs.TiePlace.{length-left}

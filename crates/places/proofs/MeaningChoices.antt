@@ -10,7 +10,7 @@ use Rattle.jer.specs.Table.{Table, isType, extensible, typeAt, position}
 use Rattle.jer.specs.Value.{vChoice}
 use Rattle.jer.specs.Answer.{bind, at}
 use Rattle.jer.specs.Read.{null?, read, entries, readChosen, readChoice}
-use Rattle.jer.proofs.Sane.{Sane}
+use Rattle.jer.specs.Sane.{Sane}
 use Rattle.tokens.specs.Places.{byteAt, pastSpace}
 use Rattle.tokens.specs.Skip.{pastValue}
 use Rattle.places.specs.ByPlaces.{ending, Reader, Follows, Part, Shut, afterPart, valuePlace, chosenAt, oneAt, memberAt, choiceAt}

@@ -10,7 +10,7 @@ use Rattle.jer.specs.Table.{Table, isType, extensible, elementOf, countOf, type
 use Rattle.jer.specs.Value.{Val, vSeq, vList, Vals, vcons, Parts}
 use Rattle.jer.specs.Answer.{Res, ok, no, bind}
 use Rattle.jer.specs.Read.{null?, read, elements, readItems, missingElement, withAbsent, withPresent, readElement, surplus, readElements}
-use Rattle.jer.proofs.Sane.{Sane}
+use Rattle.jer.specs.Sane.{Sane}
 use Rattle.tokens.proofs.TieFirst.{value-place}
 use Rattle.places.specs.ByPlaces.{Got, got, ending, Reader, Follows, Part, Shut, followsAt, afterPart, withItem, itemsAt, listAt, gotAbsent, gotPresent, surplusAt, noMore, elementFound, elementThen, elementsAt, arrayAt}
 use Rattle.places.proofs.MeaningFirst.{null-at, null-end}

@@ -15,7 +15,7 @@ use Rattle.jer.specs.Table.{Table, isType, extensible, countOf, typeAt, nameAt,
 use Rattle.jer.specs.Value.{vSeq}
 use Rattle.jer.specs.Answer.{Res, ok, no, bind, at}
 use Rattle.jer.specs.Read.{Entry, null?, read, entries, lookup, namesGood, nullAbsent, withAbsent, withPresent, readMember, readMembers, readObject}
-use Rattle.jer.proofs.Sane.{Sane}
+use Rattle.jer.specs.Sane.{Sane}
 use Rattle.tokens.specs.Strings.{denoted}
 use Rattle.tokens.specs.Skip.{pastValue}
 use Rattle.places.specs.ByPlaces.{ending, Reader, isNullAt, Follows, Part, followsAt, afterPart, bitOf, withBit, valuePlace, Scanned, Closed, Stopped, scanned, scanAt, memberFound, memberThen, membersAt, noPlaces, afterScan, objectAt}

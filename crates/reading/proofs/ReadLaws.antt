@@ -27,7 +27,7 @@ use Rattle.jer.specs.Rows.{numbers, rowsOf, poolOf}
 use Rattle.jer.specs.Read.{readWhole}
 use Rattle.jer.specs.Calls.{tableOf, goodTable, treeOf, goodText, judgedBy, tableJudged, textJudged, readText, over, rowNumbers, roomy, readAnswer, rowsAfter, poolAfter}
 use Rattle.jer.specs.Contracts.{ReadCall}
-use Rattle.jer.proofs.Sane.{Sane}
+use Rattle.jer.specs.Sane.{Sane}
 use Rattle.jer.proofs.ValidSane.{valid-sane}
 use Rattle.tokens.specs.Places.{pastSpace}
 use Rattle.places.specs.ByPlaces.{Got, readAt}

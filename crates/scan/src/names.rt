@@ -15,7 +15,8 @@ ghost use Prim.Native.Nat.{_+_, _<_, _≤_};
 ghost use lib.ListN.{length};
 ghost use Rattle.jer.specs.Table.{nameIn, sameBytes, position, table};
 ghost use Rattle.types.specs.Rows.{foundOf};
-ghost use Rattle.tokens.specs.Strings.{bare, pieceAt, denoted};
+ghost use Rattle.tokens.specs.declared.strings.Piece.the-variants.{Bare};
+ghost use Rattle.tokens.specs.Strings.{pieceAt, denoted};
 ghost use Rattle.places.specs.ByPlaces.{valuePlace};
 
 // The value of the member whose name stands at q.
@@ -32,7 +33,7 @@ pub fn value_place(s: &[u8], q: usize) -> usize
 
 // Whether the name in the member's row m is the string at p, whose plain first byte is b, or 256 for none: it is compared first.
 fn has_name(types: &[u32], names: &[u8], s: &[u8], m: usize, p: usize, b: u32) -> bool
-    requires { ⌜ (length (now s) ≤ 65536) × (b < 256 → bare b ≡ pieceAt (now s) p) ⌝ }
+    requires { ⌜ (length (now s) ≤ 65536) × (b < 256 → Bare b ≡ pieceAt (now s) p) ⌝ }
     ensures { λ r. ⌜ r ≡ sameBytes (nameIn (table (now (types .entry)) (now (names .entry))) m) (denoted (now (s .entry)) p) ⌝ }
 {
     let start = name_start(types, m);

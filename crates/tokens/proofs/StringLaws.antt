@@ -16,7 +16,7 @@ use Rattle.json.specs.Grammar.{paired}
 use Rattle.jer.specs.Table.{sameBytes}
 use Rattle.tokens.specs.declared.strings.Utf8.{Utf8}
 use Rattle.tokens.specs.Places.{byteAt}
-use Rattle.tokens.specs.Strings.{digitAt, unitAt, letterOf, isHigh, Piece, close, bare, escaped, unitPiece, escapeAt, pieceAt, denotedIn, denoted, closeIn, stringEnd, begins}
+use Rattle.tokens.specs.Strings.{digitAt, unitAt, letterOf, isHigh, Piece, Close, Bare, Escaped, unitPiece, escapeAt, pieceAt, denotedIn, denoted, closeIn, stringEnd, begins}
 use Rattle.tokens.specs.Enums.{Encodes}
 use Rattle.tokens.proofs.PlaceLaws.{byte-inside, byte-past, inside}
 use Rattle.tokens.proofs.SliceLaws.{same-end, same-short, same-more, same-differ, same-first, same-begins, same-room, same-other, sets-append}
@@ -131,7 +131,7 @@ pair-sum h l = refl
 -- ---- escapes
 
 module _ (s : List ℕ) (p b : ℕ) (e : b ≡ byteAt s p) where
-  pub escape-letter : (c : ℕ) → (b ≡ 0x75 → ⊥) → c ≡ letterOf b → escaped c (p + 1) ≡ escapeAt s p
+  pub escape-letter : (c : ℕ) → (b ≡ 0x75 → ⊥) → c ≡ letterOf b → Escaped c (p + 1) ≡ escapeAt s p
   unfolding escapeAt
   escape-letter c h k = rw (ne-eqb (byteAt s p) 0x75 (λ w. h (e ∙ w)), escapeAt, k, e)
 
@@ -143,15 +143,15 @@ module _ (s : List ℕ) (p b : ℕ) (e : b ≡ byteAt s p) where
     five : p + 5 ≡ p + 1 + 4
     five = omega arith
 
-    pub escape-low : x < 0xD800 → escaped x (p + 5) ≡ escapeAt s p
+    pub escape-low : x < 0xD800 → Escaped x (p + 5) ≡ escapeAt s p
     unfolding unitPiece
     escape-low k = rw (← unit-piece, lt-leb 0xD800 x k, unitPiece, five)
 
-    pub escape-high : 0xD800 ≤ x → 0xDBFF < x → escaped x (p + 5) ≡ escapeAt s p
+    pub escape-high : 0xD800 ≤ x → 0xDBFF < x → Escaped x (p + 5) ≡ escapeAt s p
     unfolding unitPiece
     escape-high j k = rw (← unit-piece, le-leb 0xD800 x j, lt-leb x 0xDBFF k, unitPiece, five)
 
-    pub escape-pair : (c y : ℕ) → 0xD800 ≤ x → x ≤ 0xDBFF → y ≡ unitAt s (p + 7) → c ≡ paired x y → escaped c (p + 11) ≡ escapeAt s p
+    pub escape-pair : (c y : ℕ) → 0xD800 ≤ x → x ≤ 0xDBFF → y ≡ unitAt s (p + 7) → c ≡ paired x y → Escaped c (p + 11) ≡ escapeAt s p
     unfolding unitPiece
     escape-pair c y j k g w =
         let n : p + 11 ≡ p + 1 + 10 = omega arith in
@@ -161,29 +161,29 @@ module _ (s : List ℕ) (p b : ℕ) (e : b ≡ byteAt s p) where
 -- ---- pieces
 
 module _ (s : List ℕ) (p : ℕ) where
-  piece-none : byteAt s p ≡ 256 → pieceAt s p ≡ close
+  piece-none : byteAt s p ≡ 256 → pieceAt s p ≡ Close
   unfolding pieceAt
   piece-none e = rw (e, pieceAt)
 
-  pub piece-past : length s ≤ p → close ≡ pieceAt s p
+  pub piece-past : length s ≤ p → Close ≡ pieceAt s p
   piece-past h = sym (piece-none (byte-past s p h))
 
   -- a piece that does not close stands inside
-  pub piece-inside : (pieceAt s p ≡ close → ⊥) → p < length s
+  pub piece-inside : (pieceAt s p ≡ Close → ⊥) → p < length s
   piece-inside h = inside s p (λ e. h (piece-none e))
 
   -- by the byte that the total getter gives
-  pub piece-plain : {b : ℕ} → b ≡ byteAt s p → b < 256 → (b ≡ 0x22 → ⊥) → (b ≡ 0x5C → ⊥) → bare b ≡ pieceAt s p
+  pub piece-plain : {b : ℕ} → b ≡ byteAt s p → b < 256 → (b ≡ 0x22 → ⊥) → (b ≡ 0x5C → ⊥) → Bare b ≡ pieceAt s p
   unfolding pieceAt
   piece-plain e h j k =
       rw (ne-eqb (byteAt s p) 0x22 (λ x. j (e ∙ x)), ne-eqb (byteAt s p) 256 (λ x. omega arith), pieceAt)
-      (rw (ne-eqb (byteAt s p) 0x5C (λ x. k (e ∙ x))) (ap bare e))
+      (rw (ne-eqb (byteAt s p) 0x5C (λ x. k (e ∙ x))) (ap Bare e))
 
   module _ (l : p < length s) where
     same-byte : getD s p 0 ≡ byteAt s p
     same-byte = byte-inside s p l
 
-    pub piece-quote : getD s p 0 ≡ 0x22 → close ≡ pieceAt s p
+    pub piece-quote : getD s p 0 ≡ 0x22 → Close ≡ pieceAt s p
     unfolding pieceAt
     piece-quote e = rw (eq-eqb (byteAt s p) 0x22 (sym same-byte ∙ e), pieceAt)
 
@@ -193,14 +193,14 @@ module _ (s : List ℕ) (p : ℕ) where
         let w : byteAt s p ≡ 0x5C = sym same-byte ∙ e in
         rw (ne-eqb (byteAt s p) 0x22 (λ x. omega arith), ne-eqb (byteAt s p) 256 (λ x. omega arith), pieceAt) (rw (eq-eqb (byteAt s p) 0x5C w))
 
-    pub piece-bare : getD s p 0 < 256 → (getD s p 0 ≡ 0x22 → ⊥) → (getD s p 0 ≡ 0x5C → ⊥) → bare (getD s p 0) ≡ pieceAt s p
+    pub piece-bare : getD s p 0 < 256 → (getD s p 0 ≡ 0x22 → ⊥) → (getD s p 0 ≡ 0x5C → ⊥) → Bare (getD s p 0) ≡ pieceAt s p
     piece-bare = piece-plain same-byte
 
 -- an escape goes ahead
 abbrev Ahead : ℕ → Piece → Type 0
-Ahead p close = Unit {0}
-Ahead p (bare b) = Unit {0}
-Ahead p (escaped x q) = p < q
+Ahead p Close = Unit {0}
+Ahead p (Bare b) = Unit {0}
+Ahead p (Escaped x q) = p < q
 
 unit-ahead : (s : List ℕ) (p x : ℕ) → Ahead p (unitPiece s p x)
 unfolding unitPiece
@@ -215,9 +215,9 @@ unfolding escapeAt
 escape-ahead s p = go (eqb (byteAt s (p + 1)) 0x75) refl (unit-ahead s (p + 1 + 1) (unitAt s (p + 1 + 1)))
   where
     less : (x : Piece) → Ahead (p + 1 + 1) x → Ahead p x
-    less close h = tt
-    less (bare b) h = tt
-    less (escaped x q) h = omega arith
+    less Close h = tt
+    less (Bare b) h = tt
+    less (Escaped x q) h = omega arith
 
     go : (t : Bool) → eqb (byteAt s (p + 1)) 0x75 ≡ t → Ahead (p + 1 + 1) (unitPiece s (p + 1 + 1) (unitAt s (p + 1 + 1))) → Ahead p (escapeAt s (p + 1))
     go true e a = rw (e, escapeAt) (less (unitPiece s (p + 1 + 1) (unitAt s (p + 1 + 1))) a)
@@ -227,7 +227,7 @@ piece-ahead : (s : List ℕ) (p : ℕ) → Ahead p (pieceAt s p)
 unfolding pieceAt
 piece-ahead s p = go (eqb (byteAt s p) 0x22 || eqb (byteAt s p) 256) refl
   where
-    go₂ : (t : Bool) → Ahead p (elim t as (λ x. Piece) [ true ↦ escapeAt s (p + 1) | false ↦ bare (byteAt s p) ])
+    go₂ : (t : Bool) → Ahead p (elim t as (λ x. Piece) [ true ↦ escapeAt s (p + 1) | false ↦ Bare (byteAt s p) ])
     go₂ true = escape-ahead s p
     go₂ false = tt
 
@@ -235,20 +235,20 @@ piece-ahead s p = go (eqb (byteAt s p) 0x22 || eqb (byteAt s p) 256) refl
     go true e = rw (e, pieceAt) tt
     go false e = rw (e, pieceAt) (go₂ (eqb (byteAt s p) 0x5C))
 
-pub escaped-ahead : (s : List ℕ) (p x q : ℕ) → pieceAt s p ≡ escaped x q → p < q
+pub escaped-ahead : (s : List ℕ) (p x q : ℕ) → pieceAt s p ≡ Escaped x q → p < q
 escaped-ahead s p x q e = rw e at (piece-ahead s p)
 
 -- where a piece stands
-pub bare-inside : (s : List ℕ) (p : ℕ) {b : ℕ} → bare b ≡ pieceAt s p → p < length s
+pub bare-inside : (s : List ℕ) (p : ℕ) {b : ℕ} → Bare b ≡ pieceAt s p → p < length s
 bare-inside s p {b} e = piece-inside s p (λ w. clash (e ∙ w))
   where
-    clash : bare b ≡ close → ⊥
+    clash : Bare b ≡ Close → ⊥
     clash w = let z : _≡_ {A = ℕ} 0 1 = cc in omega arith
 
-pub escaped-inside : (s : List ℕ) (p : ℕ) {x q : ℕ} → escaped x q ≡ pieceAt s p → (p < length s) × (p < q)
+pub escaped-inside : (s : List ℕ) (p : ℕ) {x q : ℕ} → Escaped x q ≡ pieceAt s p → (p < length s) × (p < q)
 escaped-inside s p {x} {q} e = (piece-inside s p (λ w. clash (e ∙ w)), escaped-ahead s p x q (sym e))
   where
-    clash : escaped x q ≡ close → ⊥
+    clash : Escaped x q ≡ Close → ⊥
     clash w = let z : _≡_ {A = ℕ} 0 1 = cc in omega arith
 
 -- ---- what a string denotes, piece by piece
@@ -260,12 +260,12 @@ denoted-more s zero p h = rw (← piece-past s p (omega arith), denotedIn)
 denoted-more s (suc k) p h = go (λ q m. denoted-more s k q (omega arith)) (pieceAt s p) refl
   where
     go : ((q : ℕ) → p < q → denotedIn k s q ≡ denotedIn (suc k) s q) → (x : Piece) → pieceAt s p ≡ x → denotedIn (suc k) s p ≡ denotedIn (suc (suc k)) s p
-    go ih close e = rw (e, denotedIn)
-    go ih (bare b) e = rw (e, denotedIn) (ap (λ (l : List ℕ). b ∷ l) (ih (p + 1) (omega arith)))
-    go ih (escaped x q) e = rw (e, denotedIn) (ap (λ (l : List ℕ). encode x ++ l) (ih q (escaped-ahead s p x q e)))
+    go ih Close e = rw (e, denotedIn)
+    go ih (Bare b) e = rw (e, denotedIn) (ap (λ (l : List ℕ). b ∷ l) (ih (p + 1) (omega arith)))
+    go ih (Escaped x q) e = rw (e, denotedIn) (ap (λ (l : List ℕ). encode x ++ l) (ih q (escaped-ahead s p x q e)))
 
 module _ (s : List ℕ) (p : ℕ) where
-  pub denoted-close : close ≡ pieceAt s p → denoted s p ≡ []
+  pub denoted-close : Close ≡ pieceAt s p → denoted s p ≡ []
   unfolding denoted denotedIn
   denoted-close e = go (length s)
     where
@@ -273,7 +273,7 @@ module _ (s : List ℕ) (p : ℕ) where
       go zero = refl
       go (suc n) = rw (← e, denotedIn)
 
-  pub denoted-bare : (b : ℕ) → bare b ≡ pieceAt s p → denoted s p ≡ b ∷ denoted s (p + 1)
+  pub denoted-bare : (b : ℕ) → Bare b ≡ pieceAt s p → denoted s p ≡ b ∷ denoted s (p + 1)
   unfolding denoted denotedIn
   denoted-bare b e = go (length s) refl (bare-inside s p e)
     where
@@ -281,7 +281,7 @@ module _ (s : List ℕ) (p : ℕ) where
       go zero h l = absurd (omega arith)
       go (suc n) h l = rw (← e, denotedIn) (ap (λ (l : List ℕ). b ∷ l) (denoted-more s n (p + 1) (omega arith)))
 
-  pub denoted-escaped : (x q : ℕ) → escaped x q ≡ pieceAt s p → denoted s p ≡ encode x ++ denoted s q
+  pub denoted-escaped : (x q : ℕ) → Escaped x q ≡ pieceAt s p → denoted s p ≡ encode x ++ denoted s q
   unfolding denoted denotedIn
   denoted-escaped x q e = go (length s) refl (escaped-inside s p e)
     where
@@ -290,7 +290,7 @@ module _ (s : List ℕ) (p : ℕ) where
       go (suc n) h l = rw (← e, denotedIn) (ap (λ (l : List ℕ). encode x ++ l) (denoted-more s n q (omega arith)))
 
 -- a string whose first byte stands for itself, against bytes that do not begin with it
-pub denoted-other : (s : List ℕ) (p : ℕ) (names : List ℕ) (from : ℕ) {b : ℕ} → bare b ≡ pieceAt s p → (byteAt names from ≡ b → ⊥)
+pub denoted-other : (s : List ℕ) (p : ℕ) (names : List ℕ) (from : ℕ) {b : ℕ} → Bare b ≡ pieceAt s p → (byteAt names from ≡ b → ⊥)
     → (n : ℕ) → sameBytes (take n (drop from names)) (denoted s p) ≡ false
 denoted-other s p names from {b} e d n = rw (denoted-bare s p b e) (same-first names from b (denoted s (p + 1)) n d)
 
@@ -425,9 +425,9 @@ denoted-in-few s zero p = omega arith
 denoted-in-few s (suc k) p = go (pieceAt s p) refl (denoted-in-few s k)
   where
     go : (x : Piece) → pieceAt s p ≡ x → ((q : ℕ) → length (denotedIn k s q) ≤ 4 * k) → length (denotedIn (suc k) s p) ≤ 4 * suc k
-    go close e h = rw (e, denotedIn) (omega arith)
-    go (bare b) e h = rw (e, denotedIn) (omega (arith, h (p + 1)))
-    go (escaped x q) e h = rw (e, denotedIn) (omega (arith, length-append (encode x) (denotedIn k s q), encode-few x, h q))
+    go Close e h = rw (e, denotedIn) (omega arith)
+    go (Bare b) e h = rw (e, denotedIn) (omega (arith, h (p + 1)))
+    go (Escaped x q) e h = rw (e, denotedIn) (omega (arith, length-append (encode x) (denotedIn k s q), encode-few x, h q))
 
 pub denoted-few : (s : List ℕ) (p : ℕ) → length (denoted s p) ≤ 4 * length s
 unfolding denoted
@@ -441,13 +441,13 @@ pub record Counting (s : List ℕ) (p i n : ℕ) : Type 0 where
   pub few : n ≤ 4 * i
 
 module _ {s : List ℕ} {p i n : ℕ} (f : Counting s p i n) where
-  pub counting-close : close ≡ pieceAt s i → n ≡ length (denoted s p)
+  pub counting-close : Close ≡ pieceAt s i → n ≡ length (denoted s p)
   counting-close e = omega (arith, ap length (denoted-close s i e))
 
-  counting-bare : {b : ℕ} → bare b ≡ pieceAt s i → Counting s p (i + 1) (n + 1)
+  counting-bare : {b : ℕ} → Bare b ≡ pieceAt s i → Counting s p (i + 1) (n + 1)
   counting-bare {b} e = record { counted = omega (arith, ap length (denoted-bare s i b e)); few = omega arith }
 
-  counting-escaped : {x q : ℕ} {c : Utf8} → escaped x q ≡ pieceAt s i → Encodes c (encode x) → Counting s p q (n + c .len)
+  counting-escaped : {x q : ℕ} {c : Utf8} → Escaped x q ≡ pieceAt s i → Encodes c (encode x) → Counting s p q (n + c .len)
   counting-escaped {x} {q} e g = record {
     counted = omega (arith, g .len, ap length (denoted-escaped s i x q e), length-append (encode x) (denoted s q));
     few = omega (arith, g .few, escaped-inside s i e);
@@ -467,10 +467,10 @@ copying-start s p before j = record {
 }
 
 module _ {s : List ℕ} {p : ℕ} {before : List ℕ} {j : ℕ} {now : List ℕ} {i n : ℕ} (f : Copying s p before j now i n) where
-  pub copying-close : close ≡ pieceAt s i → now ≡ sets before j (denoted s p)
+  pub copying-close : Close ≡ pieceAt s i → now ≡ sets before j (denoted s p)
   copying-close e = rw (denoted-close s i e) at (f .stored)
 
-  pub copying-bare : {b : ℕ} {after : List ℕ} → bare b ≡ pieceAt s i → after ≡ set now (j + n) b → length after ≡ length now → Copying s p before j after (i + 1) (n + 1)
+  pub copying-bare : {b : ℕ} {after : List ℕ} → Bare b ≡ pieceAt s i → after ≡ set now (j + n) b → length after ≡ length now → Copying s p before j after (i + 1) (n + 1)
   copying-bare {b} e h k = record {
     counting = counting-bare (f .counting) e;
     stored = rw (h, add-one n, add-suc j n) (rw (denoted-bare s i b e) at (f .stored));
@@ -481,7 +481,7 @@ module _ {s : List ℕ} {p : ℕ} {before : List ℕ} {j : ℕ} {now : List ℕ}
   pub copying-rest : {m : ℕ} {after : List ℕ} → m ≡ length (denoted s i) → after ≡ sets now (j + n) (denoted s i) → (n + m ≡ length (denoted s p)) × (after ≡ sets before j (denoted s p))
   copying-rest e h = (omega (arith, e, f .counting .counted), h ∙ f .stored)
 
-  pub copying-escaped : {x q : ℕ} {c : Utf8} {after : List ℕ} → escaped x q ≡ pieceAt s i → Encodes c (encode x) → after ≡ sets now (j + n) (take (c .len) (c .bytes))
+  pub copying-escaped : {x q : ℕ} {c : Utf8} {after : List ℕ} → Escaped x q ≡ pieceAt s i → Encodes c (encode x) → after ≡ sets now (j + n) (take (c .len) (c .bytes))
       → length after ≡ length now → Copying s p before j after q (n + c .len)
   copying-escaped {x} {q} {c} e g h k =
       let w : j + (n + length (encode x)) ≡ j + n + length (encode x) = omega arith in
@@ -497,10 +497,10 @@ pub record Comparing (s : List ℕ) (p : ℕ) (name : List ℕ) (i k : ℕ) : Ty
   pub within : k ≤ length name
 
 module _ {s : List ℕ} {p : ℕ} {name : List ℕ} {i k : ℕ} (f : Comparing s p name i k) where
-  pub comparing-close : close ≡ pieceAt s i → eqb k (length name) ≡ sameBytes name (denoted s p)
+  pub comparing-close : Close ≡ pieceAt s i → eqb k (length name) ≡ sameBytes name (denoted s p)
   comparing-close e = same-end name k (f .within) ∙ rw (← denoted-close s i e) (f .same)
 
-  module _ {b : ℕ} (e : bare b ≡ pieceAt s i) where
+  module _ {b : ℕ} (e : Bare b ≡ pieceAt s i) where
     rest : sameBytes (drop k name) (b ∷ denoted s (i + 1)) ≡ sameBytes name (denoted s p)
     rest = rw (← denoted-bare s i b e) (f .same)
 
@@ -513,7 +513,7 @@ module _ {s : List ℕ} {p : ℕ} {name : List ℕ} {i k : ℕ} (f : Comparing s
     pub comparing-bare : k < length name → getD name k 0 ≡ b → Comparing s p name (i + 1) (k + 1)
     comparing-bare h d = record { same = sym (same-more name k b (denoted s (i + 1)) h d) ∙ rest; within = omega arith }
 
-  module _ {x q : ℕ} {c : Utf8} (e : escaped x q ≡ pieceAt s i) (g : Encodes c (encode x)) where
+  module _ {x q : ℕ} {c : Utf8} (e : Escaped x q ≡ pieceAt s i) (g : Encodes c (encode x)) where
     rest-escaped : sameBytes (drop k name) (take (c .len) (c .bytes) ++ denoted s q) ≡ sameBytes name (denoted s p)
     rest-escaped = rw (g .bytes, ← denoted-escaped s i x q e) (f .same)
 

@@ -13,7 +13,8 @@ use Rattle.json.specs.Utf8.{encode, Wide, two, threeE0, threeE1, threeED, three
 use Rattle.json.specs.Grammar.{Hex, digit, upper, lower, Four, four, Escape, quote, backslash, slash, backspace, formFeed, lineFeed, carriageReturn, tabulation, paired, Char, plain, wide, escape, unit, pair, Chars, noChar, char, Quoted, quoted}
 use Rattle.json.proofs.Feed.{pick-row, in-true, in-false}
 use Rattle.tokens.specs.Places.{byteAt}
-use Rattle.tokens.specs.Strings.{digitAt, unitAt, letterOf, close, bare, escaped, unitPiece, escapeAt, pieceAt, denotedIn, denoted, closeIn, stringEnd}
+use Rattle.tokens.specs.declared.strings.Piece.the-variants as piece
+use Rattle.tokens.specs.Strings.{digitAt, unitAt, letterOf, unitPiece, escapeAt, pieceAt, denotedIn, denoted, closeIn, stringEnd}
 use Rattle.tokens.proofs.TiePlace.{byte-on, byte-here, drop-next, drop-past, past-append, length-left}
 
 -- ---- bytes that stand for themselves
@@ -116,11 +117,11 @@ chars-close {s} {p} ys (char {bs = bs} {cs = cs} c cc′ e d) h =
 
 -- ---- pieces
 
-bare-piece : (s : List ℕ) (p b : ℕ) → byteAt s p ≡ b → Bare b → pieceAt s p ≡ bare b
+bare-piece : (s : List ℕ) (p b : ℕ) → byteAt s p ≡ b → Bare b → pieceAt s p ≡ piece.Bare b
 unfolding pieceAt
 bare-piece s p b e h = rw (e, pieceAt, ne-eqb b 0x22 (h .1), ne-eqb b 256 (λ q. omega arith), e, ne-eqb b 0x5C (h .2), e)
 
-mark-piece : (s : List ℕ) (p : ℕ) → byteAt s p ≡ 0x22 → pieceAt s p ≡ close
+mark-piece : (s : List ℕ) (p : ℕ) → byteAt s p ≡ 0x22 → pieceAt s p ≡ piece.Close
 unfolding pieceAt
 mark-piece s p e = rw (e, pieceAt)
 
@@ -140,7 +141,7 @@ letter-facts lineFeed = (refl, refl, refl)
 letter-facts carriageReturn = (refl, refl, refl)
 letter-facts tabulation = (refl, refl, refl)
 
-letter-piece : {c b : ℕ} (s : List ℕ) (p : ℕ) (ws : List ℕ) → Escape c b → drop p s ≡ 0x5C ∷ b ∷ ws → pieceAt s p ≡ escaped c (suc (suc p))
+letter-piece : {c b : ℕ} (s : List ℕ) (p : ℕ) (ws : List ℕ) → Escape c b → drop p s ≡ 0x5C ∷ b ∷ ws → pieceAt s p ≡ piece.Escaped c (suc (suc p))
 unfolding escapeAt
 letter-piece {b = b} s p ws x h =
     let f = letter-facts x in
@@ -166,19 +167,19 @@ escape-unit {fs = fs} s p ws f h =
     slash-piece s p _ h ∙ rw (e, escapeAt, add-one (suc p), four-at s (suc (suc p)) ws f (drop-next s (suc p) 0x75 _ g))
 
 unit-piece : {x : ℕ} {fs : List ℕ} (s : List ℕ) (p : ℕ) (ws : List ℕ) → Four x fs → (In 0xD800 0xDFFF x → ⊥) → drop p s ≡ 0x5C ∷ 0x75 ∷ (fs ++ ws)
-    → pieceAt s p ≡ escaped x (past p (0x5C ∷ 0x75 ∷ fs))
+    → pieceAt s p ≡ piece.Escaped x (past p (0x5C ∷ 0x75 ∷ fs))
 unfolding unitPiece past
 unit-piece {x} s p ws (four i j k l e) n h =
-    escape-unit s p ws (four i j k l e) h ∙ rw (in-false 0xD800 0xDBFF x (λ g. n (omega arith)), unitPiece) (ap (escaped x) (omega arith))
+    escape-unit s p ws (four i j k l e) h ∙ rw (in-false 0xD800 0xDBFF x (λ g. n (omega arith)), unitPiece) (ap (piece.Escaped x) (omega arith))
 
 pair-piece : {x y : ℕ} {fs gs : List ℕ} (s : List ℕ) (p : ℕ) (ws : List ℕ) → Four x fs → In 0xD800 0xDBFF x → Four y gs → drop p s ≡ 0x5C ∷ 0x75 ∷ ((fs ++ (0x5C ∷ 0x75 ∷ gs)) ++ ws)
-    → pieceAt s p ≡ escaped (paired x y) (past p (0x5C ∷ 0x75 ∷ (fs ++ (0x5C ∷ 0x75 ∷ gs))))
+    → pieceAt s p ≡ piece.Escaped (paired x y) (past p (0x5C ∷ 0x75 ∷ (fs ++ (0x5C ∷ 0x75 ∷ gs))))
 unfolding unitPiece past
 pair-piece {x} {y} s p ws (four {a = a} {b = b} {c = c} {d = d} i j k l e) n (four i′ j′ k′ l′ e′) h =
     let xs : List ℕ = 0x5C ∷ 0x75 ∷ a ∷ b ∷ c ∷ d ∷ 0x5C ∷ 0x75 ∷ [] in
     let q : suc (suc p) + 6 ≡ past p xs = omega arith in
     let g = four-at s (past p xs) ws (four i′ j′ k′ l′ e′) (drop-past s p xs _ h) in
-    escape-unit s p _ (four i j k l e) h ∙ rw (in-true 0xD800 0xDBFF x n, unitPiece, q, g) (ap (escaped (paired x y)) (omega arith))
+    escape-unit s p _ (four i j k l e) h ∙ rw (in-true 0xD800 0xDBFF x n, unitPiece, q, g) (ap (piece.Escaped (paired x y)) (omega arith))
 
 -- ---- what the string denotes
 
@@ -194,11 +195,11 @@ step-denotes {s} {p} {q} {xs} {bs} {t} c f l d = record { spelled = go′ }
     go′ zero m = absurd (omega arith)
     go′ (suc n) m = f n ∙ ap (λ (u : List ℕ). c ++ u) (d .spelled n (omega arith))
 
-denoted-bare : (s : List ℕ) (p b n : ℕ) → pieceAt s p ≡ bare b → denotedIn (suc n) s p ≡ b ∷ denotedIn n s (suc p)
+denoted-bare : (s : List ℕ) (p b n : ℕ) → pieceAt s p ≡ piece.Bare b → denotedIn (suc n) s p ≡ b ∷ denotedIn n s (suc p)
 unfolding denotedIn
 denoted-bare s p b n e = rw (e, denotedIn, add-one p)
 
-denoted-escaped : (s : List ℕ) (p x q n : ℕ) → pieceAt s p ≡ escaped x q → denotedIn (suc n) s p ≡ encode x ++ denotedIn n s q
+denoted-escaped : (s : List ℕ) (p x q n : ℕ) → pieceAt s p ≡ piece.Escaped x q → denotedIn (suc n) s p ≡ encode x ++ denotedIn n s q
 unfolding denotedIn
 denoted-escaped s p x q n e = rw (e, denotedIn)
 
@@ -216,7 +217,7 @@ bares-denote [] ws g h d = d
 bares-denote {s} {p} (b ∷ xs) ws g h d =
     step-denotes (b ∷ []) (λ n. denoted-bare s p b n (bare-piece s p b (byte-here s p b _ h) (g .0))) (omega arith) (bares-denote xs ws (g .1) (drop-next s p b (xs ++ ws) h) d)
 
-escape-denotes : {s : List ℕ} {p x : ℕ} {bs t : List ℕ} (b : ℕ) (xs : List ℕ) → pieceAt s p ≡ escaped x (past p (b ∷ xs)) → Denotes s (past p (b ∷ xs)) bs t → Denotes s p (b ∷ xs ++ bs) (encode x ++ t)
+escape-denotes : {s : List ℕ} {p x : ℕ} {bs t : List ℕ} (b : ℕ) (xs : List ℕ) → pieceAt s p ≡ piece.Escaped x (past p (b ∷ xs)) → Denotes s (past p (b ∷ xs)) bs t → Denotes s p (b ∷ xs ++ bs) (encode x ++ t)
 escape-denotes {s} {p} {x} {bs} b xs e d = step-denotes (encode x) (λ n. denoted-escaped s p x _ n e) (omega (arith, length-append xs bs)) d
 
 char-denotes : {s : List ℕ} {p : ℕ} {c xs bs t : List ℕ} (ws : List ℕ) → Char c xs → drop p s ≡ xs ++ ws → Denotes s (past p xs) bs t → Denotes s p (xs ++ bs) (c ++ t)

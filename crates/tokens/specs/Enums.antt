@@ -8,8 +8,6 @@ use lib.Dec.{leb}
 use lib.ListN.{length, take}
 use Rattle.tokens.specs.declared.cursor.Class.{Class}
 use Rattle.tokens.specs.declared.cursor.Class.the-variants.{Space, Between, Word, Digit}
-use Rattle.tokens.specs.declared.strings.Piece as code
-use Rattle.tokens.specs.declared.strings.Piece.the-variants.{Close, Bare, Escaped}
 use Rattle.tokens.specs.declared.strings.Utf8.{Utf8}
 use Rattle.tokens.specs.declared.numbers.Magnitude.{Magnitude}
 use Rattle.tokens.specs.declared.numbers.Magnitude.the-variants.{Fits, Over}
@@ -18,7 +16,7 @@ use Rattle.tokens.specs.declared.numbers.Integer.the-variants.{Whole, Ba
 use Rattle.tokens.specs.Places.{isSpace}
 use Rattle.tokens.specs.Skip.{isEnd, isBetween}
 use Rattle.tokens.specs.Numbers.{isDigit}
-use Rattle.tokens.specs.Strings.{Piece, close, bare, escaped}
+use Rattle.tokens.specs.Strings.{Piece, Close, Bare, Escaped}
 
 -- the test of a class of bytes
 abbrev pub passes : Class → ℕ → Bool
@@ -27,14 +25,8 @@ passes Between b = isBetween b
 passes Word b = not (isEnd b)
 passes Digit b = isDigit b
 
--- the piece of a string
-abbrev pub pieceOf : code.Piece → Piece
-pieceOf Close = close
-pieceOf (Bare b) = bare b
-pieceOf (Escaped x q) = escaped x q
-
--- its character's UTF-8 is at most four bytes
-abbrev pub Coded : code.Piece → Type 0
+-- a piece whose character's UTF-8 is at most four bytes
+abbrev pub Coded : Piece → Type 0
 Coded Close = Unit {0}
 Coded (Bare b) = Unit {0}
 Coded (Escaped x q) = x < 2097152

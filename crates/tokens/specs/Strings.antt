@@ -8,6 +8,8 @@ use Rattle.json.specs.Bytes.{on, pick}
 use Rattle.json.specs.Utf8.{encode}
 use Rattle.json.specs.Grammar.{paired}
 use Rattle.tokens.specs.Places.{byteAt}
+pub use Rattle.tokens.specs.declared.strings.Piece.{Piece}
+pub use Rattle.tokens.specs.declared.strings.Piece.the-variants.{Close, Bare, Escaped}
 
 -- a hexadecimal digit's value, from the ends of its range; 0 for any other byte
 unfoldable pub digitAt : List ℕ → ℕ → ℕ
@@ -24,32 +26,26 @@ letterOf b = pick b (on 0x62 0x62 (λ b. 0x08) ∷ on 0x66 0x66 (λ b. 0x0C) ∷
 abbrev pub isHigh : ℕ → Bool
 isHigh x = leb 0xD800 x && leb x 0xDBFF
 
--- one piece of a string: the closing quotation mark or the text's end, a byte that stands for itself, or an escaped character
--- with the place after it
-pub data Piece : Type 0 where
-  close : Piece
-  bare : ℕ → Piece
-  escaped : ℕ → ℕ → Piece
-
 -- the unit x of an escape whose digits stand at p: a character, or the high half of a pair
 unfoldable pub unitPiece : List ℕ → ℕ → ℕ → Piece
-unitPiece s p x = elim (isHigh x) [ true ↦ escaped (paired x (unitAt s (p + 6))) (p + 10) | false ↦ escaped x (p + 4) ]
+unitPiece s p x = elim (isHigh x) [ true ↦ Escaped (paired x (unitAt s (p + 6))) (p + 10) | false ↦ Escaped x (p + 4) ]
 
 -- after a backslash
 unfoldable pub escapeAt : List ℕ → ℕ → Piece
-escapeAt s p = elim (eqb (byteAt s p) 0x75) [ true ↦ unitPiece s (p + 1) (unitAt s (p + 1)) | false ↦ escaped (letterOf (byteAt s p)) (p + 1) ]
+escapeAt s p = elim (eqb (byteAt s p) 0x75) [ true ↦ unitPiece s (p + 1) (unitAt s (p + 1)) | false ↦ Escaped (letterOf (byteAt s p)) (p + 1) ]
 
+-- one piece of a string
 unfoldable pub pieceAt : List ℕ → ℕ → Piece
 pieceAt s p =
     elim (eqb (byteAt s p) 0x22 || eqb (byteAt s p) 256) [
-      | true ↦ close
-      | false ↦ elim (eqb (byteAt s p) 0x5C) [ true ↦ escapeAt s (p + 1) | false ↦ bare (byteAt s p) ]
+      | true ↦ Close
+      | false ↦ elim (eqb (byteAt s p) 0x5C) [ true ↦ escapeAt s (p + 1) | false ↦ Bare (byteAt s p) ]
     ]
 
 -- the UTF-8 of at most n pieces from p on
 unfoldable pub denotedIn : ℕ → List ℕ → ℕ → List ℕ
 denotedIn zero s p = []
-denotedIn (suc n) s p = elim (pieceAt s p) [ close ↦ [] | bare b ↦ b ∷ denotedIn n s (p + 1) | escaped x q ↦ encode x ++ denotedIn n s q ]
+denotedIn (suc n) s p = elim (pieceAt s p) [ Close ↦ [] | Bare b ↦ b ∷ denotedIn n s (p + 1) | Escaped x q ↦ encode x ++ denotedIn n s q ]
 
 -- 01, Reading: "Names and strings are compared as the characters they denote"
 unfoldable pub denoted : List ℕ → ℕ → List ℕ

@@ -8,8 +8,8 @@ ghost use lib.Seq.{sets};
 ghost use Rattle.json.specs.Utf8.{encode};
 ghost use Rattle.json.specs.Grammar.{paired};
 ghost use Rattle.jer.specs.Table.{sameBytes};
-ghost use Rattle.tokens.specs.Strings.{digitAt, unitAt, letterOf, bare, escaped, escapeAt, pieceAt, denoted, stringEnd};
-ghost use Rattle.tokens.specs.Enums.{pieceOf, Coded, Encodes};
+ghost use Rattle.tokens.specs.Strings.{digitAt, unitAt, letterOf, Bare, Escaped, escapeAt, pieceAt, denoted, stringEnd};
+ghost use Rattle.tokens.specs.Enums.{Coded, Encodes};
 use crate::cursor::byte_at;
 use crate::slices::part;
 use crate::slices::put;
@@ -104,7 +104,7 @@ pub struct Unescaped {
 // What a backslash before p makes.
 fn escape(s: &[u8], p: usize) -> Unescaped
     requires { ⌜ p ≤ 65536 ⌝ }
-    ensures { λ r. ⌜ escaped (r .code) (r .next) ≡ escapeAt (now (s .entry)) p ⌝ }
+    ensures { λ r. ⌜ Escaped (r .code) (r .next) ≡ escapeAt (now (s .entry)) p ⌝ }
     ensures { λ r. ⌜ r .code < 2097152 ⌝ }
 {
     let b = byte_at(s, p);
@@ -136,7 +136,7 @@ fn escape(s: &[u8], p: usize) -> Unescaped
 // The piece at p.
 pub fn piece_at(s: &[u8], p: usize) -> Piece
     requires { ⌜ length (now s) ≤ 65536 ⌝ }
-    ensures { λ r. ⌜ pieceOf r ≡ pieceAt (now (s .entry)) p ⌝ }
+    ensures { λ r. ⌜ r ≡ pieceAt (now (s .entry)) p ⌝ }
     ensures { λ r. ⌜ Coded r ⌝ }
 {
     if s.len() <= p {
@@ -228,7 +228,7 @@ pub fn same_as(s: &[u8], p: usize, name: &[u8]) -> bool
 
 // The first byte of the string at p if it stands for itself, or 256.
 pub fn plain_first(s: &[u8], p: usize) -> u32
-    ensures { λ r. ⌜ (r < 256 → bare r ≡ pieceAt (now (s .entry)) p) ⌝ }
+    ensures { λ r. ⌜ (r < 256 → Bare r ≡ pieceAt (now (s .entry)) p) ⌝ }
 {
     let b = byte_at(s, p);
     if b == 0x22 {
@@ -242,7 +242,7 @@ pub fn plain_first(s: &[u8], p: usize) -> u32
 
 // Whether no name at `from` can be a string that begins with b, its plain first byte. Where b is 256, any can.
 pub fn first_differs(names: &[u8], from: usize, b: u32) -> bool
-    ensures { λ r. ⌜ (r ≡ true → (s : List ℕ) (p n : ℕ) → (b < 256 → bare b ≡ pieceAt s p) → sameBytes (take n (drop from (now (names .entry)))) (denoted s p) ≡ false) ⌝ }
+    ensures { λ r. ⌜ (r ≡ true → (s : List ℕ) (p n : ℕ) → (b < 256 → Bare b ≡ pieceAt s p) → sameBytes (take n (drop from (now (names .entry)))) (denoted s p) ≡ false) ⌝ }
 {
     if 256 <= b {
         return false;

@@ -12,7 +12,7 @@ use Rattle.jer.specs.declared.Refusal.the-variants.{Amounts}
 use Rattle.jer.specs.Table.{Table, isType, Token, SEQUENCE}
 use Rattle.jer.specs.Value.{Val}
 use Rattle.jer.specs.Answer.{Res}
-use Rattle.jer.proofs.Sane.{Sane}
+use Rattle.jer.specs.Sane.{Sane}
 use Rattle.places.specs.declared.Ended.{Ended}
 use Rattle.places.specs.declared.Ended.the-variants.{Closed, Stopped}
 use Rattle.places.specs.ByPlaces.{Got, Reader, shallowAt, bracketAt, readAt}

@@ -1,7 +1,6 @@
 use borrow.Author.Needs.{needs}
-use mathlib.Core.Path.{sym, ap, _∙_}
+use mathlib.Core.Path.{sym, _∙_}
 use native.Mathlib.Omega.{arith}
-use Rattle.tokens.specs.Enums.{pieceOf}
 use Rattle.tokens.proofs.StringLaws.{bare-inside, denoted-close}
 use Rattle.octets.proofs.DigitLaws.{char-bare, char-wide, escape-ascii, escape-wide}
 use Rattle.octets.proofs.decode.next_char.Statement.{statement}
@@ -17,7 +16,7 @@ enum-known-b : tie.Need-enum-known-b
 enum-known-b c = search needs
 
 add-t10 : tie.Need-add-t10
-add-t10 c = omega (arith, bare-inside _ _ (sym (ap pieceOf (c .before .before .b .given .1)) ∙ c .before .before .before .before .piece-at .ensures .0), c .before .before .before .before .before .before .pre)
+add-t10 c = omega (arith, bare-inside _ _ (sym (c .before .before .b .given .1) ∙ c .before .before .before .before .piece-at .ensures .0), c .before .before .before .before .before .before .pre)
 
 enum-known-x : tie.Need-enum-known-x
 enum-known-x c = search needs
@@ -26,19 +25,19 @@ cast-t13 : tie.Need-cast-t13
 cast-t13 c = search needs
 
 returns : tie.Need-returns
-returns c = denoted-close _ _ (sym (ap pieceOf (c .enum-told .given .1)) ∙ c .before .before .piece-at .ensures .0)
+returns c = denoted-close _ _ (sym (c .enum-told .given .1) ∙ c .before .before .piece-at .ensures .0)
 
 returns-2 : tie.Need-returns-2
-returns-2 c = char-bare (sym (ap pieceOf (c .before .before .b .given .1)) ∙ c .before .before .before .before .piece-at .ensures .0) (c .if1 .taken)
+returns-2 c = char-bare (sym (c .before .before .b .given .1) ∙ c .before .before .before .before .piece-at .ensures .0) (c .if1 .taken)
 
 returns-3 : tie.Need-returns-3
-returns-3 c = char-wide (sym (ap pieceOf (c .before .before .b .given .1)) ∙ c .before .before .before .before .piece-at .ensures .0) (c .if1 .left)
+returns-3 c = char-wide (sym (c .before .before .b .given .1) ∙ c .before .before .before .before .piece-at .ensures .0) (c .if1 .left)
 
 returns-4 : tie.Need-returns-4
-returns-4 c = escape-ascii (sym (ap pieceOf (c .before .before .x .given .1)) ∙ c .before .before .before .before .piece-at .ensures .0) (c .if2 .taken)
+returns-4 c = escape-ascii (sym (c .before .before .x .given .1) ∙ c .before .before .before .before .piece-at .ensures .0) (c .if2 .taken)
 
 returns-5 : tie.Need-returns-5
-returns-5 c = escape-wide (sym (ap pieceOf (c .before .before .x .given .1)) ∙ c .before .before .before .before .piece-at .ensures .0) (c .if2 .left)
+returns-5 c = escape-wide (sym (c .before .before .x .given .1) ∙ c .before .before .before .before .piece-at .ensures .0) (c .if2 .left)
 
 pub next-char-spec : {M : Type 1} → statement M
 next-char-spec =
