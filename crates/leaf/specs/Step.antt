@@ -4,11 +4,13 @@ use mathlib.Core.Path.{_≡_}
 use mathlib.Core.List.{List}
 use lib.ListN.{length}
 use lib.Seq.{sets}
-use Rattle.jer.specs.Table.{Table}
+use Rattle.jer.specs.Table.{Table, table, typeAt, position, Token}
 use Rattle.jer.specs.Value.{Val}
 use Rattle.jer.specs.Answer.{Res, ok, no}
 use Rattle.jer.specs.Rows.{numbers, rowsOf, poolOf}
-use Rattle.places.specs.ByPlaces.{Got}
+use Rattle.jer.specs.Read.{readItem, missingElement}
+use Rattle.tokens.specs.Strings.{denoted, stringEnd}
+use Rattle.places.specs.ByPlaces.{Got, ending, leafAt}
 use Rattle.leaf.specs.declared.Step.{Step}
 use Rattle.leaf.specs.declared.Step.the-variants.{Read, Refused}
 
@@ -36,3 +38,23 @@ pub record Stepped (z : Step) (rows₁ rows₀ pool₁ pool₀ : List ℕ) (i o 
   pub answer : z ≡ stepOf t r x
   pub rows : RowsStored rows₁ rows₀ i o t r x
   pub pool : PoolStored pool₁ pool₀ o x
+
+-- ---- what the readers of leaves do
+
+-- a leaf of the token k is read at p and stored from the row i and the pool byte o on
+abbrev pub LeafRead : Token → Table → List ℕ → ℕ → ℕ → ℕ → ℕ → Step → List ℕ → List ℕ → List ℕ → List ℕ → Type 0
+LeafRead k t s row p i o z rows₁ rows₀ pool₁ pool₀ = Stepped z rows₁ rows₀ pool₁ pool₀ i o t row (leafAt t s k row p)
+
+-- one without bytes in the pool, whatever the names and the pool are
+abbrev pub RowRead : Token → List ℕ → List ℕ → ℕ → ℕ → ℕ → Step → List ℕ → List ℕ → Type 0
+RowRead k types s row p i z rows₁ rows₀ = (ns pool : List ℕ) (o : ℕ) → LeafRead k (table types ns) s row p i o z rows₁ rows₀ pool pool
+
+-- an item of an ENUMERATED
+abbrev pub ItemRead : Table → List ℕ → ℕ → ℕ → ℕ → Step → List ℕ → List ℕ → Type 0
+ItemRead t s row p i z rows₁ rows₀ =
+    (pool : List ℕ) (o : ℕ) → Stepped z rows₁ rows₀ pool pool i o t row (ending (stringEnd s (p + 1)) (readItem t row p (position t row (denoted s (p + 1)))))
+
+-- a missing element of an array at p, after which next follows
+abbrev pub MissingRead : List ℕ → ℕ → ℕ → ℕ → ℕ → ℕ → Step → List ℕ → List ℕ → Type 0
+MissingRead types row member p i next z rows₁ rows₀ =
+    (ns pool : List ℕ) (o : ℕ) → Stepped z rows₁ rows₀ pool pool i o (table types ns) (typeAt (table types ns) row member) (ending next (missingElement (table types ns) row p member))

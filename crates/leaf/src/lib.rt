@@ -20,9 +20,8 @@ ghost use Prim.Native.Nat.{_^_, _≤_};
 ghost use lib.ListN.{length};
 ghost use Rattle.jer.specs.Table.{Token, tokenCode, table};
 ghost use Rattle.jer.specs.declared.Refusal.the-variants.{AtByte};
-ghost use Rattle.places.specs.ByPlaces.{leafAt};
 ghost use Rattle.leaf.specs.declared.Step.the-variants as step;
-ghost use Rattle.leaf.specs.Step.{Stepped};
+ghost use Rattle.leaf.specs.Step.{LeafRead};
 
 // What reading a value answers.
 pub enum Step {
@@ -59,7 +58,7 @@ pub fn leaf(
     o: usize,
 ) -> Step
     requires { ⌜ (length (now s) ≤ 65536) × (token ≡ 3 → p ≤ 65536) × (i ≤ 2 ^ 60) ⌝ }
-    ensures { λ r. ⌜ ((k : Token) → token ≡ tokenCode k → Stepped r (now (rows .exit)) (now (rows .entry)) (now (pool .exit)) (now (pool .entry)) i o (table (now (types .entry)) (now (names .entry))) row (leafAt (table (now (types .entry)) (now (names .entry))) (now (s .entry)) k row p)) ⌝ }
+    ensures { λ r. ⌜ ((k : Token) → token ≡ tokenCode k → LeafRead k (table (now (types .entry)) (now (names .entry))) (now (s .entry)) row p i o r (now (rows .exit)) (now (rows .entry)) (now (pool .exit)) (now (pool .entry))) ⌝ }
 {
     match token {
         NULL => null(types, s, rows, row, p, i),

@@ -10,12 +10,8 @@ use types::row::type_at;
 use types::token::Found;
 use types::token::NULL;
 use types::token::alternative;
-ghost use mathlib.Core.List.{List};
-ghost use Prim.Native.Nat.{ℕ, _^_, _<_};
-ghost use Rattle.jer.specs.Table.{typeAt, table};
-ghost use Rattle.jer.specs.Read.{missingElement};
-ghost use Rattle.places.specs.ByPlaces.{ending};
-ghost use Rattle.leaf.specs.Step.{Stepped};
+ghost use Prim.Native.Nat.{_^_, _<_};
+ghost use Rattle.leaf.specs.Step.{MissingRead};
 
 // The null value of the member at the position `member` of the type at `row`, as row i; the array opens at p, and `next` follows its last element.
 pub fn missing(
@@ -28,7 +24,7 @@ pub fn missing(
     i: usize,
 ) -> Step
     requires { ⌜ i < 2 ^ 60 ⌝ }
-    ensures { λ r. ⌜ ((ns pool : List ℕ) (o : ℕ) → Stepped r (now (rows .exit)) (now (rows .entry)) pool pool i o (table (now (types .entry)) ns) (typeAt (table (now (types .entry)) ns) row member) (ending next (missingElement (table (now (types .entry)) ns) row p member))) ⌝ }
+    ensures { λ r. ⌜ MissingRead (now (types .entry)) row member p i next r (now (rows .exit)) (now (rows .entry)) ⌝ }
 {
     let m = type_at(types, row, member);
     let w = Row::at(types, m);

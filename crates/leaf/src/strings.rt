@@ -19,13 +19,12 @@ ghost use mathlib.Core.List.{List, [], _∷_};
 ghost use Prim.Native.Nat.{ℕ, _+_, _*_, _^_, _≤_, _<_};
 ghost use lib.ListN.{length};
 ghost use lib.Seq.{sets};
-ghost use Rattle.jer.specs.Table.{tString, position, table};
-ghost use Rattle.jer.specs.Read.{readItem, octetsOf};
-ghost use Rattle.tokens.specs.Strings.{denoted, stringEnd};
+ghost use Rattle.jer.specs.Table.{tString, table};
+ghost use Rattle.jer.specs.Read.{octetsOf};
+ghost use Rattle.tokens.specs.Strings.{denoted};
 ghost use Rattle.octets.specs.Decode.{foundOf, Stored};
-ghost use Rattle.places.specs.ByPlaces.{ending, leafAt};
 ghost use Rattle.leaf.specs.declared.Step.the-variants as step;
-ghost use Rattle.leaf.specs.Step.{Stepped};
+ghost use Rattle.leaf.specs.Step.{LeafRead, ItemRead};
 
 // The item of an ENUMERATED that the string at p denotes.
 fn item(
@@ -38,7 +37,7 @@ fn item(
     i: usize,
 ) -> Step
     requires { ⌜ (length (now s) ≤ 65536) × (p ≤ 65536) × (i ≤ 2 ^ 60) ⌝ }
-    ensures { λ r. ⌜ ((pool : List ℕ) (o : ℕ) → Stepped r (now (rows .exit)) (now (rows .entry)) pool pool i o (table (now (types .entry)) (now (names .entry))) row (ending (stringEnd (now (s .entry)) (p + 1)) (readItem (table (now (types .entry)) (now (names .entry))) row p (position (table (now (types .entry)) (now (names .entry))) row (denoted (now (s .entry)) (p + 1)))))) ⌝ }
+    ensures { λ r. ⌜ ItemRead (table (now (types .entry)) (now (names .entry))) (now (s .entry)) row p i r (now (rows .exit)) (now (rows .entry)) ⌝ }
 {
     let w = Row::at(types, row);
     match position(types, names, s, row, p) {
@@ -98,7 +97,7 @@ pub fn string(
     o: usize,
 ) -> Step
     requires { ⌜ (length (now s) ≤ 65536) × (p ≤ 65536) × (i ≤ 2 ^ 60) ⌝ }
-    ensures { λ r. ⌜ Stepped r (now (rows .exit)) (now (rows .entry)) (now (pool .exit)) (now (pool .entry)) i o (table (now (types .entry)) (now (names .entry))) row (leafAt (table (now (types .entry)) (now (names .entry))) (now (s .entry)) tString row p) ⌝ }
+    ensures { λ r. ⌜ LeafRead tString (table (now (types .entry)) (now (names .entry))) (now (s .entry)) row p i o r (now (rows .exit)) (now (rows .entry)) (now (pool .exit)) (now (pool .entry)) ⌝ }
 {
     let kind = kind_of(types, row);
     match kind {

@@ -11,15 +11,13 @@ use tokens::numbers::Integer;
 use tokens::numbers::integer_at;
 use types::row::Row;
 use types::row::kind_of;
-ghost use mathlib.Core.List.{List};
-ghost use Prim.Native.Nat.{ℕ, _^_, _≤_};
-ghost use Rattle.jer.specs.Table.{tNull, tBoolean, tNumber, table};
-ghost use Rattle.places.specs.ByPlaces.{leafAt};
-ghost use Rattle.leaf.specs.Step.{Stepped};
+ghost use Prim.Native.Nat.{_^_, _≤_};
+ghost use Rattle.jer.specs.Table.{tNull, tBoolean, tNumber};
+ghost use Rattle.leaf.specs.Step.{RowRead};
 
 pub fn null(types: &[u32], s: &[u8], rows: &mut [u32], row: usize, p: usize, i: usize) -> Step
     requires { ⌜ i ≤ 2 ^ 60 ⌝ }
-    ensures { λ r. ⌜ ((ns pool : List ℕ) (o : ℕ) → Stepped r (now (rows .exit)) (now (rows .entry)) pool pool i o (table (now (types .entry)) ns) row (leafAt (table (now (types .entry)) ns) (now (s .entry)) tNull row p)) ⌝ }
+    ensures { λ r. ⌜ RowRead tNull (now (types .entry)) (now (s .entry)) row p i r (now (rows .exit)) (now (rows .entry)) ⌝ }
 {
     let kind = kind_of(types, row);
     if kind != Row::NULL {
@@ -31,7 +29,7 @@ pub fn null(types: &[u32], s: &[u8], rows: &mut [u32], row: usize, p: usize, i: 
 
 pub fn boolean(types: &[u32], s: &[u8], rows: &mut [u32], row: usize, p: usize, i: usize) -> Step
     requires { ⌜ i ≤ 2 ^ 60 ⌝ }
-    ensures { λ r. ⌜ ((ns pool : List ℕ) (o : ℕ) → Stepped r (now (rows .exit)) (now (rows .entry)) pool pool i o (table (now (types .entry)) ns) row (leafAt (table (now (types .entry)) ns) (now (s .entry)) tBoolean row p)) ⌝ }
+    ensures { λ r. ⌜ RowRead tBoolean (now (types .entry)) (now (s .entry)) row p i r (now (rows .exit)) (now (rows .entry)) ⌝ }
 {
     let kind = kind_of(types, row);
     if kind != Row::BOOLEAN {
@@ -44,7 +42,7 @@ pub fn boolean(types: &[u32], s: &[u8], rows: &mut [u32], row: usize, p: usize, 
 
 pub fn number(types: &[u32], s: &[u8], rows: &mut [u32], row: usize, p: usize, i: usize) -> Step
     requires { ⌜ i ≤ 2 ^ 60 ⌝ }
-    ensures { λ r. ⌜ ((ns pool : List ℕ) (o : ℕ) → Stepped r (now (rows .exit)) (now (rows .entry)) pool pool i o (table (now (types .entry)) ns) row (leafAt (table (now (types .entry)) ns) (now (s .entry)) tNumber row p)) ⌝ }
+    ensures { λ r. ⌜ RowRead tNumber (now (types .entry)) (now (s .entry)) row p i r (now (rows .exit)) (now (rows .entry)) ⌝ }
 {
     let kind = kind_of(types, row);
     if kind != Row::INTEGER {

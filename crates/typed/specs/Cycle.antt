@@ -11,11 +11,12 @@ use Rattle.jer.specs.declared.Refusal.{Refusal}
 use Rattle.jer.specs.declared.Refusal.the-variants.{Amounts}
 use Rattle.jer.specs.Table.{Table, isType, Token, SEQUENCE}
 use Rattle.jer.specs.Value.{Val}
-use Rattle.jer.specs.Answer.{Res}
+use Rattle.jer.specs.Answer.{Res, bind}
 use Rattle.jer.specs.Sane.{Sane}
 use Rattle.places.specs.declared.Ended.{Ended}
 use Rattle.places.specs.declared.Ended.the-variants.{Closed, Stopped}
-use Rattle.places.specs.ByPlaces.{Got, Reader, shallowAt, bracketAt, readAt}
+use Rattle.places.specs.declared.Scanned.{Scanned}
+use Rattle.places.specs.ByPlaces.{Got, Reader, shallowAt, bracketAt, readAt, tokenAt, listAt, arrayAt, objectAt, choiceAt, within, afterScan}
 use Rattle.leaf.specs.declared.Step.{Step}
 use Rattle.leaf.specs.declared.Step.the-variants.{Read, Refused}
 use Rattle.leaf.specs.Step.{Stepped}
@@ -57,3 +58,41 @@ bounded (Refused e) = Refused e
 pub data ArrayEnd (z : Step) (rows₁ rows₀ : List ℕ) (i a n m : ℕ) (x : Ended) : Type 0 where
   stops : {e : Refusal} → Stopped e ≡ x → z ≡ Refused e → ArrayEnd z rows₁ rows₀ i a n m x
   closes : {q : ℕ} → Closed q ≡ x → z ≡ bounded (Read q (n + 1) m) → (n + 1 < 2 ^ 32 → rows₁ ≡ sets rows₀ (i * 4) (SEQUENCE ∷ a ∷ 0 ∷ (n + 1) ∷ [])) → ArrayEnd z rows₁ rows₀ i a n m x
+
+-- ---- what the members of the cycle read
+
+-- how something of the type at a row is read from a place, with so many brackets that may be open
+abbrev pub Way : Type 0
+Way = ℕ → Table → List ℕ → Reader
+
+-- a value inside a bracket
+abbrev pub inside : ℕ → Table → List ℕ → Reader
+inside d t s q u = readAt (d - 1) t s q u
+
+-- rows and pool bytes counted in 32 bits
+abbrev pub counted : Way → Way
+counted x d t s r p = bind (x d t s r p) (within t r)
+
+-- by the token at the place
+abbrev pub byToken : Way
+byToken d t s r p = plainAt d t s (tokenAt s p) r p
+
+abbrev pub list : Way
+list d t s r p = listAt (λ q u. inside d t s q u) t s r p
+
+abbrev pub array : Way
+array d t s r p = arrayAt (λ q u. inside d t s q u) (d - 1) t s r p
+
+abbrev pub object : Way
+object d t s r p = objectAt (λ q u. inside d t s q u) (d - 1) t s r p
+
+-- the members of an object whose names are scanned
+abbrev pub members : Scanned → Way
+members x d t s r p = afterScan (λ q u. inside d t s q u) t s r p x
+
+abbrev pub choice : Way
+choice d t s r p = choiceAt (λ q u. inside d t s q u) (d - 1) t s r p
+
+-- it is read so, and stored from the row i and the pool byte o on
+abbrev pub ReadsAs : Way → Table → List ℕ → ℕ → ℕ → ℕ → ℕ → ℕ → Step → List ℕ → List ℕ → List ℕ → List ℕ → Type 0
+ReadsAs x t s row p i o d z rows₁ rows₀ pool₁ pool₀ = Reads z rows₁ rows₀ pool₁ pool₀ i o (limit p + d) t row (x d t s row p)

@@ -41,10 +41,9 @@ ghost use mathlib.Core.Path.{_≡_};
 ghost use Prim.Native.Nat.{_+_, _-_, _≤_, _<_};
 ghost use lib.ListN.{length};
 ghost use Rattle.jer.specs.Table.{tokenCode, kindOf, SEQUENCE, SEQUENCE-OF, CHOICE, table};
-ghost use Rattle.jer.specs.Answer.{bind};
 ghost use Rattle.places.specs.declared.Ended.the-variants.{Closed};
-ghost use Rattle.places.specs.ByPlaces.{tokenAt, listAt, arrayAt, objectAt, choiceAt, within, readAt, scanned, afterScan};
-ghost use Rattle.typed.specs.Cycle.{Given, Reads, limit, plainAt};
+ghost use Rattle.places.specs.ByPlaces.{tokenAt, readAt, scanned};
+ghost use Rattle.typed.specs.Cycle.{Given, limit, counted, byToken, list, array, object, members, choice, ReadsAs};
 
 // The row of an absent member.
 const ABSENT: u32 = 15;
@@ -62,7 +61,7 @@ pub fn value(
     d: u32,
 ) -> Step
     requires { ⌜ Given (table (now types) (now names)) (now s) row p (i + 1) o d ⌝ }
-    ensures { λ r. ⌜ Reads r (now (rows .exit)) (now (rows .entry)) (now (pool .exit)) (now (pool .entry)) i o (limit p + d) (table (now (types .entry)) (now (names .entry))) row (readAt d (table (now (types .entry)) (now (names .entry))) (now (s .entry)) row p) ⌝ }
+    ensures { λ r. ⌜ ReadsAs readAt (table (now (types .entry)) (now (names .entry))) (now (s .entry)) row p i o d r (now (rows .exit)) (now (rows .entry)) (now (pool .exit)) (now (pool .entry)) ⌝ }
 {
     let token = token_at(s, p);
     if !Row::at(types, row).is_unwrapped() {
@@ -96,7 +95,7 @@ fn plain(
 ) -> Step
     requires { ⌜ Given (table (now types) (now names)) (now s) row p i o d ⌝ }
     requires { ⌜ token ≡ tokenCode (tokenAt (now s) p) ⌝ }
-    ensures { λ r. ⌜ Reads r (now (rows .exit)) (now (rows .entry)) (now (pool .exit)) (now (pool .entry)) i o (limit p + d) (table (now (types .entry)) (now (names .entry))) row (bind (plainAt d (table (now (types .entry)) (now (names .entry))) (now (s .entry)) (tokenAt (now (s .entry)) p) row p) (within (table (now (types .entry)) (now (names .entry))) row)) ⌝ }
+    ensures { λ r. ⌜ ReadsAs (counted byToken) (table (now (types .entry)) (now (names .entry))) (now (s .entry)) row p i o d r (now (rows .exit)) (now (rows .entry)) (now (pool .exit)) (now (pool .entry)) ⌝ }
 {
     if token < ARRAY {
         return bounded(leaf(types, names, s, rows, pool, row, token, p, i, o));
@@ -138,7 +137,7 @@ fn list(
 ) -> Step
     requires { ⌜ Given (table (now types) (now names)) (now s) row p i o d ⌝ }
     requires { ⌜ (p < length (now s)) × (0 < d) × (kindOf (table (now types) (now names)) row ≡ SEQUENCE-OF) ⌝ }
-    ensures { λ r. ⌜ Reads r (now (rows .exit)) (now (rows .entry)) (now (pool .exit)) (now (pool .entry)) i o (limit p + d) (table (now (types .entry)) (now (names .entry))) row (bind (listAt (λ q u. readAt (d - 1) (table (now (types .entry)) (now (names .entry))) (now (s .entry)) q u) (table (now (types .entry)) (now (names .entry))) (now (s .entry)) row p) (within (table (now (types .entry)) (now (names .entry))) row)) ⌝ }
+    ensures { λ r. ⌜ ReadsAs (counted list) (table (now (types .entry)) (now (names .entry))) (now (s .entry)) row p i o d r (now (rows .exit)) (now (rows .entry)) (now (pool .exit)) (now (pool .entry)) ⌝ }
 {
     let t = element_of(types, row);
     let mut next = first_part(s, 0x5D, p);
@@ -183,7 +182,7 @@ fn array(
 ) -> Step
     requires { ⌜ Given (table (now types) (now names)) (now s) row p i o d ⌝ }
     requires { ⌜ (p < length (now s)) × (0 < d) × (kindOf (table (now types) (now names)) row ≡ SEQUENCE) ⌝ }
-    ensures { λ r. ⌜ Reads r (now (rows .exit)) (now (rows .entry)) (now (pool .exit)) (now (pool .entry)) i o (limit p + d) (table (now (types .entry)) (now (names .entry))) row (bind (arrayAt (λ q u. readAt (d - 1) (table (now (types .entry)) (now (names .entry))) (now (s .entry)) q u) (d - 1) (table (now (types .entry)) (now (names .entry))) (now (s .entry)) row p) (within (table (now (types .entry)) (now (names .entry))) row)) ⌝ }
+    ensures { λ r. ⌜ ReadsAs (counted array) (table (now (types .entry)) (now (names .entry))) (now (s .entry)) row p i o d r (now (rows .exit)) (now (rows .entry)) (now (pool .exit)) (now (pool .entry)) ⌝ }
 {
     let count = count_of(types, row);
     let mut next = first_part(s, 0x5D, p);
@@ -241,7 +240,7 @@ fn object(
 ) -> Step
     requires { ⌜ Given (table (now types) (now names)) (now s) row p i o d ⌝ }
     requires { ⌜ (p < length (now s)) × (0 < d) × (kindOf (table (now types) (now names)) row ≡ SEQUENCE) ⌝ }
-    ensures { λ r. ⌜ Reads r (now (rows .exit)) (now (rows .entry)) (now (pool .exit)) (now (pool .entry)) i o (limit p + d) (table (now (types .entry)) (now (names .entry))) row (bind (objectAt (λ q u. readAt (d - 1) (table (now (types .entry)) (now (names .entry))) (now (s .entry)) q u) (d - 1) (table (now (types .entry)) (now (names .entry))) (now (s .entry)) row p) (within (table (now (types .entry)) (now (names .entry))) row)) ⌝ }
+    ensures { λ r. ⌜ ReadsAs (counted object) (table (now (types .entry)) (now (names .entry))) (now (s .entry)) row p i o d r (now (rows .exit)) (now (rows .entry)) (now (pool .exit)) (now (pool .entry)) ⌝ }
 {
     let found = scan(types, names, s, row, p, d - 1);
     let end = found.end;
@@ -285,7 +284,7 @@ fn each_member(
 ) -> Step
     requires { ⌜ Given (table (now types) (now names)) (now s) row p i o d ⌝ }
     requires { ⌜ (0 < d) × (next ≤ limit p + d) × (kindOf (table (now types) (now names)) row ≡ SEQUENCE) ⌝ }
-    ensures { λ r. ⌜ Reads r (now (rows .exit)) (now (rows .entry)) (now (pool .exit)) (now (pool .entry)) i o (limit p + d) (table (now (types .entry)) (now (names .entry))) row (bind (afterScan (λ q u. readAt (d - 1) (table (now (types .entry)) (now (names .entry))) (now (s .entry)) q u) (table (now (types .entry)) (now (names .entry))) (now (s .entry)) row p (scanned (Closed next) met places)) (within (table (now (types .entry)) (now (names .entry))) row)) ⌝ }
+    ensures { λ r. ⌜ ReadsAs (counted (members (scanned (Closed next) met places))) (table (now (types .entry)) (now (names .entry))) (now (s .entry)) row p i o d r (now (rows .exit)) (now (rows .entry)) (now (pool .exit)) (now (pool .entry)) ⌝ }
 {
     let count = count_of(types, row);
     let mut k: u32 = 0;
@@ -334,7 +333,7 @@ fn choice(
 ) -> Step
     requires { ⌜ Given (table (now types) (now names)) (now s) row p i o d ⌝ }
     requires { ⌜ (p < length (now s)) × (0 < d) × (kindOf (table (now types) (now names)) row ≡ CHOICE) ⌝ }
-    ensures { λ r. ⌜ Reads r (now (rows .exit)) (now (rows .entry)) (now (pool .exit)) (now (pool .entry)) i o (limit p + d) (table (now (types .entry)) (now (names .entry))) row (bind (choiceAt (λ q u. readAt (d - 1) (table (now (types .entry)) (now (names .entry))) (now (s .entry)) q u) (d - 1) (table (now (types .entry)) (now (names .entry))) (now (s .entry)) row p) (within (table (now (types .entry)) (now (names .entry))) row)) ⌝ }
+    ensures { λ r. ⌜ ReadsAs (counted choice) (table (now (types .entry)) (now (names .entry))) (now (s .entry)) row p i o d r (now (rows .exit)) (now (rows .entry)) (now (pool .exit)) (now (pool .entry)) ⌝ }
 {
     match one_at(s, p, d - 1) {
         One::NotOne => refused(Cause::NotOne, p),

@@ -3,18 +3,20 @@ use Prim.Native.Nat.{ℕ, zero, suc, _+_, _-_, _≤_, _<_}
 use mathlib.Core.Path.{_≡_}
 use mathlib.Core.List.{List, [], _∷_, _++_}
 use mathlib.Core.Bool.{Bool, true, false}
+use mathlib.Core.Option.{Option}
 use lib.Dec.{eqb}
 use lib.ListN.{length}
 use lib.Seq.{sets}
 use Rattle.jer.specs.Table.{Table, UTF8String, kindOf, isBase64, isUnwrapped, countOf, typeAt, nameAt}
 use Rattle.jer.specs.Value.{Val}
 use Rattle.jer.specs.Rows.{ValueRow}
-use Rattle.jer.specs.Judge.{Took, took, wrong, andThen, Taker, takeValue, judge}
+use Rattle.jer.specs.Judge.{Took, took, wrong, andThen, Taker, takeRow, takeValue, judge}
 use Rattle.jer.specs.Octets.{hex, base64}
 use Rattle.jer.specs.Write.{nullText, escapes, stringText, write}
 use Rattle.jer.specs.Answer.{Res, ok, bind}
 use Rattle.jer.specs.Calls.{amount, writeAnswer, textAfter}
 use Rattle.jer.specs.declared.Writing.{Writing}
+use Rattle.writing.specs.Rows.{rowsFrom}
 use Rattle.writing.specs.declared.put.Form.{Form}
 use Rattle.writing.specs.declared.put.Form.the-variants.{Escaped, Hexadecimal, Base64}
 use Rattle.writing.specs.declared.taken.Taken.{Taken}
@@ -109,6 +111,21 @@ keptAfter false i n = suc n
 
 unfoldable pub valueWritten : Table → List ℕ → List ℕ → Res (List ℕ)
 valueWritten t ns pool = bind (judge t ns pool) (λ v. ok (write v t 0))
+
+-- ---- what the members of the cycle write
+
+-- the value from the row q and the pool byte o on, of the type at r, into the text from k on
+abbrev pub WritesValue : ℕ → Table → List ℕ → List ℕ → ℕ → ℕ → ℕ → ℕ → List ℕ → List ℕ → Taken → Type 0
+WritesValue depth t values pool r q o k before after a = Writes (valueText depth t pool (rowsFrom values q) r q o) k before after a
+
+-- a value with a bracket, whose row is w and whose parts are taken so
+abbrev pub WritesParts : (Table → ℕ → ValueRow → List ValueRow → ℕ → ℕ → Taker → Took Val) → ℕ → Table → List ℕ → List ℕ → ℕ → ValueRow → ℕ → ℕ → ℕ → List ℕ → List ℕ → Taken → Type 0
+WritesParts parts depth t values pool r w q o k before after a = Writes (bracketText (parts t r w (rowsFrom values (suc q)) q o) depth t pool r) k before after a
+
+-- a leaf, whose row is w
+abbrev pub WritesLeaf : Table → List ℕ → ℕ → ValueRow → ℕ → ℕ → ℕ → List ℕ → List ℕ → Taken → Type 0
+WritesLeaf t pool r w q o k before after a =
+    (i : Option Taker) (ws : List ValueRow) → Writes (textOf (λ v. write v t r) (takeRow i t pool r w ws q o)) k before after a
 
 -- what `jer` says of a written text: the answer a, and the lent text, before and after
 pub record Answers (x : Res (List ℕ)) (before after : List ℕ) (a : Writing) : Type 0 where

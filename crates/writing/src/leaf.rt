@@ -17,14 +17,10 @@ use types::row::name_in;
 use types::row::wide;
 ghost use mathlib.Core.Path.{_≡_};
 ghost use mathlib.Core.List.{List};
-ghost use mathlib.Core.Option.{Option};
 ghost use Prim.Native.Nat.{ℕ, _≤_, _<_};
 ghost use Rattle.jer.specs.Table.{kindOf, table};
-ghost use Rattle.jer.specs.Rows as jer;
-ghost use Rattle.jer.specs.Judge.{Taker, takeRow};
-ghost use Rattle.jer.specs.Write.{write};
 ghost use Rattle.writing.specs.Rows.{valueRow};
-ghost use Rattle.writing.specs.Text.{formOf, textOf, Writes};
+ghost use Rattle.writing.specs.Text.{formOf, Writes, WritesLeaf};
 
 // How a string of the type at r is spelled.
 fn form_of(types: &[u32], r: usize) -> Form
@@ -53,7 +49,7 @@ fn string(
     k: usize,
 ) -> Taken
     requires { ⌜ (w .kind ≡ kindOf (table (now types) (now names)) r) × (4 ≤ w .kind) × (w .kind ≤ 5) × (q < 18446744073709551615) ⌝ }
-    ensures { λ a. ⌜ ((i : Option Taker) (ws : List jer.ValueRow) → Writes (textOf (λ v. write v (table (now (types .entry)) (now (names .entry))) r) (takeRow i (table (now (types .entry)) (now (names .entry))) (now (pool .entry)) r (valueRow w) ws q o)) k (now (text .entry)) (now (text .exit)) a) ⌝ }
+    ensures { λ a. ⌜ WritesLeaf (table (now (types .entry)) (now (names .entry))) (now (pool .entry)) r (valueRow w) q o k (now (text .entry)) (now (text .exit)) a ⌝ }
 {
     let start = wide(w.a);
     let len = wide(w.b);
@@ -76,7 +72,7 @@ pub fn leaf(
     k: usize,
 ) -> Taken
     requires { ⌜ (w .kind ≡ kindOf (table (now types) (now names)) r) × (w .kind ≤ 5) × (q < 18446744073709551615) ⌝ }
-    ensures { λ a. ⌜ ((i : Option Taker) (ws : List jer.ValueRow) → Writes (textOf (λ v. write v (table (now (types .entry)) (now (names .entry))) r) (takeRow i (table (now (types .entry)) (now (names .entry))) (now (pool .entry)) r (valueRow w) ws q o)) k (now (text .entry)) (now (text .exit)) a) ⌝ }
+    ensures { λ a. ⌜ WritesLeaf (table (now (types .entry)) (now (names .entry))) (now (pool .entry)) r (valueRow w) q o k (now (text .entry)) (now (text .exit)) a ⌝ }
 {
     let kind = w.kind;
     match kind {

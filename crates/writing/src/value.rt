@@ -24,12 +24,12 @@ use types::row::type_at;
 ghost use mathlib.Core.Path.{_≡_};
 ghost use mathlib.Core.Bool.{false};
 ghost use mathlib.Core.List.{[]};
-ghost use Prim.Native.Nat.{suc, _<_};
+ghost use Prim.Native.Nat.{_<_};
 ghost use lib.ListN.{length};
 ghost use Rattle.jer.specs.Table.{isUnwrapped, table};
 ghost use Rattle.jer.specs.Judge.{takeSequence, takeList, takeChoice};
-ghost use Rattle.writing.specs.Rows.{valueRow, rowsFrom};
-ghost use Rattle.writing.specs.Text.{valueText, bracketText, Writes, Wrapped};
+ghost use Rattle.writing.specs.Rows.{valueRow};
+ghost use Rattle.writing.specs.Text.{WritesValue, WritesParts, Wrapped};
 
 // The value of the type at r that begins at the row q, with the pool used up to o; its text from k on.
 pub fn value(
@@ -45,7 +45,7 @@ pub fn value(
     depth: u32,
 ) -> Taken
     requires { ⌜ Wrapped (table (now types) (now names)) ⌝ }
-    ensures { λ a. ⌜ Writes (valueText depth (table (now (types .entry)) (now (names .entry))) (now (pool .entry)) (rowsFrom (now (values .entry)) q) r q o) k (now (text .entry)) (now (text .exit)) a ⌝ }
+    ensures { λ a. ⌜ WritesValue depth (table (now (types .entry)) (now (names .entry))) (now (values .entry)) (now (pool .entry)) r q o k (now (text .entry)) (now (text .exit)) a ⌝ }
 {
     if !Row::at(types, r).is_unwrapped() {
         return plain(types, names, values, pool, text, r, q, o, k, depth);
@@ -78,7 +78,7 @@ fn plain(
     depth: u32,
 ) -> Taken
     requires { ⌜ Wrapped (table (now types) (now names)) × (isUnwrapped (table (now types) (now names)) r ≡ false) ⌝ }
-    ensures { λ a. ⌜ Writes (valueText depth (table (now (types .entry)) (now (names .entry))) (now (pool .entry)) (rowsFrom (now (values .entry)) q) r q o) k (now (text .entry)) (now (text .exit)) a ⌝ }
+    ensures { λ a. ⌜ WritesValue depth (table (now (types .entry)) (now (names .entry))) (now (values .entry)) (now (pool .entry)) r q o k (now (text .entry)) (now (text .exit)) a ⌝ }
 {
     let Found::Row(w) = row_at(values, q) else {
         return Taken::Wrong(q);
@@ -126,7 +126,7 @@ fn list(
     depth: u32,
 ) -> Taken
     requires { ⌜ Wrapped (table (now types) (now names)) × (q < length (now values)) ⌝ }
-    ensures { λ a. ⌜ Writes (bracketText (takeList (table (now (types .entry)) (now (names .entry))) r (valueRow w) (rowsFrom (now (values .entry)) (suc q)) q o) depth (table (now (types .entry)) (now (names .entry))) (now (pool .entry)) r) k (now (text .entry)) (now (text .exit)) a ⌝ }
+    ensures { λ a. ⌜ WritesParts takeList depth (table (now (types .entry)) (now (names .entry))) (now (values .entry)) (now (pool .entry)) r (valueRow w) q o k (now (text .entry)) (now (text .exit)) a ⌝ }
 {
     let e = element_of(types, r);
     let mut i: u32 = 0;
@@ -164,7 +164,7 @@ fn sequence(
     depth: u32,
 ) -> Taken
     requires { ⌜ Wrapped (table (now types) (now names)) × (q < length (now values)) ⌝ }
-    ensures { λ a. ⌜ Writes (bracketText (takeSequence (table (now (types .entry)) (now (names .entry))) r (valueRow w) (rowsFrom (now (values .entry)) (suc q)) q o) depth (table (now (types .entry)) (now (names .entry))) (now (pool .entry)) r) k (now (text .entry)) (now (text .exit)) a ⌝ }
+    ensures { λ a. ⌜ WritesParts takeSequence depth (table (now (types .entry)) (now (names .entry))) (now (values .entry)) (now (pool .entry)) r (valueRow w) q o k (now (text .entry)) (now (text .exit)) a ⌝ }
 {
     let array = Row::at(types, r).is_array();
     let count = count_of(types, r);
@@ -218,7 +218,7 @@ pub fn judged(
     depth: u32,
 ) -> Taken
     requires { ⌜ Wrapped (table (now types) (now names)) ⌝ }
-    ensures { λ a. ⌜ Writes (valueText depth (table (now (types .entry)) (now (names .entry))) (now (pool .entry)) (rowsFrom (now (values .entry)) q) r q o) 0 [] [] a ⌝ }
+    ensures { λ a. ⌜ WritesValue depth (table (now (types .entry)) (now (names .entry))) (now (values .entry)) (now (pool .entry)) r q o 0 [] [] a ⌝ }
 {
     let mut one = [0u8; 1];
     value(types, names, values, pool, &mut one, r, q, o, 0, depth)
@@ -239,7 +239,7 @@ fn choice(
     depth: u32,
 ) -> Taken
     requires { ⌜ Wrapped (table (now types) (now names)) × (q < length (now values)) × (isUnwrapped (table (now types) (now names)) r ≡ false) ⌝ }
-    ensures { λ a. ⌜ Writes (bracketText (takeChoice (table (now (types .entry)) (now (names .entry))) r (valueRow w) (rowsFrom (now (values .entry)) (suc q)) q o) depth (table (now (types .entry)) (now (names .entry))) (now (pool .entry)) r) k (now (text .entry)) (now (text .exit)) a ⌝ }
+    ensures { λ a. ⌜ WritesParts takeChoice depth (table (now (types .entry)) (now (names .entry))) (now (values .entry)) (now (pool .entry)) r (valueRow w) q o k (now (text .entry)) (now (text .exit)) a ⌝ }
 {
     let p = put_byte(text, k, 0x7B);
     let start = put_name(text, p, name_in(types, names, member_row(types, r, w.a)));
