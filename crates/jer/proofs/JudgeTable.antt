@@ -88,7 +88,3 @@ judge-fits t ns pool v ws os e = go (takeValue 32 t pool 0 (rowsIn ns) 0 0) (val
         good : (c : Bool) → (eqb (length ns) (q * 4) && eqb (length pool) o) ≡ c → _≡_ {A = Res Val} (elim c [ true ↦ ok u | false ↦ no (AtRow ValueTable q) ]) (ok v) → TableOf t v ns pool
         good true c w = let p = simp both at c in let y : u ≡ v = cc in rw y at (whole u us q o h (eqb-true _ _ (p .0)) (eqb-true _ _ (p .1)))
         good false c w = absurd (let z : _≡_ {A = ℕ} 0 1 = cc in omega arith)
-
--- a value has one table
-pub one-table : (t : Table) (ns ms pool bytes : List ℕ) (v : Val) → Words ns → Words ms → Octets pool → Octets bytes → judge t ns pool ≡ ok v → judge t ms bytes ≡ ok v → (ns ≡ ms) × (pool ≡ bytes)
-one-table t ns ms pool bytes v a b c d x y = let h = judge-fits t ns pool v a c x in let k = judge-fits t ms bytes v b d y in (h .rows ∙ sym (k .rows), h .bytes ∙ sym (k .bytes))

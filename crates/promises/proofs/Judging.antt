@@ -14,9 +14,15 @@ use Rattle.jer.specs.declared.Reading.{Reading}
 use Rattle.jer.specs.Table.{Table}
 use Rattle.jer.specs.Valid.{firstBad}
 use Rattle.jer.specs.Read.{readWhole}
-use Rattle.jer.specs.Means.{Judges, long, broken, deep, json, typed}
+use Rattle.jer.specs.Value.{Val}
+use Rattle.jer.specs.Answer.{ok}
+use Rattle.jer.specs.Judge.{judge}
+use Rattle.jer.specs.Fits.{Octets, Words}
+use Rattle.jer.specs.Means.{Judges, long, broken, deep, json, typed, TableOf}
 use Rattle.jer.specs.Calls.{readText, readAnswer, rowsAfter, poolAfter}
 use Rattle.jer.specs.Contracts.{TextCall, ReadCall}
+use Rattle.jer.proofs.ValidSane.{valid-sane}
+use Rattle.jer.proofs.JudgeTable.{judge-fits, judged-rows}
 use Rattle.jer.proofs.MeansCalls.{never}
 use Rattle.jer.proofs.MeansReads.{text-judges, judges-text, text-reads, reads-text}
 use Rattle.promises.specs.Statements.{Exactly, ReadsBy}
@@ -78,3 +84,9 @@ pub read-by-tree : {t : Table} {j : Json} {s rows pool : List ℕ} {r : Reading}
 read-by-tree {t} {j} {s} {rows} {pool} good x l c =
     let e = sym (reads-text {t = t} {s = s} (typed good l x refl)) in
     (c .answer ∙ ap (readAnswer t (length rows) (length pool)) e, c .rowsLeft ∙ ap (rowsAfter t rows (length pool)) e, c .poolLeft ∙ ap (poolAfter t (length rows) pool) e)
+
+-- ---- value tables
+
+-- the tables that are judged to be a value are those of well-formed values, one for each
+pub values-exactly : {t : Table} {ns pool : List ℕ} {v : Val} → firstBad t ≡ none → Words ns → Octets pool → Exactly (judge t ns pool ≡ ok v) (TableOf t v ns pool)
+values-exactly {t} {ns} {pool} {v} good ws os = (λ e. judge-fits t ns pool v ws os e, λ w. rw (w .rows, w .bytes) (judged-rows t (valid-sane t good) (w .fits)))
