@@ -1,4 +1,4 @@
-use borrow.Author.Needs.{needs}
+-- Made by tools/answers.py from answers/decode/base64_tail.ans: edit that. 5d4c7e10c95a76b7
 use mathlib.Core.Path.{sym, subst, _∙_}
 use native.Mathlib.Omega.{arith}
 use borrow.Author.Tests.{not-true, not-false}
@@ -6,6 +6,7 @@ use Rattle.jer.specs.Octets.{base64Value}
 use Rattle.octets.specs.Decode.{Reads}
 use Rattle.octets.proofs.DigitLaws.{base64-below}
 use Rattle.octets.proofs.GroupLaws.{without, tail-bits, tail-other, tail-one, tail-bits-2, tail-other-2, tail-two, tail-three}
+use borrow.Author.Needs.{needs}
 use Rattle.octets.proofs.decode.base64_tail.Statement.{statement}
 use Rattle.octets.proofs.decode.base64_tail.Tie as tie
 
@@ -25,7 +26,9 @@ same-as-requires : tie.Need-same-as-requires
 same-as-requires c κs = search needs
 
 returns-2 : tie.Need-returns-2
-returns-2 c = tail-other (without (c .before .before .before .before .before .base64-digit .result) (c .before .before .before .before .match .keys2) (c .before .before .before .before .before .base64-digit .ensures)) (sym (c .before .same-as .ensures) ∙ not-true (c .before .same-as .result) (c .if2 .taken))
+returns-2 c =
+    let c·base64-digit = c .before .before .before .before .before in
+    tail-other (without (c·base64-digit .base64-digit .result) (c .before .before .before .before .match .keys2) (c·base64-digit .base64-digit .ensures)) (sym (c .before .same-as .ensures) ∙ not-true (c .before .same-as .result) (c .if2 .taken))
 
 mul-t12 : tie.Need-mul-t12
 mul-t12 c = search needs
@@ -35,8 +38,8 @@ add-t18 c = search needs
 
 returns-3 : tie.Need-returns-3
 returns-3 c =
-    let entry = c .before .before .before .before .before .before .before in
-    tail-one (entry .args .s .now) (entry .args .i) (omega arith) (sym (c .before .same-as .ensures) ∙ not-false (c .before .same-as .result) (c .if2 .left))
+    let c·args = c .before .before .before .before .before .before .before in
+    tail-one (c·args .args .s .now) (c·args .args .i) (omega arith) (sym (c .before .same-as .ensures) ∙ not-false (c .before .same-as .result) (c .if2 .left))
 
 base64-digit-requires-2 : tie.Need-base64-digit-requires-2
 base64-digit-requires-2 c κs = search needs
@@ -46,7 +49,8 @@ enum-known-w c = search needs
 
 returns-4 : tie.Need-returns-4
 returns-4 c =
-    let d = subst (Reads base64Value (c .before .before .before .before .before .before .before .before .args .s .now) (c .before .before .before .before .before .before .before .before .args .i)) (c .before .before .before .before .z .given .1) (c .before .before .before .before .before .before .base64-digit .ensures) in
+    let c·args = c .before .before .before .before .before .before .before .before in
+    let d = subst (Reads base64Value (c·args .args .s .now) (c·args .args .i)) (c .before .before .before .before .z .given .1) (c .before .before .before .before .before .before .base64-digit .ensures) in
     tail-bits-2 d (without (c .before .before .base64-digit2 .result) (c .before .match2 .keys2) (c .before .before .base64-digit2 .ensures)) (λ e. c .if3 .taken (omega arith))
 
 slice-aggregate-same-as-2 : tie.Need-slice-aggregate-same-as-2
@@ -57,8 +61,10 @@ same-as-requires-2 c κs = search needs
 
 returns-5 : tie.Need-returns-5
 returns-5 c =
-    let d = subst (Reads base64Value (c .before .before .before .before .before .before .before .before .before .before .before .args .s .now) (c .before .before .before .before .before .before .before .before .before .before .before .args .i)) (c .before .before .before .before .before .before .before .z .given .1) (c .before .before .before .before .before .before .before .before .before .base64-digit .ensures) in
-    tail-other-2 d (without (c .before .before .before .before .before .base64-digit2 .result) (c .before .before .before .before .match2 .keys2) (c .before .before .before .before .before .base64-digit2 .ensures)) (sym (c .before .same-as2 .ensures) ∙ not-true (c .before .same-as2 .result) (c .if4 .taken))
+    let c·base64-digit2 = c .before .before .before .before .before in
+    let c·args = c·base64-digit2 .before .before .before .before .before .before in
+    let d = subst (Reads base64Value (c·args .args .s .now) (c·args .args .i)) (c·base64-digit2 .before .before .z .given .1) (c·base64-digit2 .before .before .before .before .base64-digit .ensures) in
+    tail-other-2 d (without (c·base64-digit2 .base64-digit2 .result) (c .before .before .before .before .match2 .keys2) (c·base64-digit2 .base64-digit2 .ensures)) (sym (c .before .same-as2 .ensures) ∙ not-true (c .before .same-as2 .result) (c .if4 .taken))
 
 mul-t21 : tie.Need-mul-t21
 mul-t21 c = search needs
@@ -71,12 +77,14 @@ mul-t29 c = search needs
 
 add-t31 : tie.Need-add-t31
 add-t31 c =
-    let d = subst (Reads base64Value (c .before .before .before .before .before .before .before .before .before .before .before .args .s .now) (c .before .before .before .before .before .before .before .before .before .before .before .args .i)) (c .before .before .before .before .before .before .before .z .given .1) (c .before .before .before .before .before .before .before .before .before .base64-digit .ensures) in
+    let c·args = c .before .before .before .before .before .before .before .before .before .before .before in
+    let d = subst (Reads base64Value (c·args .args .s .now) (c·args .args .i)) (c .before .before .before .before .before .before .before .z .given .1) (c .before .before .before .before .before .before .before .before .before .base64-digit .ensures) in
     omega (arith, base64-below d)
 
 returns-6 : tie.Need-returns-6
 returns-6 c =
-    let d = subst (Reads base64Value (c .before .before .before .before .before .before .before .before .before .before .before .args .s .now) (c .before .before .before .before .before .before .before .before .before .before .before .args .i)) (c .before .before .before .before .before .before .before .z .given .1) (c .before .before .before .before .before .before .before .before .before .base64-digit .ensures) in
+    let c·args = c .before .before .before .before .before .before .before .before .before .before .before in
+    let d = subst (Reads base64Value (c·args .args .s .now) (c·args .args .i)) (c .before .before .before .before .before .before .before .z .given .1) (c .before .before .before .before .before .before .before .before .before .base64-digit .ensures) in
     tail-two d (omega arith) (sym (c .before .same-as2 .ensures) ∙ not-false (c .before .same-as2 .result) (c .if4 .left))
 
 mul-t33 : tie.Need-mul-t33
@@ -90,7 +98,8 @@ mul-t37 c = search needs
 
 add-t39 : tie.Need-add-t39
 add-t39 c =
-    let d = subst (Reads base64Value (c .before .before .before .before .before .before .before .before .before .args .s .now) (c .before .before .before .before .before .before .before .before .before .args .i)) (c .before .before .before .before .before .z .given .1) (c .before .before .before .before .before .before .before .base64-digit .ensures) in
+    let c·args = c .before .before .before .before .before .before .before .before .before in
+    let d = subst (Reads base64Value (c·args .args .s .now) (c·args .args .i)) (c .before .before .before .before .before .z .given .1) (c .before .before .before .before .before .before .before .base64-digit .ensures) in
     omega (arith, base64-below d)
 
 mul-t41 : tie.Need-mul-t41
@@ -98,14 +107,18 @@ mul-t41 c = search needs
 
 add-t42 : tie.Need-add-t42
 add-t42 c =
-    let d = subst (Reads base64Value (c .before .before .before .before .before .before .before .before .before .args .s .now) (c .before .before .before .before .before .before .before .before .before .args .i)) (c .before .before .before .before .before .z .given .1) (c .before .before .before .before .before .before .before .base64-digit .ensures) in
-    let e = subst (Reads base64Value (c .before .before .before .before .before .before .before .before .before .args .s .now) (c .before .before .before .before .before .z .given .0 .1 .0)) (c .before .w .given .1) (c .before .before .before .base64-digit2 .ensures) in
+    let c·z = c .before .before .before .before .before in
+    let c·args = c·z .before .before .before .before in
+    let d = subst (Reads base64Value (c·args .args .s .now) (c·args .args .i)) (c·z .z .given .1) (c·z .before .before .base64-digit .ensures) in
+    let e = subst (Reads base64Value (c·args .args .s .now) (c·z .z .given .0 .1 .0)) (c .before .w .given .1) (c .before .before .before .base64-digit2 .ensures) in
     omega (arith, base64-below d, base64-below e)
 
 returns-7 : tie.Need-returns-7
 returns-7 c =
-    let d = subst (Reads base64Value (c .before .before .before .before .before .before .before .before .before .args .s .now) (c .before .before .before .before .before .before .before .before .before .args .i)) (c .before .before .before .before .before .z .given .1) (c .before .before .before .before .before .before .before .base64-digit .ensures) in
-    let e = subst (Reads base64Value (c .before .before .before .before .before .before .before .before .before .args .s .now) (c .before .before .before .before .before .z .given .0 .1 .0)) (c .before .w .given .1) (c .before .before .before .base64-digit2 .ensures) in
+    let c·z = c .before .before .before .before .before in
+    let c·args = c·z .before .before .before .before in
+    let d = subst (Reads base64Value (c·args .args .s .now) (c·args .args .i)) (c·z .z .given .1) (c·z .before .before .base64-digit .ensures) in
+    let e = subst (Reads base64Value (c·args .args .s .now) (c·z .z .given .0 .1 .0)) (c .before .w .given .1) (c .before .before .before .base64-digit2 .ensures) in
     tail-three d e
 
 pub base64-tail-spec : {M : Type 1} → statement M

@@ -1,9 +1,10 @@
-use borrow.Author.Needs.{needs}
+-- Made by tools/answers.py from answers/decode/next_char.ans: edit that. 575e3af18ab9854d
 use mathlib.Core.Path.{sym, ap, _∙_}
 use native.Mathlib.Omega.{arith}
 use Rattle.tokens.specs.Enums.{pieceOf}
 use Rattle.tokens.proofs.StringLaws.{bare-inside, denoted-close}
 use Rattle.octets.proofs.DigitLaws.{char-bare, char-wide, escape-ascii, escape-wide}
+use borrow.Author.Needs.{needs}
 use Rattle.octets.proofs.decode.next_char.Statement.{statement}
 use Rattle.octets.proofs.decode.next_char.Tie as tie
 

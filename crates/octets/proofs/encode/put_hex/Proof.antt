@@ -1,10 +1,11 @@
-use borrow.Author.Needs.{needs}
+-- Made by tools/answers.py from answers/encode/put_hex.ans: edit that. 38b205204639d442
 use Prim.Native.Nat.{_+_, _-_}
 use native.Mathlib.Omega.{arith}
 use lib.ListN.{length, drop, getD}
 use Rattle.jer.specs.Octets.{hex}
 use Rattle.octets.proofs.EncodeLaws.{hex-one, hex-done, hex-next}
 use Rattle.octets.proofs.PutLaws.{sets-as, Putting, putting-start, putting-done}
+use borrow.Author.Needs.{needs}
 use Rattle.octets.proofs.encode.put_hex.Statement.{statement}
 use Rattle.octets.proofs.encode.put_hex.Tie as tie
 
@@ -46,9 +47,11 @@ loop-less c = search needs
 
 loop-again : tie.Need-loop-again Inv-loop μ-loop
 loop-again c =
-    let b = getD (c .before .before .before .before .before .before .before .before .before .before .before .before .args .octets .now) (c .before .before .before .before .before .before .before .before .before .loop .i) 0 in
-    hex-next (c .before .before .before .before .before .before .before .before .before .before .before .before .args .octets .now) (c .before .before .before .before .before .before .before .before .before .loop .i) (c .before .before .before .before .before .before .before .before .before .loop .inv) (c .before .before .before .before .before .before .before .before .loop-test .taken)
-    (sets-as (c .before .before .before .before .before .before .before .before .before .loop .text) (c .before .before .before .before .before .before .before .before .before .before .before .before .args .k + c .before .before .before .before .before .before .before .before .before .loop .n) (hex-one b (c .before .before .before .before .before .before .hex-digit .ensures) (c .before .before .before .before .before .hex-digit2 .ensures)) (c .before .before .put-all .ensures))
+    let c·loop = c .before .before .before .before .before .before .before .before .before in
+    let c·args = c·loop .before .before .before in
+    let b = getD (c·args .args .octets .now) (c·loop .loop .i) 0 in
+    hex-next (c·args .args .octets .now) (c·loop .loop .i) (c·loop .loop .inv) (c .before .before .before .before .before .before .before .before .loop-test .taken)
+    (sets-as (c·loop .loop .text) (c·args .args .k + c·loop .loop .n) (hex-one b (c .before .before .before .before .before .before .hex-digit .ensures) (c .before .before .before .before .before .hex-digit2 .ensures)) (c .before .before .put-all .ensures))
     (c .before .before .put-all .kept .0)
 
 same-length : tie.Need-same-length Inv-loop μ-loop

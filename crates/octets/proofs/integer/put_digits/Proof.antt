@@ -1,7 +1,8 @@
-use borrow.Author.Needs.{needs}
+-- Made by tools/answers.py from answers/integer/put_digits.ans: edit that. 0d43ba268fd15556
 use mathlib.Core.Path.{_∙_}
 use native.Mathlib.Omega.{arith}
 use Rattle.octets.proofs.IntegerLaws.{PuttingDigits, putting-start, putting-few, putting-inside, putting-next, putting-done}
+use borrow.Author.Needs.{needs}
 use Rattle.octets.proofs.integer.put_digits.Statement.{statement}
 use Rattle.octets.proofs.integer.put_digits.Tie as tie
 
@@ -54,7 +55,9 @@ same-length : tie.Need-same-length Inv-loop μ-loop
 same-length c = c .before .before .put2 .kept .0 ∙ c .before .before .before .before .before .loop .inv .kept
 
 returns : tie.Need-returns Inv-loop μ-loop
-returns c = (c .before .before .before .before .before .before .digit-count .ensures .0, (c .before .before .before .before .before .before .digit-count .ensures .1 .1, putting-done (c .before .before .before .before .before .loop .inv) (c .before .before .before .before .loop-test .left) (c .before .before .put2 .ensures)))
+returns c =
+    let c·digit-count = c .before .before .before .before .before .before in
+    (c·digit-count .digit-count .ensures .0, (c·digit-count .digit-count .ensures .1 .1, putting-done (c .before .before .before .before .before .loop .inv) (c .before .before .before .before .loop-test .left) (c .before .before .put2 .ensures)))
 
 pub put-digits-spec : {M : Type 1} → statement M
 put-digits-spec =

@@ -1,4 +1,4 @@
-use borrow.Author.Needs.{needs}
+-- Made by tools/answers.py from answers/cursor/run.ans: edit that. e6a061dcabe4231d
 use Prim.Native.Nat.{_-_}
 use mathlib.Core.Path.{_≡_, sym, _∙_}
 use lib.ListN.{length}
@@ -6,6 +6,7 @@ use borrow.Author.Tests.{not-true, not-false}
 use Rattle.tokens.specs.Places.{runFrom}
 use Rattle.tokens.specs.Enums.{passes}
 use Rattle.tokens.proofs.PlaceLaws.{run-more, run-stop, run-end}
+use borrow.Author.Needs.{needs}
 use Rattle.tokens.proofs.cursor.run.Statement.{statement}
 use Rattle.tokens.proofs.cursor.run.Tie as tie
 
@@ -26,9 +27,10 @@ is-in-requires c κs = search needs
 
 returns : tie.Need-returns Inv-loop μ-loop
 returns c =
-    let s = c .before .before .before .before .before .before .args .s .now in
+    let c·args = c .before .before .before .before .before .before in
+    let s = c·args .args .s .now in
     let l = c .before .before .before .before .loop in
-    let f = passes (c .before .before .before .before .before .before .args .class) in
+    let f = passes (c·args .args .class) in
     sym (l .inv ∙ run-stop f s (l .i) (c .before .before .before .loop-test .taken) (sym (c .before .is-in .ensures) ∙ not-true _ (c .if1 .taken)))
 
 add-i : tie.Need-add-i Inv-loop μ-loop
@@ -39,16 +41,18 @@ loop-less c = search needs
 
 loop-again : tie.Need-loop-again Inv-loop μ-loop
 loop-again c =
-    let s = c .before .before .before .before .before .before .args .s .now in
+    let c·args = c .before .before .before .before .before .before in
+    let s = c·args .args .s .now in
     let l = c .before .before .before .before .loop in
-    let f = passes (c .before .before .before .before .before .before .args .class) in
+    let f = passes (c·args .args .class) in
     l .inv ∙ run-more f s (l .i) (c .before .before .before .loop-test .taken) (sym (c .before .is-in .ensures) ∙ not-false _ (c .if1 .left))
 
 returns-2 : tie.Need-returns-2 Inv-loop μ-loop
 returns-2 c =
-    let s = c .before .before .before .args .s .now in
+    let c·args = c .before .before .before in
+    let s = c·args .args .s .now in
     let l = c .before .loop in
-    let f = passes (c .before .before .before .args .class) in
+    let f = passes (c·args .args .class) in
     sym (l .inv ∙ run-end f s (l .i) (c .loop-test .left))
 
 pub run-spec : {M : Type 1} → statement M

@@ -1,10 +1,11 @@
-use borrow.Author.Needs.{needs}
+-- Made by tools/answers.py from answers/skip/+skip_bracket+skip_value.ans: edit that. 09157f00a7361361
 use Prim.Native.Nat.{ℕ, _<_, _+_, _-_}
 use mathlib.Core.Path.{_∙_}
 use native.Mathlib.Omega.{arith}
 use lib.ListN.{length}
 use Rattle.tokens.proofs.PlaceLaws.{inside}
 use Rattle.tokens.proofs.SkipLaws.{between-is, word-is, value-string, value-bracket, value-word, bracket-deep, Passing, passing-start, passing-end, passing-close, passing-next, passing-ahead, either, other, neither}
+use borrow.Author.Needs.{needs}
 use borrow.Fn.Kinds.{In}
 use borrow.Fn.PlainCycle.{Measures, is, falls, and}
 use Rattle.tokens.proofs.skip.skip_bracket.Reads as skip-bracket
@@ -26,24 +27,16 @@ abbrev μ-skip-value : Measures 1 skip-value-kinds.ps ℕ
 μ-skip-value κs a = a .1 .1 .0 + a .1 .1 .0 + 1
 
 abbrev skip-bracket-at : ℕ → In 1 skip-bracket-kinds.ps
-skip-bracket-at t =
-    and 1 skip-bracket-kinds.ps (is 1 skip-bracket-kinds.ps μ-skip-bracket t) skip-bracket.Pre
+skip-bracket-at t = and 1 skip-bracket-kinds.ps (is 1 skip-bracket-kinds.ps μ-skip-bracket t) skip-bracket.Pre
 
 abbrev skip-bracket-below : ℕ → In 1 skip-bracket-kinds.ps
-skip-bracket-below t =
-    and
-    1
-    skip-bracket-kinds.ps
-    (falls 1 skip-bracket-kinds.ps _<_ μ-skip-bracket t)
-    skip-bracket.Pre
+skip-bracket-below t = and 1 skip-bracket-kinds.ps (falls 1 skip-bracket-kinds.ps _<_ μ-skip-bracket t) skip-bracket.Pre
 
 abbrev skip-value-at : ℕ → In 1 skip-value-kinds.ps
-skip-value-at t =
-    and 1 skip-value-kinds.ps (is 1 skip-value-kinds.ps μ-skip-value t) skip-value.Pre
+skip-value-at t = and 1 skip-value-kinds.ps (is 1 skip-value-kinds.ps μ-skip-value t) skip-value.Pre
 
 abbrev skip-value-below : ℕ → In 1 skip-value-kinds.ps
-skip-value-below t =
-    and 1 skip-value-kinds.ps (falls 1 skip-value-kinds.ps _<_ μ-skip-value t) skip-value.Pre
+skip-value-below t = and 1 skip-value-kinds.ps (falls 1 skip-value-kinds.ps _<_ μ-skip-value t) skip-value.Pre
 
 abbrev skip-bracket-calls : ℕ → skip-bracket-lts.Claims
 skip-bracket-calls t = (run-reads.Asked, run-reads.Learnt, byte-at-reads.Asked, byte-at-reads.Learnt, skip-value-below t, skip-value.Post)
@@ -75,9 +68,10 @@ skip-bracket-byte-at-requires t c κs = search needs
 
 skip-bracket-returns-2 : (t : ℕ) → skip-bracket-lts.Need-returns-2 (skip-bracket-calls t) (skip-bracket-at t) skip-bracket.Post skip-bracket-Inv-loop skip-bracket-μ-loop
 skip-bracket-returns-2 t c =
-    let s = c .before .before .before .before .before .before .args .s .now in
-    let inv = c .before .before .before .loop .inv in
-    let between = c .before .before .run .ensures ∙ between-is s (c .before .before .before .loop .i) in
+    let c·loop = c .before .before .before in
+    let s = c·loop .before .before .before .args .s .now in
+    let inv = c·loop .loop .inv in
+    let between = c .before .before .run .ensures ∙ between-is s (c·loop .loop .i) in
     let byte = c .before .byte-at .ensures .0 in
     passing-end inv between byte (c .if2 .taken)
 
@@ -89,9 +83,10 @@ skip-bracket-add-result t c =
 
 skip-bracket-returns-3 : (t : ℕ) → skip-bracket-lts.Need-returns-3 (skip-bracket-calls t) (skip-bracket-at t) skip-bracket.Post skip-bracket-Inv-loop skip-bracket-μ-loop
 skip-bracket-returns-3 t c =
-    let s = c .before .before .before .before .before .before .before .args .s .now in
-    let inv = c .before .before .before .before .loop .inv in
-    let between = c .before .before .before .run .ensures ∙ between-is s (c .before .before .before .before .loop .i) in
+    let c·loop = c .before .before .before .before in
+    let s = c·loop .before .before .before .args .s .now in
+    let inv = c·loop .loop .inv in
+    let between = c .before .before .before .run .ensures ∙ between-is s (c·loop .loop .i) in
     let b = c .before .before .byte-at .result in
     let byte = c .before .before .byte-at .ensures .0 in
     passing-close inv between byte (c .before .if2 .left) (either b 0x5D 0x7D (c .if3 .taken))
@@ -104,11 +99,13 @@ skip-bracket-add-result-2 t c =
 
 skip-bracket-returns-4 : (t : ℕ) → skip-bracket-lts.Need-returns-4 (skip-bracket-calls t) (skip-bracket-at t) skip-bracket.Post skip-bracket-Inv-loop skip-bracket-μ-loop
 skip-bracket-returns-4 t c =
-    let s = c .before .before .before .before .before .before .before .before .args .s .now in
-    let inv = c .before .before .before .before .before .loop .inv in
-    let between = c .before .before .before .before .run .ensures ∙ between-is s (c .before .before .before .before .before .loop .i) in
-    let b = c .before .before .before .byte-at .result in
-    let byte = c .before .before .before .byte-at .ensures .0 in
+    let c·byte-at = c .before .before .before in
+    let c·loop = c·byte-at .before .before in
+    let s = c·loop .before .before .before .args .s .now in
+    let inv = c·loop .loop .inv in
+    let between = c·byte-at .before .run .ensures ∙ between-is s (c·loop .loop .i) in
+    let b = c·byte-at .byte-at .result in
+    let byte = c·byte-at .byte-at .ensures .0 in
     passing-close inv between byte (c .before .before .if2 .left) (other b 0x5D 0x7D (c .before .if3 .left) (c .if4 .taken))
 
 skip-bracket-sub-skip-value : (t : ℕ) → skip-bracket-lts.Need-sub-skip-value (skip-bracket-calls t) (skip-bracket-at t) skip-bracket.Post skip-bracket-Inv-loop skip-bracket-μ-loop
@@ -119,21 +116,25 @@ skip-bracket-skip-value-requires t c κs = (omega arith, c .before .before .befo
 
 skip-bracket-loop-less : (t : ℕ) → skip-bracket-lts.Need-loop-less (skip-bracket-calls t) (skip-bracket-at t) skip-bracket.Post skip-bracket-Inv-loop skip-bracket-μ-loop
 skip-bracket-loop-less t c =
-    let s = c .before .before .before .before .before .before .before .before .before .args .s .now in
-    let inv = c .before .before .before .before .before .before .loop .inv in
-    let between = c .before .before .before .before .before .run .ensures ∙ between-is s (c .before .before .before .before .before .before .loop .i) in
-    let b = c .before .before .before .before .byte-at .result in
-    let byte = c .before .before .before .before .byte-at .ensures .0 in
+    let c·byte-at = c .before .before .before .before in
+    let c·loop = c·byte-at .before .before in
+    let s = c·loop .before .before .before .args .s .now in
+    let inv = c·loop .loop .inv in
+    let between = c·byte-at .before .run .ensures ∙ between-is s (c·loop .loop .i) in
+    let b = c·byte-at .byte-at .result in
+    let byte = c·byte-at .byte-at .ensures .0 in
     let more = neither b 0x5D 0x7D (c .before .before .if3 .left) (c .before .if4 .left) in
     passing-ahead inv between byte (c .before .before .before .if2 .left) more (c .skip-value .ensures)
 
 skip-bracket-loop-again : (t : ℕ) → skip-bracket-lts.Need-loop-again (skip-bracket-calls t) (skip-bracket-at t) skip-bracket.Post skip-bracket-Inv-loop skip-bracket-μ-loop
 skip-bracket-loop-again t c =
-    let s = c .before .before .before .before .before .before .before .before .before .args .s .now in
-    let inv = c .before .before .before .before .before .before .loop .inv in
-    let between = c .before .before .before .before .before .run .ensures ∙ between-is s (c .before .before .before .before .before .before .loop .i) in
-    let b = c .before .before .before .before .byte-at .result in
-    let byte = c .before .before .before .before .byte-at .ensures .0 in
+    let c·byte-at = c .before .before .before .before in
+    let c·loop = c·byte-at .before .before in
+    let s = c·loop .before .before .before .args .s .now in
+    let inv = c·loop .loop .inv in
+    let between = c·byte-at .before .run .ensures ∙ between-is s (c·loop .loop .i) in
+    let b = c·byte-at .byte-at .result in
+    let byte = c·byte-at .byte-at .ensures .0 in
     let more = neither b 0x5D 0x7D (c .before .before .if3 .left) (c .before .if4 .left) in
     passing-next inv between byte (c .before .before .before .if2 .left) more (c .skip-value .ensures)
 
@@ -167,9 +168,10 @@ skip-value-skip-bracket-requires t c κs = (omega arith, c .before .before .befo
 
 skip-value-returns-2 : (t : ℕ) → skip-value-lts.Need-returns-2 (skip-value-calls t) (skip-value-at t) skip-value.Post
 skip-value-returns-2 t c =
-    let a = c .before .before .before .before .before .args in
-    let b = c .before .before .before .byte-at .result in
-    let byte = c .before .before .before .byte-at .ensures .0 in
+    let c·byte-at = c .before .before .before in
+    let a = c·byte-at .before .before .args in
+    let b = c·byte-at .byte-at .result in
+    let byte = c·byte-at .byte-at .ensures .0 in
     c .skip-bracket .ensures ∙ value-bracket (a .depth) (a .s .now) (a .p) b byte (c .before .before .if1 .left) (either b 0x5B 0x7B (c .before .if2 .taken))
 
 skip-value-add-skip-bracket-2 : (t : ℕ) → skip-value-lts.Need-add-skip-bracket-2 (skip-value-calls t) (skip-value-at t) skip-value.Post
@@ -183,9 +185,10 @@ skip-value-skip-bracket-requires-2 t c κs = (omega arith, c .before .before .be
 
 skip-value-returns-3 : (t : ℕ) → skip-value-lts.Need-returns-3 (skip-value-calls t) (skip-value-at t) skip-value.Post
 skip-value-returns-3 t c =
-    let a = c .before .before .before .before .before .before .args in
-    let b = c .before .before .before .before .byte-at .result in
-    let byte = c .before .before .before .before .byte-at .ensures .0 in
+    let c·byte-at = c .before .before .before .before in
+    let a = c·byte-at .before .before .args in
+    let b = c·byte-at .byte-at .result in
+    let byte = c·byte-at .byte-at .ensures .0 in
     c .skip-bracket2 .ensures ∙ value-bracket (a .depth) (a .s .now) (a .p) b byte (c .before .before .before .if1 .left) (other b 0x5B 0x7B (c .before .before .if2 .left) (c .before .if3 .taken))
 
 skip-value-run-requires : (t : ℕ) → skip-value-lts.Need-run-requires (skip-value-calls t) (skip-value-at t) skip-value.Post
@@ -193,14 +196,16 @@ skip-value-run-requires t c κs = search needs
 
 skip-value-returns-4 : (t : ℕ) → skip-value-lts.Need-returns-4 (skip-value-calls t) (skip-value-at t) skip-value.Post
 skip-value-returns-4 t c =
-    let a = c .before .before .before .before .before .before .args in
-    let b = c .before .before .before .before .byte-at .result in
-    let byte = c .before .before .before .before .byte-at .ensures .0 in
+    let c·byte-at = c .before .before .before .before in
+    let a = c·byte-at .before .before .args in
+    let b = c·byte-at .byte-at .result in
+    let byte = c·byte-at .byte-at .ensures .0 in
     c .run .ensures ∙ word-is (a .s .now) (a .p) ∙ value-word (a .depth) (a .s .now) (a .p) b byte (c .before .before .before .if1 .left) (neither b 0x5B 0x7B (c .before .before .if2 .left) (c .before .if3 .left))
 
 pub +skip-bracket+skip-value-spec : {M : Type 1} → statement M
-+skip-bracket+skip-value-spec = close μ-skip-bracket μ-skip-value (λ t. skip-bracket-lts.spec (skip-bracket-calls t) (skip-bracket-at t)
-    skip-bracket.Post
++skip-bracket+skip-value-spec =
+    close μ-skip-bracket μ-skip-value
+    (λ t. skip-bracket-lts.spec (skip-bracket-calls t) (skip-bracket-at t) skip-bracket.Post
     skip-bracket-Inv-loop
     skip-bracket-μ-loop
     (skip-bracket-returns t)
@@ -216,8 +221,7 @@ pub +skip-bracket+skip-value-spec : {M : Type 1} → statement M
     (skip-bracket-skip-value-requires t)
     (skip-bracket-loop-less t)
     (skip-bracket-loop-again t))
-    λ t. skip-value-lts.spec (skip-value-calls t) (skip-value-at t)
-    skip-value.Post
+    λ t. skip-value-lts.spec (skip-value-calls t) (skip-value-at t) skip-value.Post
     (skip-value-byte-at-requires t)
     (skip-value-add-string-end t)
     (skip-value-string-end-requires t)
