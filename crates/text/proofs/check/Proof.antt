@@ -1,13 +1,14 @@
+-- Made by tools/answers.py from answers/check.ans: edit that. 039ca0ed4407a49c
 -- The loop's invariant: what is judged from the place and the state on is the whole text's judgement.
 use Prim.Native.Nat.{_≤_, _-_}
 use mathlib.Core.Path.{_≡_, _∙_, sym}
 use mathlib.Core.Bool.{true, false}
-use borrow.Author.Needs.{needs}
 use lib.ListN.{length, drop}
 use Rattle.jer.specs.Calls.{textJudged}
 use Rattle.text.specs.Class.{IsClasses}
 use Rattle.text.specs.Outline.{IsMode, IsActs, judgedFrom, judgedEnd}
 use Rattle.text.proofs.Texts.{too-long, started, goes-on, not-json, too-deep, ends}
+use borrow.Author.Needs.{needs}
 use Rattle.text.proofs.check.Statement.{statement}
 use Rattle.text.proofs.check.Tie as tie
 

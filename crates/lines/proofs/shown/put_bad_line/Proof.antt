@@ -1,7 +1,8 @@
-use borrow.Author.Needs.{needs}
+-- Made by tools/answers.py from answers/shown/put_bad_line.ans: edit that. b29bc1408d9969c0
 use mathlib.Core.Path.{refl}
 use Rattle.jer.specs.Answer.{values}
 use Rattle.lines.proofs.ShownLaws.{refusal-four, shown-as}
+use borrow.Author.Needs.{needs}
 use Rattle.lines.proofs.shown.put_bad_line.Statement.{statement}
 use Rattle.lines.proofs.shown.put_bad_line.Tie as tie
 

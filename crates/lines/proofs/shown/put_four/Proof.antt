@@ -1,5 +1,6 @@
-use borrow.Author.Needs.{needs}
+-- Made by tools/answers.py from answers/shown/put_four.ans: edit that. 4ead15ba4a963c6d
 use Rattle.lines.proofs.ShownLaws.{four-length, four-stored}
+use borrow.Author.Needs.{needs}
 use Rattle.lines.proofs.shown.put_four.Statement.{statement}
 use Rattle.lines.proofs.shown.put_four.Tie as tie
 

@@ -1,5 +1,6 @@
-use borrow.Author.Needs.{needs}
+-- Made by tools/answers.py from answers/shown/put_judged.ans: edit that. e18d8172a3ea5a99
 use Rattle.lines.proofs.ShownLaws.{shown-as, judged-good, judged-refused}
+use borrow.Author.Needs.{needs}
 use Rattle.lines.proofs.shown.put_judged.Statement.{statement}
 use Rattle.lines.proofs.shown.put_judged.Tie as tie
 
@@ -31,14 +32,16 @@ same-length : tie.Need-same-length
 same-length c = search needs
 
 returns : tie.Need-returns
-returns c = let a = c .before .before .before .before .before .before .before .before .before .before .before .before .before .before .before .args in
+returns c =
+    let a = c .before .before .before .before .before .before .before .before .before .before .before .before .before .before .before .args in
     judged-good (a .text .now) (c .before .before .before .before .before .before .before .before .before .before .before .before .enum-told .given .1) (c .before .before .before .before .before .before .before .before .before .before .put .ensures) (c .before .before .before .before .before .before .put2 .ensures) (c .before .before .put3 .ensures)
 
 same-length-2 : tie.Need-same-length-2
 same-length-2 c = search needs
 
 returns-2 : tie.Need-returns-2
-returns-2 c = let a = c .before .before .before .before .before .before .before .before .before .before .args in
+returns-2 c =
+    let a = c .before .before .before .before .before .before .before .before .before .before .args in
     shown-as (a .text .now) 0 (judged-refused (c .before .before .before .before .before .before .before .j .given .1) (c .before .before .before .before .before .report .ensures)) (c .before .before .put-no .ensures)
 
 pub put-judged-spec : {M : Type 1} → statement M

@@ -1,8 +1,9 @@
-use borrow.Author.Needs.{needs}
+-- Made by tools/answers.py from answers/shown/put_number.ans: edit that. 4c46df590bad0989
 use mathlib.Core.Path.{_∙_}
 use native.Mathlib.Omega.{arith}
 use Rattle.octets.proofs.PutLaws.{sets-as}
 use Rattle.lines.proofs.ShownLaws.{number-digits, number-length}
+use borrow.Author.Needs.{needs}
 use Rattle.lines.proofs.shown.put_number.Statement.{statement}
 use Rattle.lines.proofs.shown.put_number.Tie as tie
 
@@ -28,4 +29,9 @@ returns c =
 pub put-number-spec : {M : Type 1} → statement M
 put-number-spec =
     tie.close
-    (tie.spec octets-of-requires slice-aggregate-put-hex put-hex-requires same-length returns)
+    (tie.spec
+    octets-of-requires
+    slice-aggregate-put-hex
+    put-hex-requires
+    same-length
+    returns)

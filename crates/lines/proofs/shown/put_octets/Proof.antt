@@ -1,8 +1,9 @@
-use borrow.Author.Needs.{needs}
+-- Made by tools/answers.py from answers/shown/put_octets.ans: edit that. 40fe29bde429bbeb
 use native.Mathlib.Omega.{arith}
 use Rattle.jer.specs.Octets.{hex}
 use Rattle.octets.proofs.EncodeLaws.{hex-length}
 use Rattle.lines.proofs.ShownLaws.{line-length, line-stored}
+use borrow.Author.Needs.{needs}
 use Rattle.lines.proofs.shown.put_octets.Statement.{statement}
 use Rattle.lines.proofs.shown.put_octets.Tie as tie
 
@@ -29,4 +30,11 @@ returns c =
 
 pub put-octets-spec : {M : Type 1} → statement M
 put-octets-spec =
-    tie.close (tie.spec put-hex-requires add-put put-requires add-result same-length returns)
+    tie.close
+    (tie.spec
+    put-hex-requires
+    add-put
+    put-requires
+    add-result
+    same-length
+    returns)

@@ -1,6 +1,7 @@
-use borrow.Author.Needs.{needs}
+-- Made by tools/answers.py from answers/shown/put_refusal.ans: edit that. b7d0534ba1be5106
 use Rattle.jer.specs.Answer.{valuesOf}
 use Rattle.lines.proofs.ShownLaws.{refusal-four, shown-as}
+use borrow.Author.Needs.{needs}
 use Rattle.lines.proofs.shown.put_refusal.Statement.{statement}
 use Rattle.lines.proofs.shown.put_refusal.Tie as tie
 
@@ -23,4 +24,10 @@ returns c =
 
 pub put-refusal-spec : {M : Type 1} → statement M
 put-refusal-spec =
-    tie.close (tie.spec report-requires cast-put-four put-four-requires same-length returns)
+    tie.close
+    (tie.spec
+    report-requires
+    cast-put-four
+    put-four-requires
+    same-length
+    returns)

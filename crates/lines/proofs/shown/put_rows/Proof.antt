@@ -1,10 +1,11 @@
-use borrow.Author.Needs.{needs}
+-- Made by tools/answers.py from answers/shown/put_rows.ans: edit that. bbe31a1174791b34
 use Prim.Native.Nat.{_+_, _-_, _≤_}
 use native.Mathlib.Omega.{arith}
 use lib.ListN.{length, drop, getD}
 use Rattle.octets.proofs.PutLaws.{Putting, putting-done}
 use Rattle.lines.specs.Shown.{fourLines}
 use Rattle.lines.proofs.ShownLaws.{four-length, fours-length, fours-start, fours-none, fours-done, fours-next}
+use borrow.Author.Needs.{needs}
 use Rattle.lines.proofs.shown.put_rows.Statement.{statement}
 use Rattle.lines.proofs.shown.put_rows.Tie as tie
 

@@ -1,7 +1,8 @@
-use borrow.Author.Needs.{needs}
+-- Made by tools/answers.py from answers/shown/put_writing.ans: edit that. 279a1fa0ac3a27fe
 use mathlib.Core.Path.{_∙_}
 use native.Mathlib.Omega.{arith}
 use Rattle.lines.proofs.ShownLaws.{shown-as, part-line, part-length, writing-refused, writing-written}
+use borrow.Author.Needs.{needs}
 use Rattle.lines.proofs.shown.put_writing.Statement.{statement}
 use Rattle.lines.proofs.shown.put_writing.Tie as tie
 

@@ -1,6 +1,7 @@
-use borrow.Author.Needs.{needs}
+-- Made by tools/answers.py from answers/taken/digit.ans: edit that. 548291dfb795ced6
 use native.Mathlib.Omega.{arith}
 use Rattle.lines.proofs.TakenLaws.{digit-decimal, digit-upper, digit-lower, digit-other}
+use borrow.Author.Needs.{needs}
 use Rattle.lines.proofs.taken.digit.Statement.{statement}
 use Rattle.lines.proofs.taken.digit.Tie as tie
 

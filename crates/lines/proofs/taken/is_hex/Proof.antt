@@ -1,9 +1,10 @@
-use borrow.Author.Needs.{needs}
+-- Made by tools/answers.py from answers/taken/is_hex.ans: edit that. 0b76dc958b1c082d
 use Prim.Native.Nat.{_-_}
 use mathlib.Core.Path.{_≡_, sym, _∙_}
 use lib.ListN.{length, drop}
 use Rattle.lines.specs.Taken.{isHex}
 use Rattle.lines.proofs.TakenLaws.{hex-none, hex-here, hex-more}
+use borrow.Author.Needs.{needs}
 use Rattle.lines.proofs.taken.is_hex.Statement.{statement}
 use Rattle.lines.proofs.taken.is_hex.Tie as tie
 
@@ -23,7 +24,9 @@ digit-requires : tie.Need-digit-requires Inv-loop μ-loop
 digit-requires c κs = search needs
 
 returns : tie.Need-returns Inv-loop μ-loop
-returns c = let l = hex-here (c .before .before .before .before .before .before .args .line .now) (c .before .before .before .before .loop .i) (c .before .before .before .loop-test .taken) (sym (c .before .digit .ensures .0) ∙ c .if1 .taken) in sym l ∙ c .before .before .before .before .loop .inv
+returns c =
+    let c·loop = c .before .before .before .before in
+    let l = hex-here (c·loop .before .before .args .line .now) (c·loop .loop .i) (c .before .before .before .loop-test .taken) (sym (c .before .digit .ensures .0) ∙ c .if1 .taken) in sym l ∙ c·loop .loop .inv
 
 add-i : tie.Need-add-i Inv-loop μ-loop
 add-i c = search needs
@@ -32,7 +35,9 @@ loop-less : tie.Need-loop-less Inv-loop μ-loop
 loop-less c = search needs
 
 loop-again : tie.Need-loop-again Inv-loop μ-loop
-loop-again c = let l = hex-more (c .before .before .before .before .before .before .args .line .now) (c .before .before .before .before .loop .i) (c .before .before .before .loop-test .taken) (λ e. c .if1 .left (c .before .digit .ensures .0 ∙ e)) in sym l ∙ c .before .before .before .before .loop .inv
+loop-again c =
+    let c·loop = c .before .before .before .before in
+    let l = hex-more (c·loop .before .before .args .line .now) (c·loop .loop .i) (c .before .before .before .loop-test .taken) (λ e. c .if1 .left (c .before .digit .ensures .0 ∙ e)) in sym l ∙ c·loop .loop .inv
 
 returns-2 : tie.Need-returns-2 Inv-loop μ-loop
 returns-2 c = sym (hex-none (c .before .before .before .args .line .now) (c .before .loop .i) (c .loop-test .left)) ∙ c .before .loop .inv

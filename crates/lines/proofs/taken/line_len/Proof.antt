@@ -1,10 +1,11 @@
-use borrow.Author.Needs.{needs}
+-- Made by tools/answers.py from answers/taken/line_len.ans: edit that. 35f9fe92eae013f4
 use Prim.Native.Nat.{_+_, _-_, _≤_}
 use mathlib.Core.Path.{_≡_}
 use native.Mathlib.Omega.{arith}
 use lib.ListN.{length, drop}
 use Rattle.jer.specs.Programs.{lineFrom}
 use Rattle.lines.proofs.TakenLaws.{line-none, line-here, line-more}
+use borrow.Author.Needs.{needs}
 use Rattle.lines.proofs.taken.line_len.Statement.{statement}
 use Rattle.lines.proofs.taken.line_len.Tie as tie
 
@@ -24,7 +25,9 @@ sub-result : tie.Need-sub-result Inv-loop μ-loop
 sub-result c = search needs
 
 returns : tie.Need-returns Inv-loop μ-loop
-returns c = let l = line-here (c .before .before .before .before .args .s .now) (c .before .before .before .loop .i) (c .before .before .loop-test .taken) (c .if1 .taken) in omega (arith, l, c .before .before .before .loop .inv)
+returns c =
+    let c·loop = c .before .before .before in
+    let l = line-here (c·loop .before .args .s .now) (c·loop .loop .i) (c .before .before .loop-test .taken) (c .if1 .taken) in omega (arith, l, c·loop .loop .inv)
 
 add-i : tie.Need-add-i Inv-loop μ-loop
 add-i c = search needs
@@ -33,7 +36,9 @@ loop-less : tie.Need-loop-less Inv-loop μ-loop
 loop-less c = search needs
 
 loop-again : tie.Need-loop-again Inv-loop μ-loop
-loop-again c = let l = line-more (c .before .before .before .before .args .s .now) (c .before .before .before .loop .i) (c .before .before .loop-test .taken) (c .if1 .left) in (omega (arith, c .before .before .before .loop .inv), omega (arith, c .before .before .before .loop .inv), omega (arith, l, c .before .before .before .loop .inv))
+loop-again c =
+    let c·loop = c .before .before .before in
+    let l = line-more (c·loop .before .args .s .now) (c·loop .loop .i) (c .before .before .loop-test .taken) (c .if1 .left) in (omega (arith, c·loop .loop .inv), omega (arith, c·loop .loop .inv), omega (arith, l, c·loop .loop .inv))
 
 sub-result-2 : tie.Need-sub-result-2 Inv-loop μ-loop
 sub-result-2 c = search needs

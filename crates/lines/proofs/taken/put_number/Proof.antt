@@ -1,3 +1,4 @@
+-- Made by tools/answers.py from answers/taken/put_number.ans: edit that. 6c9ed33b0b55726d
 use mathlib.Core.Path.{sym}
 use lib.Seq.{set-out}
 use borrow.Author.Needs.{needs}

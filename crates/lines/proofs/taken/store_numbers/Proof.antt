@@ -1,4 +1,4 @@
-use borrow.Author.Needs.{needs}
+-- Made by tools/answers.py from answers/taken/store_numbers.ans: edit that. 6f4c080b23ce7208
 use Prim.Native.Nat.{_-_, _≤_}
 use native.Mathlib.Omega.{arith}
 use lib.ListN.{length, drop}
@@ -6,6 +6,7 @@ use Rattle.octets.proofs.PutLaws.{Putting}
 use Rattle.jer.specs.Programs.{numbersIn}
 use Rattle.lines.specs.Taken.{octetsOf}
 use Rattle.lines.proofs.TakenLaws.{numbers-next, numbers-stored}
+use borrow.Author.Needs.{needs}
 use Rattle.lines.proofs.taken.store_numbers.Statement.{statement}
 use Rattle.lines.proofs.taken.store_numbers.Tie as tie
 
@@ -37,7 +38,9 @@ loop-less : tie.Need-loop-less Inv-loop μ-loop
 loop-less c = search needs
 
 loop-again : tie.Need-loop-again Inv-loop μ-loop
-loop-again c = let i = c .before .before .before .before .before .before .loop .i in (numbers-next (c .before .before .before .before .before .before .before .before .before .args .line .now) i (c .before .before .before .before .before .before .loop .inv .0) (c .before .before .before .before .before .loop-test .taken) (rw (← c .before .before .before .before .number .ensures) (c .before .before .put-number .ensures)) (c .before .before .put-number .kept .0), omega arith, omega arith)
+loop-again c =
+    let c·loop = c .before .before .before .before .before .before in
+    let i = c·loop .loop .i in (numbers-next (c·loop .before .before .before .args .line .now) i (c·loop .loop .inv .0) (c .before .before .before .before .before .loop-test .taken) (rw (← c .before .before .before .before .number .ensures) (c .before .before .put-number .ensures)) (c .before .before .put-number .kept .0), omega arith, omega arith)
 
 same-length : tie.Need-same-length Inv-loop μ-loop
 same-length c = search needs

@@ -1,10 +1,11 @@
-use borrow.Author.Needs.{needs}
+-- Made by tools/answers.py from answers/taken/store_octets.ans: edit that. 2cbaa87ae6494f5a
 use Prim.Native.Nat.{_-_, _≤_}
 use native.Mathlib.Omega.{arith}
 use lib.ListN.{length, drop}
 use Rattle.octets.proofs.PutLaws.{Putting}
 use Rattle.lines.specs.Taken.{octetsOf}
 use Rattle.lines.proofs.TakenLaws.{octets-next, octets-stored}
+use borrow.Author.Needs.{needs}
 use Rattle.lines.proofs.taken.store_octets.Statement.{statement}
 use Rattle.lines.proofs.taken.store_octets.Tie as tie
 
@@ -36,7 +37,9 @@ loop-less : tie.Need-loop-less Inv-loop μ-loop
 loop-less c = search needs
 
 loop-again : tie.Need-loop-again Inv-loop μ-loop
-loop-again c = let i = c .before .before .before .before .before .before .loop .i in (octets-next (c .before .before .before .before .before .before .before .before .before .args .line .now) i (c .before .before .before .before .before .before .loop .inv .0) (c .before .before .before .before .before .loop-test .taken) (rw (← c .before .before .before .before .octet .ensures) (c .before .before .put .ensures)) (c .before .before .put .kept .0), omega arith, omega arith)
+loop-again c =
+    let c·loop = c .before .before .before .before .before .before in
+    let i = c·loop .loop .i in (octets-next (c·loop .before .before .before .args .line .now) i (c·loop .loop .inv .0) (c .before .before .before .before .before .loop-test .taken) (rw (← c .before .before .before .before .octet .ensures) (c .before .before .put .ensures)) (c .before .before .put .kept .0), omega arith, omega arith)
 
 same-length : tie.Need-same-length Inv-loop μ-loop
 same-length c = search needs

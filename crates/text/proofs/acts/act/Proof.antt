@@ -1,13 +1,14 @@
+-- Made by tools/answers.py from answers/acts/act.ans: edit that. 4cac4cdd2872b0a2
 -- The entry for the byte's class, in tables that are lent.
 use Prim.Native.Nat.{ℕ, _<_, _≤_, _-_}
 use mathlib.Core.Path.{_≡_}
 use mathlib.Core.List.{List, []}
 use native.Mathlib.Omega.{arith}
-use borrow.Author.Needs.{needs}
 use lib.ListN.{getD}
 use Rattle.text.specs.Class.{classOf}
 use Rattle.text.specs.Outline.{actOf, IsMode, IsActs}
 use Rattle.text.proofs.ClassLaws.{class-range, act-range}
+use borrow.Author.Needs.{needs}
 use Rattle.text.proofs.acts.act.Statement.{statement}
 use Rattle.text.proofs.acts.act.Tie as tie
 
@@ -42,9 +43,19 @@ index-2-result c = omega (arith, class-range (c .before .args .b) (search needs)
 
 returns : tie.Need-returns
 returns c =
-    let entry = c .before .before in
-    let b = entry .args .b in
-    found (entry .args .acts .now) (entry .args .mode) b (getD (entry .args .classes .now) b 0) (entry .pre .2) (entry .pre .0) (search needs) (entry .pre .1 b (search needs))
+    let b = c .before .before .args .b in
+    found (c .before .before .args .acts .now) (c .before .before .args .mode) b (getD (c .before .before .args .classes .now) b 0) (c .before .before .pre .2) (c .before .before .pre .0) (search needs) (c .before .before .pre .1 b (search needs))
 
 pub act-spec : {M : Type 1} → statement M
-act-spec = tie.close (tie.spec sub-row cast-row element-copy-out-column sub-column cast-column mul-result index-1-result index-2-result returns)
+act-spec =
+    tie.close
+    (tie.spec
+    sub-row
+    cast-row
+    element-copy-out-column
+    sub-column
+    cast-column
+    mul-result
+    index-1-result
+    index-2-result
+    returns)

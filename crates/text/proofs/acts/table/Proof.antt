@@ -1,3 +1,4 @@
+-- Made by tools/answers.py from answers/acts/table.ans: edit that. c7f8ed095e2c1660
 -- The table has, for each mode and class, what the class's first byte leads to; one test over all modes and bytes shows that its other bytes lead there too.
 use Prim.Native.Nat.{ℕ, _<_, _+_, _-_}
 use mathlib.Core.Path.{_≡_, _∙_, ap}

@@ -1,3 +1,4 @@
+-- Made by tools/answers.py from answers/classes/table.ans: edit that. 44467dce9660c1bf
 -- One computed test: each entry of the table against `classOf` of the bytes 0 to 255.
 use mathlib.Core.Path.{_∙_, ap}
 use native.Mathlib.Nat.{zero-add}

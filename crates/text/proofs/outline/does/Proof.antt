@@ -1,3 +1,4 @@
+-- Made by tools/answers.py from answers/outline/does.ans: edit that. 8c980dceb402f613
 -- The act decides.
 use mathlib.Core.Path.{_∙_, sym}
 use Rattle.text.specs.Outline.{lookup, does}

@@ -1,3 +1,4 @@
+-- Made by tools/answers.py from answers/outline/opens.ans: edit that. 552388e832755c58
 -- By the test on the brackets.
 use mathlib.Core.Path.{_∙_}
 use Prim.Native.Nat.{_^_}

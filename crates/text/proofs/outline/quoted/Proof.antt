@@ -1,3 +1,4 @@
+-- Made by tools/answers.py from answers/outline/quoted.ans: edit that. 4e2ae6208ce47a00
 -- By the test on the string.
 use mathlib.Core.Path.{_∙_}
 use Rattle.text.specs.Outline.{quoted}

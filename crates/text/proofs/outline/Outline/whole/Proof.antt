@@ -1,3 +1,4 @@
+-- Made by tools/answers.py from answers/outline/Outline/whole.ans: edit that. 16a0c3d4d11ee73e
 -- By the two tests.
 use mathlib.Core.Path.{_∙_, sym}
 use borrow.Author.Tests.{eq-eqb, ne-eqb}
