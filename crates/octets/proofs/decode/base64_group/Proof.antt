@@ -1,4 +1,4 @@
--- Made by tools/answers.py from answers/decode/base64_group.ans: edit that. 1483d2d14e78739b
+-- Made by tools/answers.py from answers/decode/base64_group.ans: edit that. ed45d7b2d3bef36c
 use mathlib.Core.Path.{subst}
 use Rattle.jer.specs.Octets.{base64Value}
 use Rattle.octets.specs.Decode.{Reads}
@@ -28,34 +28,25 @@ enum-known-y c = search needs
 
 returns : tie.Need-returns
 returns c =
-    let c·args = c .before .before .before .before .before .before .before in
-    let d = subst (Reads base64Value (c·args .args .s .now) (c·args .args .i)) (c .before .before .before .x .given .1) (c .before .before .before .before .before .base64-digit .ensures) in
+    let d = subst (Reads base64Value (c .before .before .before .before .before .before .before .args .s .now) (c .before .before .before .before .before .before .before .args .i)) (c .before .before .before .x .given .1) (c .before .before .before .before .before .base64-digit .ensures) in
     base64-half d (without (c .before .base64-digit2 .result) (c .match2 .keys2) (c .before .base64-digit2 .ensures))
 
 base64-tail-requires : tie.Need-base64-tail-requires
 base64-tail-requires c κs =
-    let c·x = c .before .before .before .before .before in
-    let c·args = c·x .before .before .before .before in
-    let d = subst (Reads base64Value (c·args .args .s .now) (c·args .args .i)) (c·x .x .given .1) (c·x .before .before .base64-digit .ensures) in
-    let e = subst (Reads base64Value (c·args .args .s .now) (c·x .x .given .0 .1 .0)) (c .before .y .given .1) (c .before .before .before .base64-digit2 .ensures) in
-    (c·args .pre, base64-below d, base64-below e)
+    let d = subst (Reads base64Value (c .before .before .before .before .before .before .before .before .before .args .s .now) (c .before .before .before .before .before .before .before .before .before .args .i)) (c .before .before .before .before .before .x .given .1) (c .before .before .before .before .before .before .before .base64-digit .ensures) in
+    let e = subst (Reads base64Value (c .before .before .before .before .before .before .before .before .before .args .s .now) (c .before .before .before .before .before .x .given .0 .1 .0)) (c .before .y .given .1) (c .before .before .before .base64-digit2 .ensures) in
+    (c .before .before .before .before .before .before .before .before .before .pre, base64-below d, base64-below e)
 
 returns-2 : tie.Need-returns-2
-returns-2 c =
-    let c·args = c .before .before .before .before in
-    base64-end (subst (Reads base64Value (c·args .args .s .now) (c·args .args .i)) (c .enum-told .given .1) (c .before .before .base64-digit .ensures))
+returns-2 c = base64-end (subst (Reads base64Value (c .before .before .before .before .args .s .now) (c .before .before .before .before .args .i)) (c .enum-told .given .1) (c .before .before .base64-digit .ensures))
 
 returns-3 : tie.Need-returns-3
-returns-3 c =
-    let c·args = c .before .before .before .before in
-    base64-none (subst (Reads base64Value (c·args .args .s .now) (c·args .args .i)) (c .enum-told2 .given .1) (c .before .before .base64-digit .ensures))
+returns-3 c = base64-none (subst (Reads base64Value (c .before .before .before .before .args .s .now) (c .before .before .before .before .args .i)) (c .enum-told2 .given .1) (c .before .before .base64-digit .ensures))
 
 returns-4 : tie.Need-returns-4
 returns-4 c =
-    let c·x = c .before .before .before .before .before .before in
-    let c·args = c·x .before .before .before .before in
-    let d = subst (Reads base64Value (c·args .args .s .now) (c·args .args .i)) (c·x .x .given .1) (c·x .before .before .base64-digit .ensures) in
-    let e = subst (Reads base64Value (c·args .args .s .now) (c·x .x .given .0 .1 .0)) (c .before .before .y .given .1) (c .before .before .before .before .base64-digit2 .ensures) in
+    let d = subst (Reads base64Value (c .before .before .before .before .before .before .before .before .before .before .args .s .now) (c .before .before .before .before .before .before .before .before .before .before .args .i)) (c .before .before .before .before .before .before .x .given .1) (c .before .before .before .before .before .before .before .before .base64-digit .ensures) in
+    let e = subst (Reads base64Value (c .before .before .before .before .before .before .before .before .before .before .args .s .now) (c .before .before .before .before .before .before .x .given .0 .1 .0)) (c .before .before .y .given .1) (c .before .before .before .before .base64-digit2 .ensures) in
     base64-first d e (c .base64-tail .result) (c .base64-tail .ensures)
 
 pub base64-group-spec : {M : Type 1} → statement M

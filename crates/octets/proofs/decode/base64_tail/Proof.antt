@@ -1,4 +1,4 @@
--- Made by tools/answers.py from answers/decode/base64_tail.ans: edit that. 5d4c7e10c95a76b7
+-- Made by tools/answers.py from answers/decode/base64_tail.ans: edit that. 03cd110c21faa90b
 use mathlib.Core.Path.{sym, subst, _∙_}
 use native.Mathlib.Omega.{arith}
 use borrow.Author.Tests.{not-true, not-false}
@@ -26,9 +26,7 @@ same-as-requires : tie.Need-same-as-requires
 same-as-requires c κs = search needs
 
 returns-2 : tie.Need-returns-2
-returns-2 c =
-    let c·base64-digit = c .before .before .before .before .before in
-    tail-other (without (c·base64-digit .base64-digit .result) (c .before .before .before .before .match .keys2) (c·base64-digit .base64-digit .ensures)) (sym (c .before .same-as .ensures) ∙ not-true (c .before .same-as .result) (c .if2 .taken))
+returns-2 c = tail-other (without (c .before .before .before .before .before .base64-digit .result) (c .before .before .before .before .match .keys2) (c .before .before .before .before .before .base64-digit .ensures)) (sym (c .before .same-as .ensures) ∙ not-true (c .before .same-as .result) (c .if2 .taken))
 
 mul-t12 : tie.Need-mul-t12
 mul-t12 c = search needs
@@ -38,8 +36,8 @@ add-t18 c = search needs
 
 returns-3 : tie.Need-returns-3
 returns-3 c =
-    let c·args = c .before .before .before .before .before .before .before in
-    tail-one (c·args .args .s .now) (c·args .args .i) (omega arith) (sym (c .before .same-as .ensures) ∙ not-false (c .before .same-as .result) (c .if2 .left))
+    let entry = (c .before .before .before .before .before .before .before) in
+    tail-one (c .before .before .before .before .before .before .before .args .s .now) (c .before .before .before .before .before .before .before .args .i) (omega arith) (sym (c .before .same-as .ensures) ∙ not-false (c .before .same-as .result) (c .if2 .left))
 
 base64-digit-requires-2 : tie.Need-base64-digit-requires-2
 base64-digit-requires-2 c κs = search needs
@@ -49,8 +47,7 @@ enum-known-w c = search needs
 
 returns-4 : tie.Need-returns-4
 returns-4 c =
-    let c·args = c .before .before .before .before .before .before .before .before in
-    let d = subst (Reads base64Value (c·args .args .s .now) (c·args .args .i)) (c .before .before .before .before .z .given .1) (c .before .before .before .before .before .before .base64-digit .ensures) in
+    let d = subst (Reads base64Value (c .before .before .before .before .before .before .before .before .args .s .now) (c .before .before .before .before .before .before .before .before .args .i)) (c .before .before .before .before .z .given .1) (c .before .before .before .before .before .before .base64-digit .ensures) in
     tail-bits-2 d (without (c .before .before .base64-digit2 .result) (c .before .match2 .keys2) (c .before .before .base64-digit2 .ensures)) (λ e. c .if3 .taken (omega arith))
 
 slice-aggregate-same-as-2 : tie.Need-slice-aggregate-same-as-2
@@ -61,10 +58,8 @@ same-as-requires-2 c κs = search needs
 
 returns-5 : tie.Need-returns-5
 returns-5 c =
-    let c·base64-digit2 = c .before .before .before .before .before in
-    let c·args = c·base64-digit2 .before .before .before .before .before .before in
-    let d = subst (Reads base64Value (c·args .args .s .now) (c·args .args .i)) (c·base64-digit2 .before .before .z .given .1) (c·base64-digit2 .before .before .before .before .base64-digit .ensures) in
-    tail-other-2 d (without (c·base64-digit2 .base64-digit2 .result) (c .before .before .before .before .match2 .keys2) (c·base64-digit2 .base64-digit2 .ensures)) (sym (c .before .same-as2 .ensures) ∙ not-true (c .before .same-as2 .result) (c .if4 .taken))
+    let d = subst (Reads base64Value (c .before .before .before .before .before .before .before .before .before .before .before .args .s .now) (c .before .before .before .before .before .before .before .before .before .before .before .args .i)) (c .before .before .before .before .before .before .before .z .given .1) (c .before .before .before .before .before .before .before .before .before .base64-digit .ensures) in
+    tail-other-2 d (without (c .before .before .before .before .before .base64-digit2 .result) (c .before .before .before .before .match2 .keys2) (c .before .before .before .before .before .base64-digit2 .ensures)) (sym (c .before .same-as2 .ensures) ∙ not-true (c .before .same-as2 .result) (c .if4 .taken))
 
 mul-t21 : tie.Need-mul-t21
 mul-t21 c = search needs
@@ -77,14 +72,12 @@ mul-t29 c = search needs
 
 add-t31 : tie.Need-add-t31
 add-t31 c =
-    let c·args = c .before .before .before .before .before .before .before .before .before .before .before in
-    let d = subst (Reads base64Value (c·args .args .s .now) (c·args .args .i)) (c .before .before .before .before .before .before .before .z .given .1) (c .before .before .before .before .before .before .before .before .before .base64-digit .ensures) in
+    let d = subst (Reads base64Value (c .before .before .before .before .before .before .before .before .before .before .before .args .s .now) (c .before .before .before .before .before .before .before .before .before .before .before .args .i)) (c .before .before .before .before .before .before .before .z .given .1) (c .before .before .before .before .before .before .before .before .before .base64-digit .ensures) in
     omega (arith, base64-below d)
 
 returns-6 : tie.Need-returns-6
 returns-6 c =
-    let c·args = c .before .before .before .before .before .before .before .before .before .before .before in
-    let d = subst (Reads base64Value (c·args .args .s .now) (c·args .args .i)) (c .before .before .before .before .before .before .before .z .given .1) (c .before .before .before .before .before .before .before .before .before .base64-digit .ensures) in
+    let d = subst (Reads base64Value (c .before .before .before .before .before .before .before .before .before .before .before .args .s .now) (c .before .before .before .before .before .before .before .before .before .before .before .args .i)) (c .before .before .before .before .before .before .before .z .given .1) (c .before .before .before .before .before .before .before .before .before .base64-digit .ensures) in
     tail-two d (omega arith) (sym (c .before .same-as2 .ensures) ∙ not-false (c .before .same-as2 .result) (c .if4 .left))
 
 mul-t33 : tie.Need-mul-t33
@@ -98,8 +91,7 @@ mul-t37 c = search needs
 
 add-t39 : tie.Need-add-t39
 add-t39 c =
-    let c·args = c .before .before .before .before .before .before .before .before .before in
-    let d = subst (Reads base64Value (c·args .args .s .now) (c·args .args .i)) (c .before .before .before .before .before .z .given .1) (c .before .before .before .before .before .before .before .base64-digit .ensures) in
+    let d = subst (Reads base64Value (c .before .before .before .before .before .before .before .before .before .args .s .now) (c .before .before .before .before .before .before .before .before .before .args .i)) (c .before .before .before .before .before .z .given .1) (c .before .before .before .before .before .before .before .base64-digit .ensures) in
     omega (arith, base64-below d)
 
 mul-t41 : tie.Need-mul-t41
@@ -107,18 +99,14 @@ mul-t41 c = search needs
 
 add-t42 : tie.Need-add-t42
 add-t42 c =
-    let c·z = c .before .before .before .before .before in
-    let c·args = c·z .before .before .before .before in
-    let d = subst (Reads base64Value (c·args .args .s .now) (c·args .args .i)) (c·z .z .given .1) (c·z .before .before .base64-digit .ensures) in
-    let e = subst (Reads base64Value (c·args .args .s .now) (c·z .z .given .0 .1 .0)) (c .before .w .given .1) (c .before .before .before .base64-digit2 .ensures) in
+    let d = subst (Reads base64Value (c .before .before .before .before .before .before .before .before .before .args .s .now) (c .before .before .before .before .before .before .before .before .before .args .i)) (c .before .before .before .before .before .z .given .1) (c .before .before .before .before .before .before .before .base64-digit .ensures) in
+    let e = subst (Reads base64Value (c .before .before .before .before .before .before .before .before .before .args .s .now) (c .before .before .before .before .before .z .given .0 .1 .0)) (c .before .w .given .1) (c .before .before .before .base64-digit2 .ensures) in
     omega (arith, base64-below d, base64-below e)
 
 returns-7 : tie.Need-returns-7
 returns-7 c =
-    let c·z = c .before .before .before .before .before in
-    let c·args = c·z .before .before .before .before in
-    let d = subst (Reads base64Value (c·args .args .s .now) (c·args .args .i)) (c·z .z .given .1) (c·z .before .before .base64-digit .ensures) in
-    let e = subst (Reads base64Value (c·args .args .s .now) (c·z .z .given .0 .1 .0)) (c .before .w .given .1) (c .before .before .before .base64-digit2 .ensures) in
+    let d = subst (Reads base64Value (c .before .before .before .before .before .before .before .before .before .args .s .now) (c .before .before .before .before .before .before .before .before .before .args .i)) (c .before .before .before .before .before .z .given .1) (c .before .before .before .before .before .before .before .base64-digit .ensures) in
+    let e = subst (Reads base64Value (c .before .before .before .before .before .before .before .before .before .args .s .now) (c .before .before .before .before .before .z .given .0 .1 .0)) (c .before .w .given .1) (c .before .before .before .base64-digit2 .ensures) in
     tail-three d e
 
 pub base64-tail-spec : {M : Type 1} → statement M

@@ -1,4 +1,4 @@
--- Made by tools/answers.py from answers/decode/hex_digit.ans: edit that. cf6e3dbae901406d
+-- Made by tools/answers.py from answers/decode/hex_digit.ans: edit that. f01e5627e95c1ae0
 use mathlib.Core.Path.{subst}
 use native.Mathlib.Omega.{arith}
 use Rattle.octets.specs.Decode.{asciiValue, Reads}
@@ -26,55 +26,44 @@ sub-t11 : tie.Need-sub-t11
 sub-t11 c = search needs
 
 returns : tie.Need-returns
-returns c =
-    let c·args = c .before .before .before .before in
-    subst (Reads asciiValue (c·args .args .s .now) (c·args .args .i)) (c .enum-told .given .1) (c .before .before .next-char .ensures)
+returns c = subst (Reads asciiValue (c .before .before .before .before .args .s .now) (c .before .before .before .before .args .i)) (c .enum-told .given .1) (c .before .before .next-char .ensures)
 
 returns-2 : tie.Need-returns-2
-returns-2 c =
-    let c·args = c .before .before .before .before in
-    digit-wide hex-wide (subst (Reads asciiValue (c·args .args .s .now) (c·args .args .i)) (c .enum-told2 .given .1) (c .before .before .next-char .ensures))
+returns-2 c = digit-wide hex-wide (subst (Reads asciiValue (c .before .before .before .before .args .s .now) (c .before .before .before .before .args .i)) (c .enum-told2 .given .1) (c .before .before .next-char .ensures))
 
 returns-3 : tie.Need-returns-3
 returns-3 c =
-    let c·args = c .before .before .before .before .before .before .before in
-    let d = subst (Reads asciiValue (c·args .args .s .now) (c·args .args .i)) (c .before .before .before .b .given .1) (c .before .before .before .before .before .next-char .ensures) in
+    let d = subst (Reads asciiValue (c .before .before .before .before .before .before .before .args .s .now) (c .before .before .before .before .before .before .before .args .i)) (c .before .before .before .b .given .1) (c .before .before .before .before .before .next-char .ensures) in
     digit-some d (hex-decimal (omega arith))
 
 returns-4 : tie.Need-returns-4
 returns-4 c =
-    let c·args = c .before .before .before .before .before .before .before .before .before in
-    let d = subst (Reads asciiValue (c·args .args .s .now) (c·args .args .i)) (c .before .before .before .before .before .b .given .1) (c .before .before .before .before .before .before .before .next-char .ensures) in
+    let d = subst (Reads asciiValue (c .before .before .before .before .before .before .before .before .before .args .s .now) (c .before .before .before .before .before .before .before .before .before .args .i)) (c .before .before .before .before .before .b .given .1) (c .before .before .before .before .before .before .before .next-char .ensures) in
     digit-some d (hex-upper (omega arith))
 
 returns-5 : tie.Need-returns-5
 returns-5 c =
-    let c·args = c .before .before .before .before .before .before .before .before .before .before .before in
-    let d = subst (Reads asciiValue (c·args .args .s .now) (c·args .args .i)) (c .before .before .before .before .before .before .before .b .given .1) (c .before .before .before .before .before .before .before .before .before .next-char .ensures) in
+    let d = subst (Reads asciiValue (c .before .before .before .before .before .before .before .before .before .before .before .args .s .now) (c .before .before .before .before .before .before .before .before .before .before .before .args .i)) (c .before .before .before .before .before .before .before .b .given .1) (c .before .before .before .before .before .before .before .before .before .next-char .ensures) in
     digit-some d (hex-lower (omega arith))
 
 returns-6 : tie.Need-returns-6
 returns-6 c =
-    let c·args = c .before .before .before .before .before .before in
-    let d = subst (Reads asciiValue (c·args .args .s .now) (c·args .args .i)) (c .before .before .b .given .1) (c .before .before .before .before .next-char .ensures) in
+    let d = subst (Reads asciiValue (c .before .before .before .before .before .before .args .s .now) (c .before .before .before .before .before .before .args .i)) (c .before .before .b .given .1) (c .before .before .before .before .next-char .ensures) in
     digit-none d (hex-other (λ i. omega arith) (λ i. omega arith) (λ i. omega arith))
 
 returns-7 : tie.Need-returns-7
 returns-7 c =
-    let c·args = c .before .before .before .before .before .before .before .before in
-    let d = subst (Reads asciiValue (c·args .args .s .now) (c·args .args .i)) (c .before .before .before .before .b .given .1) (c .before .before .before .before .before .before .next-char .ensures) in
+    let d = subst (Reads asciiValue (c .before .before .before .before .before .before .before .before .args .s .now) (c .before .before .before .before .before .before .before .before .args .i)) (c .before .before .before .before .b .given .1) (c .before .before .before .before .before .before .next-char .ensures) in
     digit-none d (hex-other (λ i. omega arith) (λ i. omega arith) (λ i. omega arith))
 
 returns-8 : tie.Need-returns-8
 returns-8 c =
-    let c·args = c .before .before .before .before .before .before .before .before .before .before in
-    let d = subst (Reads asciiValue (c·args .args .s .now) (c·args .args .i)) (c .before .before .before .before .before .before .b .given .1) (c .before .before .before .before .before .before .before .before .next-char .ensures) in
+    let d = subst (Reads asciiValue (c .before .before .before .before .before .before .before .before .before .before .args .s .now) (c .before .before .before .before .before .before .before .before .before .before .args .i)) (c .before .before .before .before .before .before .b .given .1) (c .before .before .before .before .before .before .before .before .next-char .ensures) in
     digit-none d (hex-other (λ i. omega arith) (λ i. omega arith) (λ i. omega arith))
 
 returns-9 : tie.Need-returns-9
 returns-9 c =
-    let c·args = c .before .before .before .before .before .before .before .before .before .before .before in
-    let d = subst (Reads asciiValue (c·args .args .s .now) (c·args .args .i)) (c .before .before .before .before .before .before .before .b .given .1) (c .before .before .before .before .before .before .before .before .before .next-char .ensures) in
+    let d = subst (Reads asciiValue (c .before .before .before .before .before .before .before .before .before .before .before .args .s .now) (c .before .before .before .before .before .before .before .before .before .before .before .args .i)) (c .before .before .before .before .before .before .before .b .given .1) (c .before .before .before .before .before .before .before .before .before .next-char .ensures) in
     digit-none d (hex-other (λ i. omega arith) (λ i. omega arith) (λ i. omega arith))
 
 pub hex-digit-spec : {M : Type 1} → statement M

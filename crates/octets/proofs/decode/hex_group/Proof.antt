@@ -1,4 +1,4 @@
--- Made by tools/answers.py from answers/decode/hex_group.ans: edit that. 2f604491b10600b7
+-- Made by tools/answers.py from answers/decode/hex_group.ans: edit that. d2608caf85dee6b5
 use mathlib.Core.Path.{subst}
 use native.Mathlib.Omega.{arith}
 use Rattle.jer.specs.Octets.{hexValue}
@@ -29,40 +29,30 @@ enum-known-y c = search needs
 
 returns : tie.Need-returns
 returns c =
-    let c·args = c .before .before .before .before .before .before .before in
-    let d = subst (Reads hexValue (c·args .args .s .now) (c·args .args .i)) (c .before .before .before .x .given .1) (c .before .before .before .before .before .hex-digit .ensures) in
+    let d = subst (Reads hexValue (c .before .before .before .before .before .before .before .args .s .now) (c .before .before .before .before .before .before .before .args .i)) (c .before .before .before .x .given .1) (c .before .before .before .before .before .hex-digit .ensures) in
     hex-half d (without (c .before .hex-digit2 .result) (c .match2 .keys2) (c .before .hex-digit2 .ensures))
 
 mul-t10 : tie.Need-mul-t10
 mul-t10 c =
-    let c·args = c .before .before .before .before .before .before .before .before .before in
-    let d = subst (Reads hexValue (c·args .args .s .now) (c·args .args .i)) (c .before .before .before .before .before .x .given .1) (c .before .before .before .before .before .before .before .hex-digit .ensures) in
+    let d = subst (Reads hexValue (c .before .before .before .before .before .before .before .before .before .args .s .now) (c .before .before .before .before .before .before .before .before .before .args .i)) (c .before .before .before .before .before .x .given .1) (c .before .before .before .before .before .before .before .hex-digit .ensures) in
     omega (arith, hex-below d)
 
 add-t11 : tie.Need-add-t11
 add-t11 c =
-    let c·x = c .before .before .before .before .before in
-    let c·args = c·x .before .before .before .before in
-    let d = subst (Reads hexValue (c·args .args .s .now) (c·args .args .i)) (c·x .x .given .1) (c·x .before .before .hex-digit .ensures) in
-    let e = subst (Reads hexValue (c·args .args .s .now) (c·x .x .given .0 .1 .0)) (c .before .y .given .1) (c .before .before .before .hex-digit2 .ensures) in
+    let d = subst (Reads hexValue (c .before .before .before .before .before .before .before .before .before .args .s .now) (c .before .before .before .before .before .before .before .before .before .args .i)) (c .before .before .before .before .before .x .given .1) (c .before .before .before .before .before .before .before .hex-digit .ensures) in
+    let e = subst (Reads hexValue (c .before .before .before .before .before .before .before .before .before .args .s .now) (c .before .before .before .before .before .x .given .0 .1 .0)) (c .before .y .given .1) (c .before .before .before .hex-digit2 .ensures) in
     omega (arith, hex-below d, hex-below e)
 
 returns-2 : tie.Need-returns-2
-returns-2 c =
-    let c·args = c .before .before .before .before in
-    hex-end (subst (Reads hexValue (c·args .args .s .now) (c·args .args .i)) (c .enum-told .given .1) (c .before .before .hex-digit .ensures))
+returns-2 c = hex-end (subst (Reads hexValue (c .before .before .before .before .args .s .now) (c .before .before .before .before .args .i)) (c .enum-told .given .1) (c .before .before .hex-digit .ensures))
 
 returns-3 : tie.Need-returns-3
-returns-3 c =
-    let c·args = c .before .before .before .before in
-    hex-none (subst (Reads hexValue (c·args .args .s .now) (c·args .args .i)) (c .enum-told2 .given .1) (c .before .before .hex-digit .ensures))
+returns-3 c = hex-none (subst (Reads hexValue (c .before .before .before .before .args .s .now) (c .before .before .before .before .args .i)) (c .enum-told2 .given .1) (c .before .before .hex-digit .ensures))
 
 returns-4 : tie.Need-returns-4
 returns-4 c =
-    let c·x = c .before .before .before .before .before in
-    let c·args = c·x .before .before .before .before in
-    let d = subst (Reads hexValue (c·args .args .s .now) (c·args .args .i)) (c·x .x .given .1) (c·x .before .before .hex-digit .ensures) in
-    let e = subst (Reads hexValue (c·args .args .s .now) (c·x .x .given .0 .1 .0)) (c .before .y .given .1) (c .before .before .before .hex-digit2 .ensures) in
+    let d = subst (Reads hexValue (c .before .before .before .before .before .before .before .before .before .args .s .now) (c .before .before .before .before .before .before .before .before .before .args .i)) (c .before .before .before .before .before .x .given .1) (c .before .before .before .before .before .before .before .hex-digit .ensures) in
+    let e = subst (Reads hexValue (c .before .before .before .before .before .before .before .before .before .args .s .now) (c .before .before .before .before .before .x .given .0 .1 .0)) (c .before .y .given .1) (c .before .before .before .hex-digit2 .ensures) in
     hex-octet d e
 
 pub hex-group-spec : {M : Type 1} → statement M

@@ -1,4 +1,4 @@
--- Made by tools/answers.py from answers/decode/octets.ans: edit that. ef37f57476cf70f7
+-- Made by tools/answers.py from answers/decode/octets.ans: edit that. 92e4791016ea96ce
 use Prim.Native.Nat.{_-_}
 use mathlib.Core.Path.{subst}
 use native.Mathlib.Omega.{arith}
@@ -28,10 +28,7 @@ same-length : tie.Need-same-length Inv-loop μ-loop
 same-length c = c .before .before .before .loop .inv .kept
 
 returns : tie.Need-returns Inv-loop μ-loop
-returns c =
-    let c·loop = c .before .before .before in
-    let c·args = c·loop .before .before .before in
-    decoding-end (c·loop .loop .inv) (subst (Groups (decoding (c·args .args .base64)) (c·args .args .s .now) (c·loop .loop .i)) (c .enum-told .given .1) (c .before .before .next-group .ensures))
+returns c = decoding-end (c .before .before .before .loop .inv) (subst (Groups (decoding (c .before .before .before .before .before .before .args .base64)) (c .before .before .before .before .before .before .args .s .now) (c .before .before .before .loop .i)) (c .enum-told .given .1) (c .before .before .next-group .ensures))
 
 enum-told-2 : tie.Need-enum-told-2 Inv-loop μ-loop
 enum-told-2 c = search needs
@@ -40,68 +37,51 @@ same-length-2 : tie.Need-same-length-2 Inv-loop μ-loop
 same-length-2 c = c .before .before .before .loop .inv .kept
 
 returns-2 : tie.Need-returns-2 Inv-loop μ-loop
-returns-2 c =
-    let c·loop = c .before .before .before in
-    let c·args = c·loop .before .before .before in
-    decoding-bad (c·loop .loop .inv) (subst (Groups (decoding (c·args .args .base64)) (c·args .args .s .now) (c·loop .loop .i)) (c .enum-told2 .given .1) (c .before .before .next-group .ensures))
+returns-2 c = decoding-bad (c .before .before .before .loop .inv) (subst (Groups (decoding (c .before .before .before .before .before .before .args .base64)) (c .before .before .before .before .before .before .args .s .now) (c .before .before .before .loop .i)) (c .enum-told2 .given .1) (c .before .before .next-group .ensures))
 
 enum-known-x : tie.Need-enum-known-x Inv-loop μ-loop
 enum-known-x c = search needs
 
 add-put-all : tie.Need-add-put-all Inv-loop μ-loop
 add-put-all c =
-    let c·loop = c .before .before .before .before .before in
-    let c·args = c·loop .before .before .before in
-    let inv = c·loop .loop .inv in
-    let g = subst (Groups (decoding (c·args .args .base64)) (c·args .args .s .now) (c·loop .loop .i)) (c .before .before .x .given .1) (c .before .before .before .before .next-group .ensures) in
-    omega (arith, g .inside, inv .few, c·args .pre)
+    let inv = c .before .before .before .before .before .loop .inv in
+    let g = subst (Groups (decoding (c .before .before .before .before .before .before .before .before .args .base64)) (c .before .before .before .before .before .before .before .before .args .s .now) (c .before .before .before .before .before .loop .i)) (c .before .before .x .given .1) (c .before .before .before .before .next-group .ensures) in
+    omega (arith, g .inside, inv .few, c .before .before .before .before .before .before .before .before .pre)
 
 array-share-prefix-group : tie.Need-array-share-prefix-group Inv-loop μ-loop
 array-share-prefix-group c =
-    let c·loop = c .before .before .before .before .before in
-    let c·args = c·loop .before .before .before in
-    let inv = c·loop .loop .inv in
-    let g = subst (Groups (decoding (c·args .args .base64)) (c·args .args .s .now) (c·loop .loop .i)) (c .before .before .x .given .1) (c .before .before .before .before .next-group .ensures) in
+    let inv = c .before .before .before .before .before .loop .inv in
+    let g = subst (Groups (decoding (c .before .before .before .before .before .before .before .before .args .base64)) (c .before .before .before .before .before .before .before .before .args .s .now) (c .before .before .before .before .before .loop .i)) (c .before .before .x .given .1) (c .before .before .before .before .next-group .ensures) in
     g .few
 
 slice-aggregate-put-all : tie.Need-slice-aggregate-put-all Inv-loop μ-loop
 slice-aggregate-put-all c =
-    let c·loop = c .before .before .before .before .before .before in
-    let c·args = c·loop .before .before .before in
-    let inv = c·loop .loop .inv in
-    let g = subst (Groups (decoding (c·args .args .base64)) (c·args .args .s .now) (c·loop .loop .i)) (c .before .before .before .x .given .1) (c .before .before .before .before .before .next-group .ensures) in
+    let inv = c .before .before .before .before .before .before .loop .inv in
+    let g = subst (Groups (decoding (c .before .before .before .before .before .before .before .before .before .args .base64)) (c .before .before .before .before .before .before .before .before .before .args .s .now) (c .before .before .before .before .before .before .loop .i)) (c .before .before .before .x .given .1) (c .before .before .before .before .before .next-group .ensures) in
     group-length inv g
 
 put-all-requires : tie.Need-put-all-requires Inv-loop μ-loop
 put-all-requires c κs =
-    let c·loop = c .before .before .before .before .before .before in
-    let c·args = c·loop .before .before .before in
-    let inv = c·loop .loop .inv in
-    let g = subst (Groups (decoding (c·args .args .base64)) (c·args .args .s .now) (c·loop .loop .i)) (c .before .before .before .x .given .1) (c .before .before .before .before .before .next-group .ensures) in
-    omega (arith, g .inside, g .few, group-length inv g, inv .few, c·args .pre)
+    let inv = c .before .before .before .before .before .before .loop .inv in
+    let g = subst (Groups (decoding (c .before .before .before .before .before .before .before .before .before .args .base64)) (c .before .before .before .before .before .before .before .before .before .args .s .now) (c .before .before .before .before .before .before .loop .i)) (c .before .before .before .x .given .1) (c .before .before .before .before .before .next-group .ensures) in
+    omega (arith, g .inside, g .few, group-length inv g, inv .few, c .before .before .before .before .before .before .before .before .before .pre)
 
 add-n : tie.Need-add-n Inv-loop μ-loop
 add-n c =
-    let c·loop = c .before .before .before .before .before .before .before .before .before in
-    let c·args = c·loop .before .before .before in
-    let inv = c·loop .loop .inv in
-    let g = subst (Groups (decoding (c·args .args .base64)) (c·args .args .s .now) (c·loop .loop .i)) (c .before .before .before .before .before .before .x .given .1) (c .before .before .before .before .before .before .before .before .next-group .ensures) in
-    omega (arith, g .inside, g .few, inv .few, c·args .pre)
+    let inv = c .before .before .before .before .before .before .before .before .before .loop .inv in
+    let g = subst (Groups (decoding (c .before .before .before .before .before .before .before .before .before .before .before .before .args .base64)) (c .before .before .before .before .before .before .before .before .before .before .before .before .args .s .now) (c .before .before .before .before .before .before .before .before .before .loop .i)) (c .before .before .before .before .before .before .x .given .1) (c .before .before .before .before .before .before .before .before .next-group .ensures) in
+    omega (arith, g .inside, g .few, inv .few, c .before .before .before .before .before .before .before .before .before .before .before .before .pre)
 
 loop-less : tie.Need-loop-less Inv-loop μ-loop
 loop-less c =
-    let c·loop = c .before .before .before .before .before .before .before .before .before in
-    let c·args = c·loop .before .before .before in
-    let inv = c·loop .loop .inv in
-    let g = subst (Groups (decoding (c·args .args .base64)) (c·args .args .s .now) (c·loop .loop .i)) (c .before .before .before .before .before .before .x .given .1) (c .before .before .before .before .before .before .before .before .next-group .ensures) in
+    let inv = c .before .before .before .before .before .before .before .before .before .loop .inv in
+    let g = subst (Groups (decoding (c .before .before .before .before .before .before .before .before .before .before .before .before .args .base64)) (c .before .before .before .before .before .before .before .before .before .before .before .before .args .s .now) (c .before .before .before .before .before .before .before .before .before .loop .i)) (c .before .before .before .before .before .before .x .given .1) (c .before .before .before .before .before .before .before .before .next-group .ensures) in
     omega (arith, g .inside, g .ahead)
 
 loop-again : tie.Need-loop-again Inv-loop μ-loop
 loop-again c =
-    let c·loop = c .before .before .before .before .before .before .before .before .before in
-    let c·args = c·loop .before .before .before in
-    let inv = c·loop .loop .inv in
-    let g = subst (Groups (decoding (c·args .args .base64)) (c·args .args .s .now) (c·loop .loop .i)) (c .before .before .before .before .before .before .x .given .1) (c .before .before .before .before .before .before .before .before .next-group .ensures) in
+    let inv = c .before .before .before .before .before .before .before .before .before .loop .inv in
+    let g = subst (Groups (decoding (c .before .before .before .before .before .before .before .before .before .before .before .before .args .base64)) (c .before .before .before .before .before .before .before .before .before .before .before .before .args .s .now) (c .before .before .before .before .before .before .before .before .before .loop .i)) (c .before .before .before .before .before .before .x .given .1) (c .before .before .before .before .before .before .before .before .next-group .ensures) in
     decoding-more inv g (c .before .before .put-all .ensures) (c .before .before .put-all .kept .0)
 
 pub octets-spec : {M : Type 1} → statement M

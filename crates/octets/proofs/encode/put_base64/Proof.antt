@@ -1,4 +1,4 @@
--- Made by tools/answers.py from answers/encode/put_base64.ans: edit that. 216c5b6862c1f596
+-- Made by tools/answers.py from answers/encode/put_base64.ans: edit that. 82e42b4ea4c8970f
 use Prim.Native.Nat.{_+_, _-_, _≤_}
 use mathlib.Core.Path.{_∙_}
 use native.Mathlib.Omega.{arith}
@@ -60,9 +60,8 @@ loop-less c = search needs
 
 loop-again : tie.Need-loop-again Inv-loop μ-loop
 loop-again c =
-    let c·loop = c .before .before .before .before .before .before .before .before .before .before in
-    let c·args = c·loop .before .before .before in
-    (base64-next (c·args .args .octets .now) (c·loop .loop .i) (c·loop .loop .inv .0) (c .before .before .before .before .before .before .before .before .before .loop-test .taken) (sets-as (c·loop .loop .text) (c·args .args .k + c·loop .loop .n) (c .before .before .before .before .before .group .ensures) (c .before .before .put-all .ensures)) (c .before .before .put-all .kept .0), omega arith)
+    let entry = (c .before .before .before .before .before .before .before .before .before .before .before .before .before) in
+    (base64-next (c .before .before .before .before .before .before .before .before .before .before .before .before .before .args .octets .now) (c .before .before .before .before .before .before .before .before .before .before .loop .i) (c .before .before .before .before .before .before .before .before .before .before .loop .inv .0) (c .before .before .before .before .before .before .before .before .before .loop-test .taken) (sets-as (c .before .before .before .before .before .before .before .before .before .before .loop .text) (c .before .before .before .before .before .before .before .before .before .before .before .before .before .args .k + c .before .before .before .before .before .before .before .before .before .before .loop .n) (c .before .before .before .before .before .group .ensures) (c .before .before .put-all .ensures)) (c .before .before .put-all .kept .0), omega arith)
 
 sub-if1 : tie.Need-sub-if1 Inv-loop μ-loop
 sub-if1 c = search needs
@@ -99,11 +98,9 @@ same-length c = c .before .before .put-all2 .kept .0 ∙ c .before .before .befo
 
 returns : tie.Need-returns Inv-loop μ-loop
 returns c =
-    let c·loop = c .before .before .before .before .before .before .before .before .before .before in
-    let c·args = c·loop .before .before .before in
-    let os = c·args .args .octets .now in
-    let i = c·loop .loop .i in
-    base64-last-two os i (c·loop .loop .inv .0) (c .before .before .before .before .before .before .before .before .if1 .taken) (sets-as (c·loop .loop .text) (c·args .args .k + c·loop .loop .n) (one-pad (getD os i 0) (getD os (i + 1) 0) (c .before .before .before .before .before .group2 .ensures)) (c .before .before .put-all2 .ensures))
+    let os = c .before .before .before .before .before .before .before .before .before .before .before .before .before .args .octets .now in
+    let i = c .before .before .before .before .before .before .before .before .before .before .loop .i in
+    base64-last-two os i (c .before .before .before .before .before .before .before .before .before .before .loop .inv .0) (c .before .before .before .before .before .before .before .before .if1 .taken) (sets-as (c .before .before .before .before .before .before .before .before .before .before .loop .text) (c .before .before .before .before .before .before .before .before .before .before .before .before .before .args .k + c .before .before .before .before .before .before .before .before .before .before .loop .n) (one-pad (getD os i 0) (getD os (i + 1) 0) (c .before .before .before .before .before .group2 .ensures)) (c .before .before .put-all2 .ensures))
 
 sub-if2 : tie.Need-sub-if2 Inv-loop μ-loop
 sub-if2 c = search needs
@@ -137,19 +134,15 @@ same-length-2 c = c .before .before .put-all3 .kept .0 ∙ c .before .before .be
 
 returns-2 : tie.Need-returns-2 Inv-loop μ-loop
 returns-2 c =
-    let c·loop = c .before .before .before .before .before .before .before .before .before .before in
-    let c·args = c·loop .before .before .before in
-    let os = c·args .args .octets .now in
-    let i = c·loop .loop .i in
-    base64-last-one os i (c·loop .loop .inv .0) (c .before .before .before .before .before .before .before .if2 .taken) (sets-as (c·loop .loop .text) (c·args .args .k + c·loop .loop .n) (two-pads (getD os i 0) (c .before .before .before .before .before .group3 .ensures)) (c .before .before .put-all3 .ensures))
+    let os = c .before .before .before .before .before .before .before .before .before .before .before .before .before .args .octets .now in
+    let i = c .before .before .before .before .before .before .before .before .before .before .loop .i in
+    base64-last-one os i (c .before .before .before .before .before .before .before .before .before .before .loop .inv .0) (c .before .before .before .before .before .before .before .if2 .taken) (sets-as (c .before .before .before .before .before .before .before .before .before .before .loop .text) (c .before .before .before .before .before .before .before .before .before .before .before .before .before .args .k + c .before .before .before .before .before .before .before .before .before .before .loop .n) (two-pads (getD os i 0) (c .before .before .before .before .before .group3 .ensures)) (c .before .before .put-all3 .ensures))
 
 same-length-3 : tie.Need-same-length-3 Inv-loop μ-loop
 same-length-3 c = c .before .before .before .loop .inv .0 .kept
 
 returns-3 : tie.Need-returns-3 Inv-loop μ-loop
-returns-3 c =
-    let c·loop = c .before .before .before in
-    putting-done (c·loop .loop .inv .0) (base64-done (c·loop .before .before .before .args .octets .now) (c·loop .loop .i) (omega arith))
+returns-3 c = putting-done (c .before .before .before .loop .inv .0) (base64-done (c .before .before .before .before .before .before .args .octets .now) (c .before .before .before .loop .i) (omega arith))
 
 pub put-base64-spec : {M : Type 1} → statement M
 put-base64-spec =

@@ -1,4 +1,4 @@
--- Made by tools/answers.py from answers/encode/put_hex.ans: edit that. 38b205204639d442
+-- Made by tools/answers.py from answers/encode/put_hex.ans: edit that. a1ed6c321d9ca9ff
 use Prim.Native.Nat.{_+_, _-_}
 use native.Mathlib.Omega.{arith}
 use lib.ListN.{length, drop, getD}
@@ -47,11 +47,9 @@ loop-less c = search needs
 
 loop-again : tie.Need-loop-again Inv-loop μ-loop
 loop-again c =
-    let c·loop = c .before .before .before .before .before .before .before .before .before in
-    let c·args = c·loop .before .before .before in
-    let b = getD (c·args .args .octets .now) (c·loop .loop .i) 0 in
-    hex-next (c·args .args .octets .now) (c·loop .loop .i) (c·loop .loop .inv) (c .before .before .before .before .before .before .before .before .loop-test .taken)
-    (sets-as (c·loop .loop .text) (c·args .args .k + c·loop .loop .n) (hex-one b (c .before .before .before .before .before .before .hex-digit .ensures) (c .before .before .before .before .before .hex-digit2 .ensures)) (c .before .before .put-all .ensures))
+    let b = getD (c .before .before .before .before .before .before .before .before .before .before .before .before .args .octets .now) (c .before .before .before .before .before .before .before .before .before .loop .i) 0 in
+    hex-next (c .before .before .before .before .before .before .before .before .before .before .before .before .args .octets .now) (c .before .before .before .before .before .before .before .before .before .loop .i) (c .before .before .before .before .before .before .before .before .before .loop .inv) (c .before .before .before .before .before .before .before .before .loop-test .taken)
+    (sets-as (c .before .before .before .before .before .before .before .before .before .loop .text) (c .before .before .before .before .before .before .before .before .before .before .before .before .args .k + c .before .before .before .before .before .before .before .before .before .loop .n) (hex-one b (c .before .before .before .before .before .before .hex-digit .ensures) (c .before .before .before .before .before .hex-digit2 .ensures)) (c .before .before .put-all .ensures))
     (c .before .before .put-all .kept .0)
 
 same-length : tie.Need-same-length Inv-loop μ-loop

@@ -1,4 +1,4 @@
--- Made by tools/answers.py from answers/escape/escapes_len.ans: edit that. 03f1d339b6949b11
+-- Made by tools/answers.py from answers/escape/escapes_len.ans: edit that. e61501430fb3d043
 use Prim.Native.Nat.{_-_}
 use lib.ListN.{length}
 use Rattle.octets.proofs.EscapeLaws.{Counting, counting-start, counting-more, counting-done}
@@ -31,9 +31,7 @@ loop-less : tie.Need-loop-less Inv-loop μ-loop
 loop-less c = search needs
 
 loop-again : tie.Need-loop-again Inv-loop μ-loop
-loop-again c =
-    let c·loop = c .before .before .before .before in
-    counting-more (c·loop .before .before .args .octets .now) (c·loop .loop .i) (c·loop .loop .n) (c·loop .loop .inv) (c .before .before .before .loop-test .taken) (c .before .escaped-len .result) (c .add .result) (c .before .escaped-len .ensures) (c .add .ensures)
+loop-again c = counting-more (c .before .before .before .before .before .before .args .octets .now) (c .before .before .before .before .loop .i) (c .before .before .before .before .loop .n) (c .before .before .before .before .loop .inv) (c .before .before .before .loop-test .taken) (c .before .escaped-len .result) (c .add .result) (c .before .escaped-len .ensures) (c .add .ensures)
 
 returns : tie.Need-returns Inv-loop μ-loop
 returns c = counting-done (c .before .before .before .args .octets .now) (c .before .loop .i) (c .before .loop .n) (c .before .loop .inv) (c .loop-test .left)

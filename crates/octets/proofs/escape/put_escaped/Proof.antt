@@ -1,4 +1,4 @@
--- Made by tools/answers.py from answers/escape/put_escaped.ans: edit that. 785475113b6573c4
+-- Made by tools/answers.py from answers/escape/put_escaped.ans: edit that. 7b302f6d1fe5ea7c
 use mathlib.Core.Path.{sym, ap, _∙_}
 use lib.ListN.{length}
 use Rattle.octets.proofs.EscapeLaws.{escaped-letter, escaped-plain, escaped-control, control-digits}
@@ -21,9 +21,8 @@ same-length c = search needs
 
 returns : tie.Need-returns
 returns c =
-    let c·fits = c .before .before .before .before .before .before .before .before in
-    let e = escaped-letter (c·fits .fits .b .fits) (c .before .before .before .before .before .before .letter-for .ensures) (c .before .before .before .before .before .if1 .taken) in
-    (sym (ap length e), sets-as (c·fits .args .text .now) (c·fits .args .k) (sym e) (c .before .before .put-all .ensures))
+    let e = escaped-letter (c .before .before .before .before .before .before .before .before .fits .b .fits) (c .before .before .before .before .before .before .letter-for .ensures) (c .before .before .before .before .before .if1 .taken) in
+    (sym (ap length e), sets-as (c .before .before .before .before .before .before .before .before .args .text .now) (c .before .before .before .before .before .before .before .before .args .k) (sym e) (c .before .before .put-all .ensures))
 
 put-requires : tie.Need-put-requires
 put-requires c κs = search needs
@@ -33,9 +32,8 @@ same-length-2 c = search needs
 
 returns-2 : tie.Need-returns-2
 returns-2 c =
-    let c·fits = c .before .before .before .before .before .before .before .before in
-    let e = escaped-plain (c·fits .fits .b .fits) (c .before .before .before .before .before .before .letter-for .ensures) (c .before .before .before .before .before .if1 .left) (c .before .before .before .before .if2 .taken) in
-    (sym (ap length e), sets-as (c·fits .args .text .now) (c·fits .args .k) (sym e) (c .before .before .put .ensures))
+    let e = escaped-plain (c .before .before .before .before .before .before .before .before .fits .b .fits) (c .before .before .before .before .before .before .letter-for .ensures) (c .before .before .before .before .before .if1 .left) (c .before .before .before .before .if2 .taken) in
+    (sym (ap length e), sets-as (c .before .before .before .before .before .before .before .before .args .text .now) (c .before .before .before .before .before .before .before .before .args .k) (sym e) (c .before .before .put .ensures))
 
 hex-digit-requires : tie.Need-hex-digit-requires
 hex-digit-requires c κs = search needs
@@ -54,9 +52,8 @@ same-length-3 c = search needs
 
 returns-3 : tie.Need-returns-3
 returns-3 c =
-    let c·fits = c .before .before .before .before .before .before .before .before .before .before .before in
-    let e = escaped-control (c·fits .fits .b .fits) (c .before .before .before .before .before .before .before .before .before .letter-for .ensures) (c .before .before .before .before .before .before .before .before .if1 .left) (c .before .before .before .before .before .before .before .if2 .left) in
-    (sym (ap length e), sets-as (c·fits .args .text .now) (c·fits .args .k) (control-digits (c·fits .args .b) (c .before .before .before .before .before .before .hex-digit .ensures) (c .before .before .before .before .before .hex-digit2 .ensures) ∙ sym e) (c .before .before .put-all2 .ensures))
+    let e = escaped-control (c .before .before .before .before .before .before .before .before .before .before .before .fits .b .fits) (c .before .before .before .before .before .before .before .before .before .letter-for .ensures) (c .before .before .before .before .before .before .before .before .if1 .left) (c .before .before .before .before .before .before .before .if2 .left) in
+    (sym (ap length e), sets-as (c .before .before .before .before .before .before .before .before .before .before .before .args .text .now) (c .before .before .before .before .before .before .before .before .before .before .before .args .k) (control-digits (c .before .before .before .before .before .before .before .before .before .before .before .args .b) (c .before .before .before .before .before .before .hex-digit .ensures) (c .before .before .before .before .before .hex-digit2 .ensures) ∙ sym e) (c .before .before .put-all2 .ensures))
 
 pub put-escaped-spec : {M : Type 1} → statement M
 put-escaped-spec =

@@ -1,4 +1,4 @@
--- Made by tools/answers.py from answers/escape/put_escapes.ans: edit that. ca84f6434cf7afcc
+-- Made by tools/answers.py from answers/escape/put_escapes.ans: edit that. 22fd273a0976c2bf
 use Prim.Native.Nat.{_-_}
 use native.Mathlib.Omega.{arith}
 use lib.ListN.{length, drop}
@@ -29,8 +29,8 @@ put-escaped-requires c κs = search needs
 
 add-n : tie.Need-add-n Inv-loop μ-loop
 add-n c =
-    let c·args = c .before .before .before .before .before .before .before .before .before in
-    omega (arith, escapes-room (c·args .args .octets .now) (c .before .before .before .before .before .before .loop .inv) (c .before .before .before .before .before .loop-test .taken) (c .before .before .put-escaped .ensures .0), c·args .pre)
+    let entry = (c .before .before .before .before .before .before .before .before .before) in
+    omega (arith, escapes-room (c .before .before .before .before .before .before .before .before .before .args .octets .now) (c .before .before .before .before .before .before .loop .inv) (c .before .before .before .before .before .loop-test .taken) (c .before .before .put-escaped .ensures .0), c .before .before .before .before .before .before .before .before .before .pre)
 
 add-i : tie.Need-add-i Inv-loop μ-loop
 add-i c = search needs

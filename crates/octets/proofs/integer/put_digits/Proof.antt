@@ -1,4 +1,4 @@
--- Made by tools/answers.py from answers/integer/put_digits.ans: edit that. 0d43ba268fd15556
+-- Made by tools/answers.py from answers/integer/put_digits.ans: edit that. 749fa37f94aebd5a
 use mathlib.Core.Path.{_∙_}
 use native.Mathlib.Omega.{arith}
 use Rattle.octets.proofs.IntegerLaws.{PuttingDigits, putting-start, putting-few, putting-inside, putting-next, putting-done}
@@ -55,9 +55,7 @@ same-length : tie.Need-same-length Inv-loop μ-loop
 same-length c = c .before .before .put2 .kept .0 ∙ c .before .before .before .before .before .loop .inv .kept
 
 returns : tie.Need-returns Inv-loop μ-loop
-returns c =
-    let c·digit-count = c .before .before .before .before .before .before in
-    (c·digit-count .digit-count .ensures .0, (c·digit-count .digit-count .ensures .1 .1, putting-done (c .before .before .before .before .before .loop .inv) (c .before .before .before .before .loop-test .left) (c .before .before .put2 .ensures)))
+returns c = (c .before .before .before .before .before .before .digit-count .ensures .0, (c .before .before .before .before .before .before .digit-count .ensures .1 .1, putting-done (c .before .before .before .before .before .loop .inv) (c .before .before .before .before .loop-test .left) (c .before .before .put2 .ensures)))
 
 pub put-digits-spec : {M : Type 1} → statement M
 put-digits-spec =

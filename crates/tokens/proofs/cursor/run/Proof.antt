@@ -1,4 +1,4 @@
--- Made by tools/answers.py from answers/cursor/run.ans: edit that. e6a061dcabe4231d
+-- Made by tools/answers.py from answers/cursor/run.ans: edit that. 810bb31d43796ab8
 use Prim.Native.Nat.{_-_}
 use mathlib.Core.Path.{_≡_, sym, _∙_}
 use lib.ListN.{length}
@@ -27,10 +27,9 @@ is-in-requires c κs = search needs
 
 returns : tie.Need-returns Inv-loop μ-loop
 returns c =
-    let c·args = c .before .before .before .before .before .before in
-    let s = c·args .args .s .now in
+    let s = c .before .before .before .before .before .before .args .s .now in
     let l = c .before .before .before .before .loop in
-    let f = passes (c·args .args .class) in
+    let f = passes (c .before .before .before .before .before .before .args .class) in
     sym (l .inv ∙ run-stop f s (l .i) (c .before .before .before .loop-test .taken) (sym (c .before .is-in .ensures) ∙ not-true _ (c .if1 .taken)))
 
 add-i : tie.Need-add-i Inv-loop μ-loop
@@ -41,18 +40,16 @@ loop-less c = search needs
 
 loop-again : tie.Need-loop-again Inv-loop μ-loop
 loop-again c =
-    let c·args = c .before .before .before .before .before .before in
-    let s = c·args .args .s .now in
+    let s = c .before .before .before .before .before .before .args .s .now in
     let l = c .before .before .before .before .loop in
-    let f = passes (c·args .args .class) in
+    let f = passes (c .before .before .before .before .before .before .args .class) in
     l .inv ∙ run-more f s (l .i) (c .before .before .before .loop-test .taken) (sym (c .before .is-in .ensures) ∙ not-false _ (c .if1 .left))
 
 returns-2 : tie.Need-returns-2 Inv-loop μ-loop
 returns-2 c =
-    let c·args = c .before .before .before in
-    let s = c·args .args .s .now in
+    let s = c .before .before .before .args .s .now in
     let l = c .before .loop in
-    let f = passes (c·args .args .class) in
+    let f = passes (c .before .before .before .args .class) in
     sym (l .inv ∙ run-end f s (l .i) (c .loop-test .left))
 
 pub run-spec : {M : Type 1} → statement M

@@ -1,4 +1,4 @@
--- Made by tools/answers.py from answers/numbers/integer_at.ans: edit that. d6397864f9161170
+-- Made by tools/answers.py from answers/numbers/integer_at.ans: edit that. 0748ef6faa9c8351
 use mathlib.Core.Path.{ap, _∙_}
 use native.Mathlib.Omega.{arith}
 use Rattle.tokens.specs.Enums.{integerOf}
@@ -13,9 +13,8 @@ byte-at-requires c κs = search needs
 
 add-whole : tie.Need-add-whole
 add-whole c =
-    let c·args = c .before .before .before in
-    let s = c·args .args .s .now in
-    let p = c·args .args .p in
+    let s = c .before .before .before .args .s .now in
+    let p = c .before .before .before .args .p in
     let b = c .before .byte-at in
     omega (arith, inside s p (λ e. omega (arith, b .ensures .0)))
 
@@ -24,9 +23,8 @@ whole-requires c κs = search needs
 
 returns : tie.Need-returns
 returns c =
-    let c·args = c .before .before .before .before in
-    let s = c·args .args .s .now in
-    let p = c·args .args .p in
+    let s = c .before .before .before .before .args .s .now in
+    let p = c .before .before .before .before .args .p in
     let b = c .before .before .byte-at in
     c .whole .ensures ∙ ap integerOf (integer-minus s p (b .result) (b .ensures .0) (c .before .if1 .taken))
 
@@ -35,9 +33,8 @@ whole-requires-2 c κs = search needs
 
 returns-2 : tie.Need-returns-2
 returns-2 c =
-    let c·args = c .before .before .before .before in
-    let s = c·args .args .s .now in
-    let p = c·args .args .p in
+    let s = c .before .before .before .before .args .s .now in
+    let p = c .before .before .before .before .args .p in
     let b = c .before .before .byte-at in
     c .whole2 .ensures ∙ ap integerOf (integer-plain s p (b .result) (b .ensures .0) (c .before .if1 .left))
 

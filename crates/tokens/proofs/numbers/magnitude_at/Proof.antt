@@ -1,4 +1,4 @@
--- Made by tools/answers.py from answers/numbers/magnitude_at.ans: edit that. 9ce0c0b6a4ff44f7
+-- Made by tools/answers.py from answers/numbers/magnitude_at.ans: edit that. 31f4aee2511964ee
 use Prim.Native.Nat.{_-_, _^_, _≤_}
 use mathlib.Core.Path.{_≡_, refl, sym, _∙_}
 use native.Mathlib.Omega.{arith}
@@ -28,11 +28,10 @@ sub-if1 c = omega arith
 
 returns : tie.Need-returns Inv-loop μ-loop
 returns c =
-    let c·args = c .before .before .before .before .before .before in
     let l = c .before .before .before .before .loop in
     let d = c .before .value-of in
     let b = c .before .before .byte-at in
-    digits-over (c·args .args .s .now) (l .i) (c·args .args .end) (l .m) (d .result) (b .result) (c .before .before .before .loop-test .taken) (d .ensures .0) (b .ensures .0) _ (omega arith) (l .inv .0)
+    digits-over (c .before .before .before .before .before .before .args .s .now) (l .i) (c .before .before .before .before .before .before .args .end) (l .m) (d .result) (b .result) (c .before .before .before .loop-test .taken) (d .ensures .0) (b .ensures .0) _ (omega arith) (l .inv .0)
 
 mul-m : tie.Need-mul-m Inv-loop μ-loop
 mul-m c = omega arith
@@ -48,17 +47,15 @@ loop-less c = omega arith
 
 loop-again : tie.Need-loop-again Inv-loop μ-loop
 loop-again c =
-    let c·args = c .before .before .before .before .before .before in
     let l = c .before .before .before .before .loop in
     let d = c .before .value-of in
     let b = c .before .before .byte-at in
-    (sym (digits-one (c·args .args .s .now) (l .i) (c·args .args .end) (l .m) (d .result) (b .result) (c .before .before .before .loop-test .taken) (d .ensures .0) (b .ensures .0)) ∙ l .inv .0, omega arith)
+    (sym (digits-one (c .before .before .before .before .before .before .args .s .now) (l .i) (c .before .before .before .before .before .before .args .end) (l .m) (d .result) (b .result) (c .before .before .before .loop-test .taken) (d .ensures .0) (b .ensures .0)) ∙ l .inv .0, omega arith)
 
 returns-2 : tie.Need-returns-2 Inv-loop μ-loop
 returns-2 c =
-    let c·args = c .before .before .before in
     let l = c .before .loop in
-    digits-fit (l .m) _ (l .inv .1) (sym (digits-end (c·args .args .s .now) (l .i) (c·args .args .end) (l .m) (c .loop-test .left)) ∙ l .inv .0)
+    digits-fit (l .m) _ (l .inv .1) (sym (digits-end (c .before .before .before .args .s .now) (l .i) (c .before .before .before .args .end) (l .m) (c .loop-test .left)) ∙ l .inv .0)
 
 pub magnitude-at-spec : {M : Type 1} → statement M
 magnitude-at-spec =

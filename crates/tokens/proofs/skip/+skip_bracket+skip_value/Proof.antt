@@ -1,4 +1,4 @@
--- Made by tools/answers.py from answers/skip/+skip_bracket+skip_value.ans: edit that. 09157f00a7361361
+-- Made by tools/answers.py from answers/skip/+skip_bracket+skip_value.ans: edit that. 8bc06b073ae4a518
 use Prim.Native.Nat.{ℕ, _<_, _+_, _-_}
 use mathlib.Core.Path.{_∙_}
 use native.Mathlib.Omega.{arith}
@@ -68,10 +68,9 @@ skip-bracket-byte-at-requires t c κs = search needs
 
 skip-bracket-returns-2 : (t : ℕ) → skip-bracket-lts.Need-returns-2 (skip-bracket-calls t) (skip-bracket-at t) skip-bracket.Post skip-bracket-Inv-loop skip-bracket-μ-loop
 skip-bracket-returns-2 t c =
-    let c·loop = c .before .before .before in
-    let s = c·loop .before .before .before .args .s .now in
-    let inv = c·loop .loop .inv in
-    let between = c .before .before .run .ensures ∙ between-is s (c·loop .loop .i) in
+    let s = c .before .before .before .before .before .before .args .s .now in
+    let inv = c .before .before .before .loop .inv in
+    let between = c .before .before .run .ensures ∙ between-is s (c .before .before .before .loop .i) in
     let byte = c .before .byte-at .ensures .0 in
     passing-end inv between byte (c .if2 .taken)
 
@@ -83,12 +82,11 @@ skip-bracket-add-result t c =
 
 skip-bracket-returns-3 : (t : ℕ) → skip-bracket-lts.Need-returns-3 (skip-bracket-calls t) (skip-bracket-at t) skip-bracket.Post skip-bracket-Inv-loop skip-bracket-μ-loop
 skip-bracket-returns-3 t c =
-    let c·loop = c .before .before .before .before in
-    let s = c·loop .before .before .before .args .s .now in
-    let inv = c·loop .loop .inv in
-    let between = c .before .before .before .run .ensures ∙ between-is s (c·loop .loop .i) in
-    let b = c .before .before .byte-at .result in
+    let s = c .before .before .before .before .before .before .before .args .s .now in
+    let inv = c .before .before .before .before .loop .inv in
+    let between = c .before .before .before .run .ensures ∙ between-is s (c .before .before .before .before .loop .i) in
     let byte = c .before .before .byte-at .ensures .0 in
+    let b = c .before .before .byte-at .result in
     passing-close inv between byte (c .before .if2 .left) (either b 0x5D 0x7D (c .if3 .taken))
 
 skip-bracket-add-result-2 : (t : ℕ) → skip-bracket-lts.Need-add-result-2 (skip-bracket-calls t) (skip-bracket-at t) skip-bracket.Post skip-bracket-Inv-loop skip-bracket-μ-loop
@@ -99,13 +97,11 @@ skip-bracket-add-result-2 t c =
 
 skip-bracket-returns-4 : (t : ℕ) → skip-bracket-lts.Need-returns-4 (skip-bracket-calls t) (skip-bracket-at t) skip-bracket.Post skip-bracket-Inv-loop skip-bracket-μ-loop
 skip-bracket-returns-4 t c =
-    let c·byte-at = c .before .before .before in
-    let c·loop = c·byte-at .before .before in
-    let s = c·loop .before .before .before .args .s .now in
-    let inv = c·loop .loop .inv in
-    let between = c·byte-at .before .run .ensures ∙ between-is s (c·loop .loop .i) in
-    let b = c·byte-at .byte-at .result in
-    let byte = c·byte-at .byte-at .ensures .0 in
+    let s = c .before .before .before .before .before .before .before .before .args .s .now in
+    let inv = c .before .before .before .before .before .loop .inv in
+    let between = c .before .before .before .before .run .ensures ∙ between-is s (c .before .before .before .before .before .loop .i) in
+    let byte = c .before .before .before .byte-at .ensures .0 in
+    let b = c .before .before .before .byte-at .result in
     passing-close inv between byte (c .before .before .if2 .left) (other b 0x5D 0x7D (c .before .if3 .left) (c .if4 .taken))
 
 skip-bracket-sub-skip-value : (t : ℕ) → skip-bracket-lts.Need-sub-skip-value (skip-bracket-calls t) (skip-bracket-at t) skip-bracket.Post skip-bracket-Inv-loop skip-bracket-μ-loop
@@ -116,25 +112,21 @@ skip-bracket-skip-value-requires t c κs = (omega arith, c .before .before .befo
 
 skip-bracket-loop-less : (t : ℕ) → skip-bracket-lts.Need-loop-less (skip-bracket-calls t) (skip-bracket-at t) skip-bracket.Post skip-bracket-Inv-loop skip-bracket-μ-loop
 skip-bracket-loop-less t c =
-    let c·byte-at = c .before .before .before .before in
-    let c·loop = c·byte-at .before .before in
-    let s = c·loop .before .before .before .args .s .now in
-    let inv = c·loop .loop .inv in
-    let between = c·byte-at .before .run .ensures ∙ between-is s (c·loop .loop .i) in
-    let b = c·byte-at .byte-at .result in
-    let byte = c·byte-at .byte-at .ensures .0 in
+    let s = c .before .before .before .before .before .before .before .before .before .args .s .now in
+    let inv = c .before .before .before .before .before .before .loop .inv in
+    let between = c .before .before .before .before .before .run .ensures ∙ between-is s (c .before .before .before .before .before .before .loop .i) in
+    let byte = c .before .before .before .before .byte-at .ensures .0 in
+    let b = c .before .before .before .before .byte-at .result in
     let more = neither b 0x5D 0x7D (c .before .before .if3 .left) (c .before .if4 .left) in
     passing-ahead inv between byte (c .before .before .before .if2 .left) more (c .skip-value .ensures)
 
 skip-bracket-loop-again : (t : ℕ) → skip-bracket-lts.Need-loop-again (skip-bracket-calls t) (skip-bracket-at t) skip-bracket.Post skip-bracket-Inv-loop skip-bracket-μ-loop
 skip-bracket-loop-again t c =
-    let c·byte-at = c .before .before .before .before in
-    let c·loop = c·byte-at .before .before in
-    let s = c·loop .before .before .before .args .s .now in
-    let inv = c·loop .loop .inv in
-    let between = c·byte-at .before .run .ensures ∙ between-is s (c·loop .loop .i) in
-    let b = c·byte-at .byte-at .result in
-    let byte = c·byte-at .byte-at .ensures .0 in
+    let s = c .before .before .before .before .before .before .before .before .before .args .s .now in
+    let inv = c .before .before .before .before .before .before .loop .inv in
+    let between = c .before .before .before .before .before .run .ensures ∙ between-is s (c .before .before .before .before .before .before .loop .i) in
+    let byte = c .before .before .before .before .byte-at .ensures .0 in
+    let b = c .before .before .before .before .byte-at .result in
     let more = neither b 0x5D 0x7D (c .before .before .if3 .left) (c .before .if4 .left) in
     passing-next inv between byte (c .before .before .before .if2 .left) more (c .skip-value .ensures)
 
@@ -143,8 +135,8 @@ skip-value-byte-at-requires t c κs = search needs
 
 skip-value-add-string-end : (t : ℕ) → skip-value-lts.Need-add-string-end (skip-value-calls t) (skip-value-at t) skip-value.Post
 skip-value-add-string-end t c =
-    let a = c .before .before .before .args in
     let byte = c .before .byte-at .ensures .0 in
+    let a = c .before .before .before .args in
     omega (arith, (inside (a .s .now) (a .p) (λ e. omega (arith, byte))))
 
 skip-value-string-end-requires : (t : ℕ) → skip-value-lts.Need-string-end-requires (skip-value-calls t) (skip-value-at t) skip-value.Post
@@ -152,15 +144,15 @@ skip-value-string-end-requires t c κs = search needs
 
 skip-value-returns : (t : ℕ) → skip-value-lts.Need-returns (skip-value-calls t) (skip-value-at t) skip-value.Post
 skip-value-returns t c =
-    let a = c .before .before .before .before .args in
-    let b = c .before .before .byte-at .result in
     let byte = c .before .before .byte-at .ensures .0 in
+    let b = c .before .before .byte-at .result in
+    let a = c .before .before .before .before .args in
     c .string-end .ensures ∙ value-string (a .depth) (a .s .now) (a .p) b byte (c .before .if1 .taken)
 
 skip-value-add-skip-bracket : (t : ℕ) → skip-value-lts.Need-add-skip-bracket (skip-value-calls t) (skip-value-at t) skip-value.Post
 skip-value-add-skip-bracket t c =
-    let a = c .before .before .before .before .args in
     let byte = c .before .before .byte-at .ensures .0 in
+    let a = c .before .before .before .before .args in
     omega (arith, (inside (a .s .now) (a .p) (λ e. omega (arith, byte))))
 
 skip-value-skip-bracket-requires : (t : ℕ) → skip-value-lts.Need-skip-bracket-requires (skip-value-calls t) (skip-value-at t) skip-value.Post
@@ -168,16 +160,15 @@ skip-value-skip-bracket-requires t c κs = (omega arith, c .before .before .befo
 
 skip-value-returns-2 : (t : ℕ) → skip-value-lts.Need-returns-2 (skip-value-calls t) (skip-value-at t) skip-value.Post
 skip-value-returns-2 t c =
-    let c·byte-at = c .before .before .before in
-    let a = c·byte-at .before .before .args in
-    let b = c·byte-at .byte-at .result in
-    let byte = c·byte-at .byte-at .ensures .0 in
+    let byte = c .before .before .before .byte-at .ensures .0 in
+    let b = c .before .before .before .byte-at .result in
+    let a = c .before .before .before .before .before .args in
     c .skip-bracket .ensures ∙ value-bracket (a .depth) (a .s .now) (a .p) b byte (c .before .before .if1 .left) (either b 0x5B 0x7B (c .before .if2 .taken))
 
 skip-value-add-skip-bracket-2 : (t : ℕ) → skip-value-lts.Need-add-skip-bracket-2 (skip-value-calls t) (skip-value-at t) skip-value.Post
 skip-value-add-skip-bracket-2 t c =
-    let a = c .before .before .before .before .before .args in
     let byte = c .before .before .before .byte-at .ensures .0 in
+    let a = c .before .before .before .before .before .args in
     omega (arith, (inside (a .s .now) (a .p) (λ e. omega (arith, byte))))
 
 skip-value-skip-bracket-requires-2 : (t : ℕ) → skip-value-lts.Need-skip-bracket-requires-2 (skip-value-calls t) (skip-value-at t) skip-value.Post
@@ -185,10 +176,9 @@ skip-value-skip-bracket-requires-2 t c κs = (omega arith, c .before .before .be
 
 skip-value-returns-3 : (t : ℕ) → skip-value-lts.Need-returns-3 (skip-value-calls t) (skip-value-at t) skip-value.Post
 skip-value-returns-3 t c =
-    let c·byte-at = c .before .before .before .before in
-    let a = c·byte-at .before .before .args in
-    let b = c·byte-at .byte-at .result in
-    let byte = c·byte-at .byte-at .ensures .0 in
+    let byte = c .before .before .before .before .byte-at .ensures .0 in
+    let b = c .before .before .before .before .byte-at .result in
+    let a = c .before .before .before .before .before .before .args in
     c .skip-bracket2 .ensures ∙ value-bracket (a .depth) (a .s .now) (a .p) b byte (c .before .before .before .if1 .left) (other b 0x5B 0x7B (c .before .before .if2 .left) (c .before .if3 .taken))
 
 skip-value-run-requires : (t : ℕ) → skip-value-lts.Need-run-requires (skip-value-calls t) (skip-value-at t) skip-value.Post
@@ -196,10 +186,9 @@ skip-value-run-requires t c κs = search needs
 
 skip-value-returns-4 : (t : ℕ) → skip-value-lts.Need-returns-4 (skip-value-calls t) (skip-value-at t) skip-value.Post
 skip-value-returns-4 t c =
-    let c·byte-at = c .before .before .before .before in
-    let a = c·byte-at .before .before .args in
-    let b = c·byte-at .byte-at .result in
-    let byte = c·byte-at .byte-at .ensures .0 in
+    let byte = c .before .before .before .before .byte-at .ensures .0 in
+    let b = c .before .before .before .before .byte-at .result in
+    let a = c .before .before .before .before .before .before .args in
     c .run .ensures ∙ word-is (a .s .now) (a .p) ∙ value-word (a .depth) (a .s .now) (a .p) b byte (c .before .before .before .if1 .left) (neither b 0x5B 0x7B (c .before .before .if2 .left) (c .before .if3 .left))
 
 pub +skip-bracket+skip-value-spec : {M : Type 1} → statement M

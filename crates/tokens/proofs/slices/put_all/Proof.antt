@@ -1,4 +1,4 @@
--- Made by tools/answers.py from answers/slices/put_all.ans: edit that. c548bd3823195512
+-- Made by tools/answers.py from answers/slices/put_all.ans: edit that. a6132e65d6ba0ced
 use Prim.Native.Nat.{ℕ, _+_, _-_}
 use mathlib.Core.Path.{_≡_, refl, sym, ap, _∙_}
 use mathlib.Core.List.{List}
@@ -39,9 +39,8 @@ loop-less c = search needs
 
 loop-again : tie.Need-loop-again Inv-loop μ-loop
 loop-again c =
-    let c·args = c .before .before .before .before .before .before .before .before .before in
-    let at = c·args .args .at in
-    let x = c·args .args .x .now in
+    let at = c .before .before .before .before .before .before .before .before .before .args .at in
+    let x = c .before .before .before .before .before .before .before .before .before .args .x .now in
     let l = c .before .before .before .before .before .before .loop in
     (ap (λ (m : List ℕ). sets m (at + (l .j + 1)) (drop (l .j + 1) x)) (c .before .before .put .ensures) ∙ sym (sets-one (l .l) at x (l .j) (c .before .before .before .before .before .loop-test .taken)) ∙ l .inv .0, c .before .before .put .kept .0 ∙ l .inv .1)
 
@@ -50,9 +49,8 @@ same-length c = c .before .loop .inv .1
 
 returns : tie.Need-returns Inv-loop μ-loop
 returns c =
-    let c·args = c .before .before .before .before in
-    let at = c·args .args .at in
-    let x = c·args .args .x .now in
+    let at = c .before .before .before .before .args .at in
+    let x = c .before .before .before .before .args .x .now in
     let l = c .before .loop in
     sets-done (l .l) at x (l .j) (c .loop-test .left) ∙ l .inv .0
 

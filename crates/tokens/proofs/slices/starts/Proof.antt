@@ -1,4 +1,4 @@
--- Made by tools/answers.py from answers/slices/starts.ans: edit that. 345f34b3649ee330
+-- Made by tools/answers.py from answers/slices/starts.ans: edit that. 04349e746af32e96
 use Prim.Native.Nat.{ℕ, _+_, _-_, _≤_}
 use mathlib.Core.Path.{_≡_, sym, ap, _∙_}
 use native.Mathlib.Nat.{add-zero}
@@ -44,13 +44,11 @@ shared-slice-read-if2-2 c = search needs
 
 returns-2 : tie.Need-returns-2 Inv-loop μ-loop
 returns-2 c =
-    let c·loop = c .before .before .before .before in
-    let c·args = c·loop .before .before in
-    let l = c·args .args .l .now in
-    let at = c·args .args .at in
-    let x = c·args .args .x .now in
-    let j = c·loop .loop .j in
-    let inv = c·loop .loop .inv in
+    let l = c .before .before .before .before .before .before .args .l .now in
+    let at = c .before .before .before .before .before .before .args .at in
+    let x = c .before .before .before .before .before .before .args .x .now in
+    let j = c .before .before .before .before .loop .j in
+    let inv = c .before .before .before .before .loop .inv in
     sym (begins-differ x l at j (c .before .before .before .loop-test .taken) (omega arith) (c .if2 .taken)) ∙ inv .0
 
 add-j : tie.Need-add-j Inv-loop μ-loop
@@ -61,21 +59,18 @@ loop-less c = search needs
 
 loop-again : tie.Need-loop-again Inv-loop μ-loop
 loop-again c =
-    let c·loop = c .before .before .before .before in
-    let c·args = c·loop .before .before in
-    let l = c·args .args .l .now in
-    let at = c·args .args .at in
-    let x = c·args .args .x .now in
-    let j = c·loop .loop .j in
-    let inv = c·loop .loop .inv in
+    let l = c .before .before .before .before .before .before .args .l .now in
+    let at = c .before .before .before .before .before .before .args .at in
+    let x = c .before .before .before .before .before .before .args .x .now in
+    let j = c .before .before .before .before .loop .j in
+    let inv = c .before .before .before .before .loop .inv in
     (sym (begins-more x l at j (c .before .before .before .loop-test .taken) (omega arith) (c .if2 .left)) ∙ inv .0, inv .1)
 
 returns-3 : tie.Need-returns-3 Inv-loop μ-loop
 returns-3 c =
-    let c·args = c .before .before .before in
-    let l = c·args .args .l .now in
-    let at = c·args .args .at in
-    let x = c·args .args .x .now in
+    let l = c .before .before .before .args .l .now in
+    let at = c .before .before .before .args .at in
+    let x = c .before .before .before .args .x .now in
     let j = c .before .loop .j in
     let inv = c .before .loop .inv in
     sym (begins-done x (drop (at + j) l) j (c .loop-test .left)) ∙ inv .0

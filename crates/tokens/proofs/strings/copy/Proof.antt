@@ -1,4 +1,4 @@
--- Made by tools/answers.py from answers/strings/copy.ans: edit that. b4153d6132cf640e
+-- Made by tools/answers.py from answers/strings/copy.ans: edit that. 2504a8bf4384fb26
 use Prim.Native.Nat.{_-_}
 use mathlib.Core.Path.{_≡_, refl, sym, _∙_}
 use native.Mathlib.Omega.{arith}
@@ -40,10 +40,9 @@ copy-rest-requires c κs = (omega arith, omega (arith, c .before .before .before
 
 add-t15 : tie.Need-add-t15 Inv-loop μ-loop
 add-t15 c =
-    let c·args = c .before .before .before .before .before .before .before .before .before .before .before in
     let l = c .before .before .before .before .before .before .before .before .loop in
-    let few = denoted-few (c·args .args .s .now) (l .i) in
-    omega (arith, few, c .before .before .copy-rest .ensures .0, l .inv .0 .counting, c·args .pre)
+    let few = denoted-few (c .before .before .before .before .before .before .before .before .before .before .before .args .s .now) (l .i) in
+    omega (arith, few, c .before .before .copy-rest .ensures .0, l .inv .0 .counting, c .before .before .before .before .before .before .before .before .before .before .before .pre)
 
 same-length-2 : tie.Need-same-length-2 Inv-loop μ-loop
 same-length-2 c = search needs
@@ -71,14 +70,10 @@ loop-less c = search needs
 
 loop-again : tie.Need-loop-again Inv-loop μ-loop
 loop-again c =
-    let c·if2 = c .before .before .before .before in
-    let c·if1 = c·if2 .before in
-    let c·shared-slice-known2 = c·if1 .before in
-    let c·loop-test = c·shared-slice-known2 .before in
-    let s = c·loop-test .before .before .before .before .args .s .now in
-    let l = c·loop-test .before .loop in
-    let here = piece-bare s (l .i) (c·loop-test .loop-test .taken) (c·shared-slice-known2 .shared-slice-known2 .given (l .i) .fits) (c·if1 .if1 .left) (c·if2 .if2 .left) in
-    (copying-bare (l .inv .0) here (c .before .before .put .ensures) (c .before .before .put .kept .0), sym (end-other s (l .i) (c·loop-test .loop-test .taken) (c·shared-slice-known2 .shared-slice-known2 .given (l .i) .fits) (c·if1 .if1 .left) (c·if2 .if2 .left)) ∙ l .inv .1)
+    let l = c .before .before .before .before .before .before .before .before .loop in
+    let s = c .before .before .before .before .before .before .before .before .before .before .before .args .s .now in
+    let here = piece-bare s (l .i) (c .before .before .before .before .before .before .before .loop-test .taken) (c .before .before .before .before .before .before .shared-slice-known2 .given (l .i) .fits) (c .before .before .before .before .before .if1 .left) (c .before .before .before .before .if2 .left) in
+    (copying-bare (l .inv .0) here (c .before .before .put .ensures) (c .before .before .put .kept .0), sym (end-other s (l .i) (c .before .before .before .before .before .before .before .loop-test .taken) (c .before .before .before .before .before .before .shared-slice-known2 .given (l .i) .fits) (c .before .before .before .before .before .if1 .left) (c .before .before .before .before .if2 .left)) ∙ l .inv .1)
 
 same-length-3 : tie.Need-same-length-3 Inv-loop μ-loop
 same-length-3 c = c .before .loop .inv .0 .kept

@@ -1,4 +1,4 @@
--- Made by tools/answers.py from answers/strings/escape.ans: edit that. 1685c25eff4c0eab
+-- Made by tools/answers.py from answers/strings/escape.ans: edit that. acdd3e82cc0fd87f
 use native.Mathlib.Omega.{arith}
 use Rattle.tokens.proofs.StringLaws.{escape-letter, escape-low, escape-high, escape-pair}
 use borrow.Author.Needs.{needs}
@@ -16,9 +16,8 @@ add-t7 c = search needs
 
 returns : tie.Need-returns
 returns c =
-    let c·args = c .before .before .before .before in
-    let s = c·args .args .s .now in
-    let p = c·args .args .p in
+    let s = c .before .before .before .before .args .s .now in
+    let p = c .before .before .before .before .args .p in
     let b = c .before .before .byte-at in
     (escape-letter s p (b .result) (b .ensures .0) (c .letter .result) (c .before .if1 .taken) (c .letter .ensures .0), omega arith)
 
@@ -33,9 +32,8 @@ add-t9 c = search needs
 
 returns-2 : tie.Need-returns-2
 returns-2 c =
-    let c·args = c .before .before .before .before .before in
-    let s = c·args .args .s .now in
-    let p = c·args .args .p in
+    let s = c .before .before .before .before .before .args .s .now in
+    let p = c .before .before .before .before .before .args .p in
     let b = c .before .before .before .byte-at in
     let x = c .before .unit in
     (escape-low s p (b .result) (b .ensures .0) (c .before .before .if1 .left) (x .result) (x .ensures .0) (c .if2 .taken), omega arith)
@@ -45,9 +43,8 @@ add-t10 c = search needs
 
 returns-3 : tie.Need-returns-3
 returns-3 c =
-    let c·args = c .before .before .before .before .before .before in
-    let s = c·args .args .s .now in
-    let p = c·args .args .p in
+    let s = c .before .before .before .before .before .before .args .s .now in
+    let p = c .before .before .before .before .before .before .args .p in
     let b = c .before .before .before .before .byte-at in
     let x = c .before .before .unit in
     (escape-high s p (b .result) (b .ensures .0) (c .before .before .before .if1 .left) (x .result) (x .ensures .0) (c .before .if2 .left) (c .if3 .taken), omega arith)
@@ -66,9 +63,8 @@ add-t13 c = search needs
 
 returns-4 : tie.Need-returns-4
 returns-4 c =
-    let c·args = c .before .before .before .before .before .before .before .before in
-    let s = c·args .args .s .now in
-    let p = c·args .args .p in
+    let s = c .before .before .before .before .before .before .before .before .args .s .now in
+    let p = c .before .before .before .before .before .before .before .before .args .p in
     let b = c .before .before .before .before .before .before .byte-at in
     let x = c .before .before .before .before .unit in
     (escape-pair s p (b .result) (b .ensures .0) (c .before .before .before .before .before .if1 .left) (x .result) (x .ensures .0) (c .pair .result) (c .before .unit2 .result) (c .before .before .before .if2 .left) (c .before .before .if3 .left) (c .before .unit2 .ensures .0) (c .pair .ensures .0), omega arith)

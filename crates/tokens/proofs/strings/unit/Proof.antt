@@ -1,4 +1,4 @@
--- Made by tools/answers.py from answers/strings/unit.ans: edit that. b123d1c5dde77092
+-- Made by tools/answers.py from answers/strings/unit.ans: edit that. 184b3fd1bc68cb8e
 use native.Mathlib.Omega.{arith}
 use Rattle.tokens.proofs.StringLaws.{unit-is}
 use borrow.Author.Needs.{needs}
@@ -46,12 +46,11 @@ add-result-3 c = search needs
 
 returns : tie.Need-returns
 returns c =
-    let c·args = c .before .before .before .before .before in
     let i = c .before .before .before .digit in
     let j = c .before .before .digit2 in
     let k = c .before .digit3 in
     let l = c .digit4 in
-    (unit-is (c·args .args .s .now) (c·args .args .p) (i .result) (j .result) (k .result) (l .result) (i .ensures .0) (j .ensures .0) (k .ensures .0) (l .ensures .0), omega arith)
+    (unit-is (c .before .before .before .before .before .args .s .now) (c .before .before .before .before .before .args .p) (i .result) (j .result) (k .result) (l .result) (i .ensures .0) (j .ensures .0) (k .ensures .0) (l .ensures .0), omega arith)
 
 pub unit-spec : {M : Type 1} → statement M
 unit-spec =
