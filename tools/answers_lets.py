@@ -45,23 +45,20 @@ def shared(needs):
     while True:
         found = in_order(found)
         lost = {name for name, term in found.items() if free(term) & (set(told) - set(found) | own | {name})}
-        lost |= {name for item in needs for name in out_of_order(opened(item.body)[0], found)}
+        lost |= {name for item in needs for name in out_of_order(*opened(item.body), found)}
         if not lost:
             return found
         for name in lost:
             del found[name]
 
 
-def out_of_order(lets, found):
-    """The lets of an answer that would stand elsewhere if they were said once: a tactic can tell their order."""
-    order, last, first = list(found), -1, True
+def out_of_order(lets, rest, found):
+    """The lets of an answer that stand after one that is there for a tactic to find: they stay where they are."""
+    said, after = said_in(lets, rest), False
     for name, term in lets:
-        if found.get(name) != term:
-            first = False
-        elif not first or order.index(name) < last:
+        after = after or (name not in said and not term.startswith('^'))
+        if after and found.get(name) == term:
             yield name
-        else:
-            last = order.index(name)
 
 
 def in_order(lets):

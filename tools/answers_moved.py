@@ -9,8 +9,10 @@ and the answers get the new names.
 import difflib
 import re
 
+from answers_lets import wanted
 from answers_places import NAMED, Unknown, name_of, steps_back
 from answers_source import same_line
+from answers_text import read_answers
 
 
 def paired(old, new, names_old, names_new):
@@ -114,15 +116,38 @@ def place_of(line, old, new, needs):
     return None, line
 
 
+def lets_anew(text, old, members, needs):
+    """The lets that answers share, each in a form that means the same place in all answers that say it; where there is none it stays."""
+    items = read_answers(text, old)[2]
+    lets, told = [(item.name, item.body) for item in items if item.kind == 'let'], {}
+    for item in items:
+        member, need = old.of_need(item.name) or (None, None)
+        if need and need in needs[member.name]:
+            after = members[member.name]
+            place = Place(member, after, member.at[need], after.at[needs[member.name][need]])
+            for line in wanted(item.body, lets, place.chains[0]):
+                told.setdefault(line[:-len(' in')], []).append((place.chains[1], NAMED.sub(place.anew, line[:-len(' in')])))
+    return {line: next((each for _, each in uses if all(means(chain, each) == means(chain, own) for chain, own in uses)), line)
+            for line, uses in told.items()}
+
+
+def means(chain, text):
+    """The places that a text names."""
+    try:
+        return [steps_back(chain, name) for _, name in NAMED.findall(text)]
+    except Unknown:
+        return None
+
+
 def answers_anew(text, old, new):
-    """The answers with the new names, and a list of the lines that changed."""
+    """The answers with the new names, and how many of their lines are others."""
     members = {member.name: member for member in new.members}
-    needs = {member.name: needs_paired(member, members[member.name]) for member in old.members if member.name in members}
-    out, place = [], None
+    needs = {member.name: needs_paired(member, members[member.name]) for member in old.members}
+    lets, out, place = lets_anew(text, old, members, needs), [], None
     for line in text.split('\n'):
-        anew = line
+        anew = lets.get(line, line)
         if line and not line.startswith((' ', '--')) and not (place and line.split(' ')[0] == place.lemma):
-            place, anew = place_of(line, old, members, needs)
+            place, anew = place_of(anew, old, members, needs)
             if place:
                 place.lemma = line.split(' ')[0]
         out.append(NAMED.sub(place.anew, anew) if place else anew)

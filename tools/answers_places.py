@@ -52,23 +52,30 @@ def name_of(chain, steps, field=None):
     raise Unknown(field)
 
 
-def without_lets(text):
-    """The text without the lets that only name a context, and how far back each of their names is."""
-    known = {'c': 0}
+def without_lets(text, start):
+    """The text without the lets that only name a context, and how far back each of their names is.
+
+    Where a term has `omega`, a let of the function's entry stays: omega reads what is in scope, and `c` only some steps back.
+    """
+    known, entered = {'c': 0}, 'omega' not in text
 
     def drop(match):
+        nonlocal entered
         name, base, back = match.groups()
         if base not in known:
             return match.group(0)
         known[name] = known[base] + back.count('.before')
-        return ''
+        if entered or known[name] != start:
+            return ''
+        entered = True
+        return f'let \x01{name} = ^args in' + match.group(0)[len(match.group(0).rstrip()):]
 
     return LET.sub(drop, text), known
 
 
 def by_name(text, chain):
     """A proof's term with its places named."""
-    text, known = without_lets(text)
+    text, known = without_lets(text, max(steps for _, steps, _ in chain))
     if re.search(r'λ[^.]*(?<![^\s])c(?![^\s.])', text):
         raise Unknown('a bound c')
     names = '|'.join(re.escape(name) for name in sorted(known, key=len, reverse=True))
@@ -85,33 +92,16 @@ def by_name(text, chain):
 
     text = re.sub(rf'\({path}\)', context, text)
     text = re.sub(rf'(?<![^\s(]){path}\s+\.({WORD}+)(?![^\s),;])', fact, text)
-    return re.sub(rf'(?<![^\s(]){path}(?![^\s),;])', context, text)
+    return re.sub(rf'(?<![^\s(]){path}(?![^\s),;])', context, text).replace('\x01', '')
 
 
 def counted(text, chain):
-    """An answer's term with its places counted; the context of a place that is said twice gets a name."""
-    found = [(steps_back(chain, name), kind) for kind, name in NAMED.findall(text)]
-    said = {}
-    for (steps, field), _ in found:
-        said.setdefault(steps, []).append(field)
-    named, lets = {0: 'c'}, []
-    for steps in sorted(said):
-        if steps > 2 and len(said[steps]) > 1:
-            told = 'c·' + said[steps][0]
-            lets.append(f'let {told} = {path_to(steps, named)} in')
-            named[steps] = told
-
+    """An answer's term with its places counted. No let names a context: `omega` would read it as one fact more, and can lose its way."""
     def count(match):
         steps, field = steps_back(chain, match.group(2))
-        path = path_to(steps, named)
+        path = 'c' + ' .before' * steps
         if match.group(1) == '@':
             return f'{path} .{field}'
-        return f'({path})' if ' ' in path else path
+        return f'({path})' if steps else path
 
-    return lets, NAMED.sub(count, text)
-
-
-def path_to(steps, named):
-    """The path to the context so many steps back, from the nearest one that has a name."""
-    nearest = max(count for count in named if count <= steps)
-    return named[nearest] + ' .before' * (steps - nearest)
+    return NAMED.sub(count, text)

@@ -3,8 +3,8 @@
 import re
 
 from answers_lets import wanted
-from answers_places import NAMED, Unknown, counted, path_to, steps_back
-from answers_text import Item, indented
+from answers_places import Unknown, counted
+from answers_text import Item, helper_chain, indented, measure_counted
 
 SEARCH = 'search needs'
 
@@ -62,9 +62,8 @@ def signature(member, need, cycle):
     return ' '.join([f'{name}-{need} : (t : ℕ) → {name}-lts.Need-{need} ({name}-calls t) ({name}-at t) {name}.Post'] + hinted(member))
 
 
-def clause(left, lets, body):
+def clause(left, body):
     """`LEFT = BODY`, below it where the body has several lines or begins with a let."""
-    body = '\n'.join(lets + [body])
     return f'{left} = {body}' if '\n' not in body and not body.startswith('let ') else f'{left} =\n{indented(body)}'
 
 
@@ -72,11 +71,11 @@ def need_lines(member, need, item, cycle, lets):
     """The declaration of one need."""
     bound = ['t'] * bool(cycle) + ['c'] + ['κs'] * bool(re.search(r'-requires(-\d+)?$', need))
     chain = list(member.chain(member.at[need]))
-    lets, body = counted('\n'.join(wanted(item.body, lets, chain) + [item.body]), chain)
+    body = counted('\n'.join(wanted(item.body, lets, chain) + [item.body]), chain)
     lines = item.comments + [signature(member, need, cycle)]
     if item.unfolding:
         lines.append('unfolding ' + item.unfolding)
-    return lines + [clause(' '.join([item.name] + bound + item.params.split()), lets, body)]
+    return lines + [clause(' '.join([item.name] + bound + item.params.split()), body)]
 
 
 def given_lines(item, shape):
@@ -89,21 +88,14 @@ def given_lines(item, shape):
     values = item.params.split() or member.values[kind.split('-', 1)[1]]
     if not values:
         raise Unknown(f'{item.name}: write the names of the values that it is about before the `=`')
-    return lines + [clause(' '.join([item.name] + values), [], item.body)]
+    return lines + [clause(' '.join([item.name] + values), item.body)]
 
 
 def helper_lines(item, shape):
     """A lemma that a person wrote; one on a context `c` may name places."""
-    found = re.search(r'\(c : (\S+?)\.([^\s)]+)', item.body)
-    owner = [each for each in shape.members if found and found.group(1) == (f'{each.name}-lts' if each.name else 'tie')]
-    chain = list(owner[0].chain(found.group(2))) if owner else []
-
-    def count(match):
-        steps, field = steps_back(chain, match.group(2))
-        path = path_to(steps, {0: 'c'})
-        return f'{path} .{field}' if match.group(1) == '@' else f'({path})' if steps else path
-
-    return item.comments + [NAMED.sub(count, item.body)] * bool(item.body)
+    chain = helper_chain(item.body, shape)
+    body = counted(item.body, chain) if chain else item.body
+    return item.comments + [body] * bool(body)
 
 
 def cycle_lines(shape, given):
@@ -111,8 +103,7 @@ def cycle_lines(shape, given):
     names, out = readings(shape.cycle), []
     for member in shape.members:
         name, count = member.name, shape.cycle['lifetimes'][member.name]
-        paths = {each: 'a' + ' .1' * place + ' .0' for place, each in enumerate(member.params)}
-        body = re.sub(r'@([^\s(),;.]+)', lambda match: paths[match.group(1)], given['μ-' + name].body if 'μ-' + name in given else '?')
+        body = measure_counted(given['μ-' + name].body if 'μ-' + name in given else '?', member)
         out.append([f'abbrev μ-{name} : Measures {count} {name}-kinds.ps ℕ', f'μ-{name} κs a = {body}'])
     for member in shape.members:
         name, count = member.name, shape.cycle['lifetimes'][member.name]

@@ -92,7 +92,17 @@ def parameter_paths(member):
     return {name: 'a' + ' .1' * place + ' .0' for place, name in enumerate(member.params)}
 
 
+def measure_counted(body, member):
+    """A cycle's measure, with each `@parameter` as its path from the tuple."""
+    paths = parameter_paths(member)
+    unknown = set(re.findall(r'@([^\s(),;.]+)', body)) - set(paths)
+    if unknown:
+        raise Unknown(f'μ-{member.name}: no parameter {unknown.pop()}')
+    return re.sub(r'@([^\s(),;.]+)', lambda match: paths[match.group(1)], body)
+
+
 def measure_by_name(body, member):
+    """A cycle's measure, with each path from the tuple as its `@parameter`."""
     paths = sorted(parameter_paths(member).items(), key=lambda each: -len(each[1]))
     for name, path in paths:
         body = re.sub(rf'(?<![^\s(]){re.escape(path)}(?![^\s)])', '@' + name, body)
