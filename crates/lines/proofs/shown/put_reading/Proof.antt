@@ -1,4 +1,4 @@
--- Made by tools/answers.py from answers/shown/put_reading.ans: edit that. 2a0a52779c884a25
+-- Made by tools/answers.py from answers/shown/put_reading.ans: edit that. ccf171724941880e
 use native.Mathlib.Omega.{arith}
 use lib.ListN.{take}
 use Rattle.jer.specs.Octets.{hex}
@@ -27,18 +27,16 @@ part-requires c κs = search needs
 
 put-octets-requires : tie.Need-put-octets-requires
 put-octets-requires c κs =
-    let c·r2 = c .before .before .before .before .before .before .before in
-    let a = c·r2 .before .before .before .before .before .args in
-    let n = c·r2 .r2 .given .0 .0 in
-    let m = c·r2 .r2 .given .0 .1 .0 in
+    let a = c .before .before .before .before .before .before .before .before .before .before .before .before .args in
+    let n = c .before .before .before .before .before .before .before .r2 .given .0 .0 in
+    let m = c .before .before .before .before .before .before .before .r2 .given .0 .1 .0 in
     omega (arith, c .before .before .before .before .put-rows .ensures .0, fours-length n (a .rows .now), part-length m (a .pool .now) (c .part .ensures))
 
 add-result : tie.Need-add-result
 add-result c =
-    let c·r2 = c .before .before .before .before .before .before .before .before .before .before in
-    let a = c·r2 .before .before .before .before .before .args in
-    let n = c·r2 .r2 .given .0 .0 in
-    let m = c·r2 .r2 .given .0 .1 .0 in
+    let a = c .before .before .before .before .before .before .before .before .before .before .before .before .before .before .before .args in
+    let n = c .before .before .before .before .before .before .before .before .before .before .r2 .given .0 .0 in
+    let m = c .before .before .before .before .before .before .before .before .before .before .r2 .given .0 .1 .0 in
     let os = c .before .before .before .part in
     omega (arith, c .before .before .before .before .before .before .before .put-rows .ensures .0, fours-length n (a .rows .now), part-length m (a .pool .now) (os .ensures), hex-length (os .result .now), line-length (hex (os .result .now)), c .before .before .put-octets .ensures .0)
 

@@ -1,4 +1,4 @@
--- Made by tools/answers.py from answers/shown/put_rows.ans: edit that. bbe31a1174791b34
+-- Made by tools/answers.py from answers/shown/put_rows.ans: edit that. c060ed6916cf8d5f
 use Prim.Native.Nat.{_+_, _-_, _≤_}
 use native.Mathlib.Omega.{arith}
 use lib.ListN.{length, drop, getD}
@@ -28,8 +28,8 @@ same-length c = c .before .before .loop .inv .0 .kept
 
 returns : tie.Need-returns Inv-loop μ-loop
 returns c =
-    let l = c .before .before .loop in
     let a = c .before .before .before .before .before .args in
+    let l = c .before .before .loop in
     putting-done (l .inv .0) (fours-none (a .n - l .j) (drop (l .i) (a .rows .now)) (omega arith))
 
 mul-put-four : tie.Need-mul-put-four Inv-loop μ-loop
@@ -109,8 +109,8 @@ same-length-2 c = c .before .loop .inv .0 .kept
 
 returns-2 : tie.Need-returns-2 Inv-loop μ-loop
 returns-2 c =
-    let l = c .before .loop in
     let a = c .before .before .before .before .args in
+    let l = c .before .loop in
     putting-done (l .inv .0) (fours-done (a .rows .now) (a .n) (l .i) (l .j) (omega arith))
 
 pub put-rows-spec : {M : Type 1} → statement M

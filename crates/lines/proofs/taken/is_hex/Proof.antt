@@ -1,4 +1,4 @@
--- Made by tools/answers.py from answers/taken/is_hex.ans: edit that. 0b76dc958b1c082d
+-- Made by tools/answers.py from answers/taken/is_hex.ans: edit that. 3cfead449e875be4
 use Prim.Native.Nat.{_-_}
 use mathlib.Core.Path.{_≡_, sym, _∙_}
 use lib.ListN.{length, drop}
@@ -25,8 +25,7 @@ digit-requires c κs = search needs
 
 returns : tie.Need-returns Inv-loop μ-loop
 returns c =
-    let c·loop = c .before .before .before .before in
-    let l = hex-here (c·loop .before .before .args .line .now) (c·loop .loop .i) (c .before .before .before .loop-test .taken) (sym (c .before .digit .ensures .0) ∙ c .if1 .taken) in sym l ∙ c·loop .loop .inv
+    let l = hex-here (c .before .before .before .before .before .before .args .line .now) (c .before .before .before .before .loop .i) (c .before .before .before .loop-test .taken) (sym (c .before .digit .ensures .0) ∙ c .if1 .taken) in sym l ∙ c .before .before .before .before .loop .inv
 
 add-i : tie.Need-add-i Inv-loop μ-loop
 add-i c = search needs
@@ -36,8 +35,7 @@ loop-less c = search needs
 
 loop-again : tie.Need-loop-again Inv-loop μ-loop
 loop-again c =
-    let c·loop = c .before .before .before .before in
-    let l = hex-more (c·loop .before .before .args .line .now) (c·loop .loop .i) (c .before .before .before .loop-test .taken) (λ e. c .if1 .left (c .before .digit .ensures .0 ∙ e)) in sym l ∙ c·loop .loop .inv
+    let l = hex-more (c .before .before .before .before .before .before .args .line .now) (c .before .before .before .before .loop .i) (c .before .before .before .loop-test .taken) (λ e. c .if1 .left (c .before .digit .ensures .0 ∙ e)) in sym l ∙ c .before .before .before .before .loop .inv
 
 returns-2 : tie.Need-returns-2 Inv-loop μ-loop
 returns-2 c = sym (hex-none (c .before .before .before .args .line .now) (c .before .loop .i) (c .loop-test .left)) ∙ c .before .loop .inv

@@ -1,4 +1,4 @@
--- Made by tools/answers.py from answers/taken/line_len.ans: edit that. 35f9fe92eae013f4
+-- Made by tools/answers.py from answers/taken/line_len.ans: edit that. 95217bfd572171c1
 use Prim.Native.Nat.{_+_, _-_, _≤_}
 use mathlib.Core.Path.{_≡_}
 use native.Mathlib.Omega.{arith}
@@ -26,8 +26,7 @@ sub-result c = search needs
 
 returns : tie.Need-returns Inv-loop μ-loop
 returns c =
-    let c·loop = c .before .before .before in
-    let l = line-here (c·loop .before .args .s .now) (c·loop .loop .i) (c .before .before .loop-test .taken) (c .if1 .taken) in omega (arith, l, c·loop .loop .inv)
+    let l = line-here (c .before .before .before .before .args .s .now) (c .before .before .before .loop .i) (c .before .before .loop-test .taken) (c .if1 .taken) in omega (arith, l, c .before .before .before .loop .inv)
 
 add-i : tie.Need-add-i Inv-loop μ-loop
 add-i c = search needs
@@ -37,8 +36,7 @@ loop-less c = search needs
 
 loop-again : tie.Need-loop-again Inv-loop μ-loop
 loop-again c =
-    let c·loop = c .before .before .before in
-    let l = line-more (c·loop .before .args .s .now) (c·loop .loop .i) (c .before .before .loop-test .taken) (c .if1 .left) in (omega (arith, c·loop .loop .inv), omega (arith, c·loop .loop .inv), omega (arith, l, c·loop .loop .inv))
+    let l = line-more (c .before .before .before .before .args .s .now) (c .before .before .before .loop .i) (c .before .before .loop-test .taken) (c .if1 .left) in (omega (arith, c .before .before .before .loop .inv), omega (arith, c .before .before .before .loop .inv), omega (arith, l, c .before .before .before .loop .inv))
 
 sub-result-2 : tie.Need-sub-result-2 Inv-loop μ-loop
 sub-result-2 c = search needs

@@ -1,4 +1,4 @@
--- Made by tools/answers.py from answers/taken/numbers_line.ans: edit that. 5ce7d2fea69e9fad
+-- Made by tools/answers.py from answers/taken/numbers_line.ans: edit that. 66910c49a1589f05
 use borrow.Author.Tests.{not-true, not-false}
 use mathlib.Core.Path.{sym, _∙_}
 use Rattle.lines.proofs.TakenLaws.{good, line-ends, numbers-missing, numbers-bad, numbers-taken}
@@ -7,9 +7,7 @@ use Rattle.lines.proofs.taken.numbers_line.Statement.{statement}
 use Rattle.lines.proofs.taken.numbers_line.Tie as tie
 
 returns : tie.Need-returns
-returns c =
-    let c·args = c .before .before .before in
-    numbers-missing (c·args .args .s .now) (c·args .args .at) (c·args .args .out .now) (c .if1 .taken)
+returns c = numbers-missing (c .before .before .before .args .s .now) (c .before .before .before .args .at) (c .before .before .before .args .out .now) (c .if1 .taken)
 
 line-len-requires : tie.Need-line-len-requires
 line-len-requires c κs = search needs
@@ -21,23 +19,19 @@ is-good-requires : tie.Need-is-good-requires
 is-good-requires c κs = search needs
 
 returns-2 : tie.Need-returns-2
-returns-2 c =
-    let c·args = c .before .before .before .before .before .before .before in
-    numbers-bad (c·args .args .s .now) (c·args .args .at) (c·args .args .out .now) (c .before .before .before .before .if1 .left) (c .before .before .before .line-len .ensures) (c .before .before .part .ensures) (sym (not-true (c .before .is-good .result) (c .if2 .taken)) ∙ c .before .is-good .ensures)
+returns-2 c = numbers-bad (c .before .before .before .before .before .before .before .args .s .now) (c .before .before .before .before .before .before .before .args .at) (c .before .before .before .before .before .before .before .args .out .now) (c .before .before .before .before .if1 .left) (c .before .before .before .line-len .ensures) (c .before .before .part .ensures) (sym (not-true (c .before .is-good .result) (c .if2 .taken)) ∙ c .before .is-good .ensures)
 
 store-numbers-requires : tie.Need-store-numbers-requires
 store-numbers-requires c κs = good 4 (c .before .before .before .part .result .now) (sym (not-false (c .before .before .is-good .result) (c .before .if2 .left)) ∙ c .before .before .is-good .ensures) .digits
 
 add-t12 : tie.Need-add-t12
 add-t12 c =
-    let c·args = c .before .before .before .before .before .before .before .before .before .before .before in
-    let w = line-ends (c·args .args .s .now) (c·args .args .at) (c·args .args .out .now) (c .before .before .before .before .before .before .before .before .if1 .left) (c .before .before .before .before .before .before .before .line-len .ensures) (c .before .before .before .before .before .before .part .ensures) in
+    let w = line-ends (c .before .before .before .before .before .before .before .before .before .before .before .args .s .now) (c .before .before .before .before .before .before .before .before .before .before .before .args .at) (c .before .before .before .before .before .before .before .before .before .before .before .args .out .now) (c .before .before .before .before .before .before .before .before .if1 .left) (c .before .before .before .before .before .before .before .line-len .ensures) (c .before .before .before .before .before .before .part .ensures) in
     search needs
 
 add-t13 : tie.Need-add-t13
 add-t13 c =
-    let c·args = c .before .before .before .before .before .before .before .before .before .before .before in
-    let w = line-ends (c·args .args .s .now) (c·args .args .at) (c·args .args .out .now) (c .before .before .before .before .before .before .before .before .if1 .left) (c .before .before .before .before .before .before .before .line-len .ensures) (c .before .before .before .before .before .before .part .ensures) in
+    let w = line-ends (c .before .before .before .before .before .before .before .before .before .before .before .args .s .now) (c .before .before .before .before .before .before .before .before .before .before .before .args .at) (c .before .before .before .before .before .before .before .before .before .before .before .args .out .now) (c .before .before .before .before .before .before .before .before .if1 .left) (c .before .before .before .before .before .before .before .line-len .ensures) (c .before .before .before .before .before .before .part .ensures) in
     search needs
 
 same-length : tie.Need-same-length
@@ -45,9 +39,8 @@ same-length c = search needs
 
 returns-3 : tie.Need-returns-3
 returns-3 c =
-    let c·args = c .before .before .before .before .before .before .before .before .before .before .before in
     let is-good = c .before .before .before .before .before .is-good in
-    numbers-taken (c·args .args .s .now) (c·args .args .at) (c·args .args .out .now) (c .before .before .before .before .before .before .before .before .if1 .left) (c .before .before .before .before .before .before .before .line-len .ensures) (c .before .before .before .before .before .before .part .ensures) (sym (not-false (is-good .result) (c .before .before .before .before .if2 .left)) ∙ is-good .ensures) (c .before .before .store-numbers .ensures)
+    numbers-taken (c .before .before .before .before .before .before .before .before .before .before .before .args .s .now) (c .before .before .before .before .before .before .before .before .before .before .before .args .at) (c .before .before .before .before .before .before .before .before .before .before .before .args .out .now) (c .before .before .before .before .before .before .before .before .if1 .left) (c .before .before .before .before .before .before .before .line-len .ensures) (c .before .before .before .before .before .before .part .ensures) (sym (not-false (is-good .result) (c .before .before .before .before .if2 .left)) ∙ is-good .ensures) (c .before .before .store-numbers .ensures)
 
 pub numbers-line-spec : {M : Type 1} → statement M
 numbers-line-spec =

@@ -1,4 +1,4 @@
--- Made by tools/answers.py from answers/taken/octet.ans: edit that. d779501642fb9f75
+-- Made by tools/answers.py from answers/taken/octet.ans: edit that. 1f58046851b8b57c
 use Prim.Native.Nat.{_+_}
 use native.Mathlib.Omega.{arith}
 use Rattle.lines.proofs.TakenLaws.{hex-small}
@@ -14,8 +14,7 @@ digit-requires c κs = search needs
 
 mul-result : tie.Need-mul-result
 mul-result c =
-    let c·args = c .before .before .before in
-    let w = hex-small (c·args .args .line .now) (c·args .args .i) (c·args .pre .0) (omega arith) (c .digit .ensures) in search needs
+    let w = hex-small (c .before .before .before .args .line .now) (c .before .before .before .args .i) (c .before .before .before .pre .0) (omega arith) (c .digit .ensures) in search needs
 
 add-digit : tie.Need-add-digit
 add-digit c = search needs
@@ -28,11 +27,10 @@ digit-requires-2 c κs = search needs
 
 add-result : tie.Need-add-result
 add-result c =
-    let c·args = c .before .before .before .before .before in
-    let l = c·args .args .line .now in
-    let i = c·args .args .i in
-    let w = hex-small l i (c·args .pre .0) (omega arith) (c .before .before .digit .ensures) in
-    let v = hex-small l (i + 1) (c·args .pre .0) (omega arith) (c .digit2 .ensures) in
+    let l = c .before .before .before .before .before .args .line .now in
+    let i = c .before .before .before .before .before .args .i in
+    let w = hex-small l i (c .before .before .before .before .before .pre .0) (omega arith) (c .before .before .digit .ensures) in
+    let v = hex-small l (i + 1) (c .before .before .before .before .before .pre .0) (omega arith) (c .digit2 .ensures) in
     search needs
 
 returns : tie.Need-returns

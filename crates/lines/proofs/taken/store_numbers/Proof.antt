@@ -1,4 +1,4 @@
--- Made by tools/answers.py from answers/taken/store_numbers.ans: edit that. 6f4c080b23ce7208
+-- Made by tools/answers.py from answers/taken/store_numbers.ans: edit that. 9d4cf9239de645eb
 use Prim.Native.Nat.{_-_, _≤_}
 use native.Mathlib.Omega.{arith}
 use lib.ListN.{length, drop}
@@ -39,8 +39,7 @@ loop-less c = search needs
 
 loop-again : tie.Need-loop-again Inv-loop μ-loop
 loop-again c =
-    let c·loop = c .before .before .before .before .before .before in
-    let i = c·loop .loop .i in (numbers-next (c·loop .before .before .before .args .line .now) i (c·loop .loop .inv .0) (c .before .before .before .before .before .loop-test .taken) (rw (← c .before .before .before .before .number .ensures) (c .before .before .put-number .ensures)) (c .before .before .put-number .kept .0), omega arith, omega arith)
+    let i = c .before .before .before .before .before .before .loop .i in (numbers-next (c .before .before .before .before .before .before .before .before .before .args .line .now) i (c .before .before .before .before .before .before .loop .inv .0) (c .before .before .before .before .before .loop-test .taken) (rw (← c .before .before .before .before .number .ensures) (c .before .before .put-number .ensures)) (c .before .before .put-number .kept .0), omega arith, omega arith)
 
 same-length : tie.Need-same-length Inv-loop μ-loop
 same-length c = search needs

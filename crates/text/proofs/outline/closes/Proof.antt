@@ -1,4 +1,4 @@
--- Made by tools/answers.py from answers/outline/closes.ans: edit that. 50f2aea89bb5d602
+-- Made by tools/answers.py from answers/outline/closes.ans: edit that. dc4821d4eae3486f
 -- By the tests on the brackets.
 use mathlib.Core.Path.{_∙_}
 use Prim.Native.Nat.{_%_}
@@ -22,9 +22,8 @@ goes-requires c κs = search needs
 returns-3 : tie.Need-returns-3
 unfolding closing closes
 returns-3 c =
-    let c·args = c .before .before .before in
-    let brackets = c·args .args .brackets in
-    c .goes .ensures ∙ rw (ne-eqb (c·args .args .brackets) 1 (c .before .before .if1 .left), eq-eqb (brackets % 2) (c·args .args .kind) (c .before .if2 .left))
+    let brackets = c .before .before .before .args .brackets in
+    c .goes .ensures ∙ rw (ne-eqb (c .before .before .before .args .brackets) 1 (c .before .before .if1 .left), eq-eqb (brackets % 2) (c .before .before .before .args .kind) (c .before .if2 .left))
 
 pub closes-spec : {M : Type 1} → statement M
 closes-spec = tie.close (tie.spec returns returns-2 goes-requires returns-3)

@@ -1,4 +1,4 @@
--- Made by tools/answers.py from answers/outline/comma.ans: edit that. 1482406c4ef699be
+-- Made by tools/answers.py from answers/outline/comma.ans: edit that. 0be444e75c286f15
 -- By the tests on the brackets.
 use mathlib.Core.Path.{_∙_}
 use Prim.Native.Nat.{_%_}
@@ -18,9 +18,8 @@ goes-requires c κs = search needs
 returns-2 : tie.Need-returns-2
 unfolding parted comma
 returns-2 c =
-    let c·args = c .before .before .before in
-    let brackets = c·args .args .brackets in
-    c .goes .ensures ∙ rw (ne-eqb (c·args .args .brackets) 1 (c .before .before .if1 .left), eq-eqb (brackets % 2) 0 (c .before .if2 .taken))
+    let brackets = c .before .before .before .args .brackets in
+    c .goes .ensures ∙ rw (ne-eqb (c .before .before .before .args .brackets) 1 (c .before .before .if1 .left), eq-eqb (brackets % 2) 0 (c .before .if2 .taken))
 
 goes-requires-2 : tie.Need-goes-requires-2
 goes-requires-2 c κs = search needs
@@ -28,9 +27,8 @@ goes-requires-2 c κs = search needs
 returns-3 : tie.Need-returns-3
 unfolding parted comma
 returns-3 c =
-    let c·args = c .before .before .before in
-    let brackets = c·args .args .brackets in
-    c .goes2 .ensures ∙ rw (ne-eqb (c·args .args .brackets) 1 (c .before .before .if1 .left), ne-eqb (brackets % 2) 0 (c .before .if2 .left))
+    let brackets = c .before .before .before .args .brackets in
+    c .goes2 .ensures ∙ rw (ne-eqb (c .before .before .before .args .brackets) 1 (c .before .before .if1 .left), ne-eqb (brackets % 2) 0 (c .before .if2 .left))
 
 pub comma-spec : {M : Type 1} → statement M
 comma-spec = tie.close (tie.spec returns goes-requires returns-2 goes-requires-2 returns-3)
