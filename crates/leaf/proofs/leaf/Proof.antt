@@ -1,3 +1,4 @@
+-- Made by tools/answers.py from answers/leaf.ans: edit that. 8e013b8004895a6e
 use Rattle.jer.specs.Table.{tNull, tBoolean, tNumber, tString, tokenCode, table}
 use Rattle.leaf.proofs.StoreLaws.{refuses}
 use Rattle.leaf.proofs.LeafLaws.{by-token, leaf-other}
@@ -15,9 +16,7 @@ number-requires : tie.Need-number-requires
 number-requires c κs = search needs
 
 string-requires : tie.Need-string-requires
-string-requires c κs =
-    let entry = c .before .before .before .before .before .before .before .before in
-    (entry .pre .0, entry .pre .1 (c .before .before .match .keys4), entry .pre .2)
+string-requires c κs = (c .before .before .before .before .before .before .before .before .pre .0, c .before .before .before .before .before .before .before .before .pre .1 (c .before .before .match .keys4), c .before .before .before .before .before .before .before .before .pre .2)
 
 refused-requires : tie.Need-refused-requires
 refused-requires c κs = search needs
@@ -27,7 +26,8 @@ same-length c = search needs
 
 returns : tie.Need-returns
 unfolding tokenCode
-returns c = let a = c .before .before .before .before .before .before .before .before .before .before .args in
+returns c =
+    let a = c .before .before .before .before .before .before .before .before .before .before .args in
     by-token (a .s .now) (a .p) tNull (c .before .before .null .ensures (a .names .now) (a .pool .now) (a .o)) (c .before .before .before .before .match .keys1)
 
 same-length-2 : tie.Need-same-length-2
@@ -35,7 +35,8 @@ same-length-2 c = search needs
 
 returns-2 : tie.Need-returns-2
 unfolding tokenCode
-returns-2 c = let a = c .before .before .before .before .before .before .before .before .before .before .args in
+returns-2 c =
+    let a = c .before .before .before .before .before .before .before .before .before .before .args in
     by-token (a .s .now) (a .p) tBoolean (c .before .before .boolean .ensures (a .names .now) (a .pool .now) (a .o)) (c .before .before .before .before .match .keys2)
 
 same-length-3 : tie.Need-same-length-3
@@ -43,7 +44,8 @@ same-length-3 c = search needs
 
 returns-3 : tie.Need-returns-3
 unfolding tokenCode
-returns-3 c = let a = c .before .before .before .before .before .before .before .before .before .before .args in
+returns-3 c =
+    let a = c .before .before .before .before .before .before .before .before .before .before .args in
     by-token (a .s .now) (a .p) tNumber (c .before .before .number .ensures (a .names .now) (a .pool .now) (a .o)) (c .before .before .before .before .match .keys3)
 
 same-length-4 : tie.Need-same-length-4
@@ -54,11 +56,13 @@ same-length-5 c = search needs
 
 returns-4 : tie.Need-returns-4
 unfolding tokenCode
-returns-4 c = let a = c .before .before .before .before .before .before .before .before .before .before .before .before .before .args in
+returns-4 c =
+    let a = c .before .before .before .before .before .before .before .before .before .before .before .before .before .args in
     by-token (a .s .now) (a .p) tString (c .before .before .before .before .string .ensures) (c .before .before .before .before .before .before .before .match .keys4)
 
 returns-5 : tie.Need-returns-5
-returns-5 c = let a = c .before .before .before .before .before .before .before .args in
+returns-5 c =
+    let a = c .before .before .before .before .before .before .before .args in
     let m = c .before .match .rest in
     λ k e. refuses (leaf-other (table (a .types .now) (a .names .now)) (a .s .now) (a .row) (a .p) (m .0 .0 .0 .1) (m .0 .0 .1) (m .0 .1) (m .1) k e) (c .refused .ensures)
 

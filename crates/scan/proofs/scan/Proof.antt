@@ -1,3 +1,4 @@
+-- Made by tools/answers.py from answers/scan.ans: edit that. 850d2b486b069c10
 use mathlib.Core.Path.{_≡_, sym, ap, _∙_}
 use mathlib.Core.List.{List}
 use mathlib.Core.Option.{none, some}
@@ -72,9 +73,7 @@ first-part-requires c κs = search needs
 
 loop-holds : tie.Need-loop-holds Inv-loop μ-loop
 unfolding noPlaces
-loop-holds c =
-    let entry = c .before .before .before .before .before .before in
-    loop-start _ _ _ _ 0x7D (entry .args .p) (c .first-part .result) (entry .pre .1) (c .first-part .ensures)
+loop-holds c = loop-start _ _ _ _ 0x7D (c .before .before .before .before .before .before .args .p) (c .first-part .result) (c .before .before .before .before .before .before .pre .1) (c .first-part .ensures)
 
 enum-known-next : tie.Need-enum-known-next Inv-loop μ-loop
 enum-known-next c = search needs
@@ -93,8 +92,8 @@ skip-value-requires c κs = search needs
 
 after-part-requires : tie.Need-after-part-requires Inv-loop μ-loop
 after-part-requires c κs =
-    let entry = c .before .before .before .before .before .before .before .before .before .before .before .before in
-    omega (arith, c .skip-value .ensures, value-within (entry .args .s .now) 65538 (omega arith) (entry .args .depth) (c .before .value-place .result) (omega arith))
+    let entry = (c .before .before .before .before .before .before .before .before .before .before .before .before) in
+    omega (arith, c .skip-value .ensures, value-within (c .before .before .before .before .before .before .before .before .before .before .before .before .args .s .now) 65538 (omega arith) (c .before .before .before .before .before .before .before .before .before .before .before .before .args .depth) (c .before .value-place .result) (omega arith))
 
 position-requires : tie.Need-position-requires Inv-loop μ-loop
 position-requires c κs = omega (arith, turn (c .before .before .before) .within)
@@ -103,9 +102,7 @@ enum-told : tie.Need-enum-told Inv-loop μ-loop
 enum-told c = search needs
 
 returns-2 : tie.Need-returns-2 Inv-loop μ-loop
-returns-2 c =
-    let told = c .before in
-    turn-unknown _ _ _ _ (turn (c .before .before .before .before .before .before .before)) (unknown told) (mark told ∙ not-true _ (c .if1 .taken))
+returns-2 c = turn-unknown _ _ _ _ (turn (c .before .before .before .before .before .before .before)) (unknown (c .before)) (mark (c .before) ∙ not-true _ (c .if1 .taken))
 
 loop-less : tie.Need-loop-less Inv-loop μ-loop
 loop-less c = less (c .before .before .before .before)

@@ -1,3 +1,4 @@
+-- Made by tools/answers.py from answers/check.ans: edit that. 68d4fe3809a3b38c
 use Rattle.jer.specs.Table.{table}
 use Rattle.types.proofs.CheckLaws.{alone-all, check-sizes, check-alone, check-sure, check-pointers, check-rules}
 use borrow.Author.Needs.{needs}

@@ -1,3 +1,4 @@
+-- Made by tools/answers.py from answers/missing/missing.ans: edit that. 330ce8c8a4de6d51
 use mathlib.Core.Path.{refl, sym, _∙_}
 use Rattle.jer.specs.Table.{tNull, tokenCode, table}
 use Rattle.leaf.proofs.LeafLaws.{missing-choice, missing-open, missing-closed, missing-null, missing-other, missing-refused, missing-one, missing-two}
@@ -43,9 +44,10 @@ same-length c = search needs
 
 returns : tie.Need-returns
 unfolding tokenCode
-returns c = let a = c .before .before .before .before .before .before .before .before .before .before .before .before .before .before .before .before .before .before .before .before .before .args in
-    let m = c .before .before .before .before .before .before .before .before .before .before .before .before .before .before .before .before .before .before .type-at in
+returns c =
+    let a = c .before .before .before .before .before .before .before .before .before .before .before .before .before .before .before .before .before .before .before .before .before .args in
     let w = c .before .before .before .before .before .before .before .before .before .before .before .before .before .before .before .before .before .at in
+    let m = c .before .before .before .before .before .before .before .before .before .before .before .before .before .before .before .before .before .before .type-at in
     λ ns pool o. let t = table (a .types .now) ns in
     missing-two t (a .row) (a .p) (a .member) (a .next) (m .ensures ns) (missing-choice t (m .result) (a .p) (a .member) (c .before .before .before .before .before .before .before .before .before .before .before .before .before .before .before .before .is-unwrapped .ensures t (m .result) (w .ensures ns)) (c .before .before .before .before .before .before .before .before .before .before .before .before .before .before .before .if1 .taken) (sym (c .before .before .before .before .before .before .before .before .before .before .before .before .k .given .1) ∙ c .before .before .before .before .before .before .before .before .before .before .before .before .before .before .alternative .ensures ns tNull refl)) (w .ensures ns) (c .before .before .before .before .before .type-at2 .ensures ns) (c .before .before .before .before .kind-of .ensures ns) (c .before .before .before .before .before .before .before .before .before .put-row .ensures) (c .before .before .before .put-row2 .ensures) (c .read .ensures)
 
@@ -60,7 +62,8 @@ refused-requires c κs = search needs
 
 returns-2 : tie.Need-returns-2
 unfolding tokenCode
-returns-2 c = let a = c .before .before .before .before .before .before .before .before .before .before .before .before .args in
+returns-2 c =
+    let a = c .before .before .before .before .before .before .before .before .before .before .before .before .args in
     let m = c .before .before .before .before .before .before .before .before .before .type-at in
     let w = c .before .before .before .before .before .before .before .before .at in
     λ ns pool o. let t = table (a .types .now) ns in
@@ -71,7 +74,8 @@ refused-requires-2 c κs = search needs
 
 returns-3 : tie.Need-returns-3
 unfolding tokenCode
-returns-3 c = let a = c .before .before .before .before .before .before .before .before .before .before .before .before .args in
+returns-3 c =
+    let a = c .before .before .before .before .before .before .before .before .before .before .before .before .args in
     let m = c .before .before .before .before .before .before .before .before .before .type-at in
     let w = c .before .before .before .before .before .before .before .before .at in
     λ ns pool o. let t = table (a .types .now) ns in
@@ -87,7 +91,8 @@ same-length-2 : tie.Need-same-length-2
 same-length-2 c = search needs
 
 returns-4 : tie.Need-returns-4
-returns-4 c = let a = c .before .before .before .before .before .before .before .before .before .before .before .before .before .args in
+returns-4 c =
+    let a = c .before .before .before .before .before .before .before .before .before .before .before .before .before .args in
     let m = c .before .before .before .before .before .before .before .before .before .before .type-at in
     let w = c .before .before .before .before .before .before .before .before .before .at in
     λ ns pool o. let t = table (a .types .now) ns in
@@ -97,7 +102,8 @@ refused-requires-3 : tie.Need-refused-requires-3
 refused-requires-3 c κs = search needs
 
 returns-5 : tie.Need-returns-5
-returns-5 c = let a = c .before .before .before .before .before .before .before .before .before .args in
+returns-5 c =
+    let a = c .before .before .before .before .before .before .before .before .before .args in
     let m = c .before .before .before .before .before .before .type-at in
     let w = c .before .before .before .before .before .at in
     λ ns pool o. let t = table (a .types .now) ns in

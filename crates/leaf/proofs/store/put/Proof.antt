@@ -1,3 +1,4 @@
+-- Made by tools/answers.py from answers/store/put.ans: edit that. 90382ac5af93f2d4
 use mathlib.Core.Path.{sym}
 use lib.Seq.{set-out}
 use borrow.Author.Needs.{needs}

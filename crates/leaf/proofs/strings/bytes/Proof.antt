@@ -1,3 +1,4 @@
+-- Made by tools/answers.py from answers/strings/bytes.ans: edit that. f0b256c9ae5114be
 use Prim.Native.Nat.{_*_}
 use native.Mathlib.Omega.{arith}
 use Rattle.leaf.proofs.LeafLaws.{same-row}
@@ -21,10 +22,17 @@ same-length : tie.Need-same-length
 same-length c = search needs
 
 returns : tie.Need-returns
-returns c = let a = c .before .before .before .before .before .before .before .before .args in
+returns c =
+    let a = c .before .before .before .before .before .before .before .before .args in
     (c .read .ensures, λ h. same-row (a .rows .now) (a .i * 4) (a .kind) (c .before .before .before .put-row .ensures) (c .before .before .before .before .before .narrow .ensures (omega arith)) (c .before .before .before .before .narrow2 .ensures (omega arith)))
 
 pub bytes-spec : {M : Type 1} → statement M
 bytes-spec =
     tie.close
-    (tie.spec narrow-requires narrow-requires-2 put-row-requires read-requires same-length returns)
+    (tie.spec
+    narrow-requires
+    narrow-requires-2
+    put-row-requires
+    read-requires
+    same-length
+    returns)

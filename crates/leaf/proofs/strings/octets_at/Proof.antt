@@ -1,3 +1,4 @@
+-- Made by tools/answers.py from answers/strings/octets_at.ans: edit that. df240cb097b53820
 use mathlib.Core.Path.{ap, _∙_}
 use Prim.Native.Nat.{_+_}
 use Rattle.tokens.specs.Strings.{denoted}
@@ -30,7 +31,8 @@ same-length : tie.Need-same-length
 same-length c = search needs
 
 returns : tie.Need-returns
-returns c = let a = c .before .before .before .before .before .before .before .before .before .before .before .before .args in
+returns c =
+    let a = c .before .before .before .before .before .before .before .before .before .before .before .before .args in
     let d = denoted (a .s .now) (a .p + 1) in
     let f = c .before .before .base64-octets in (
       λ ns. f .ensures .0 ∙ ap foundOf (base64-of (table (a .types .now) ns) (a .row) d (c .before .before .before .before .before .is-base64 .ensures _ _ (c .before .before .before .before .before .before .at .ensures ns)) (c .before .before .before .before .if1 .taken)),
@@ -47,7 +49,8 @@ same-length-2 : tie.Need-same-length-2
 same-length-2 c = search needs
 
 returns-2 : tie.Need-returns-2
-returns-2 c = let a = c .before .before .before .before .before .before .before .before .before .before .before .before .args in
+returns-2 c =
+    let a = c .before .before .before .before .before .before .before .before .before .before .before .before .args in
     let d = denoted (a .s .now) (a .p + 1) in
     let f = c .before .before .hex-octets in (
       λ ns. f .ensures .0 ∙ ap foundOf (hex-of (table (a .types .now) ns) (a .row) d (c .before .before .before .before .before .is-base64 .ensures _ _ (c .before .before .before .before .before .before .at .ensures ns)) (c .before .before .before .before .if1 .left)),

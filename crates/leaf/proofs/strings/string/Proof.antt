@@ -1,3 +1,4 @@
+-- Made by tools/answers.py from answers/strings/string.ans: edit that. 1fad448aee6a860a
 use mathlib.Core.Path.{sym, _∙_}
 use Rattle.jer.specs.Table.{table}
 use Rattle.leaf.proofs.StoreLaws.{stepped, refuses}
@@ -58,7 +59,8 @@ same-length : tie.Need-same-length
 same-length c = search needs
 
 returns : tie.Need-returns
-returns c = let a = c .before .before .before .before .before .before .before .before .before .before .before .args in
+returns c =
+    let a = c .before .before .before .before .before .before .before .before .before .before .before .args in
     let ns = a .names .now in
     stepped (string-item (table (a .types .now) ns) (a .s .now) (a .row) (a .p) (c .before .before .before .before .before .kind-of .ensures ns) (c .before .before .before .before .match .keys1)) (c .before .before .item .ensures (a .pool .now) (a .o))
 
@@ -66,7 +68,8 @@ same-length-2 : tie.Need-same-length-2
 same-length-2 c = search needs
 
 returns-2 : tie.Need-returns-2
-returns-2 c = let a = c .before .before .before .before .before .before .before .before .before .before .before .before .before .before .args in
+returns-2 c =
+    let a = c .before .before .before .before .before .before .before .before .before .before .before .before .before .before .args in
     let ns = a .names .now in
     refuses (octets-bad (table (a .types .now) ns) (a .s .now) (a .row) (a .p) (c .before .before .before .before .before .before .before .before .kind-of .ensures ns) (c .before .before .before .before .before .before .before .match .keys2) (sym (c .before .enum-told .given .1) ∙ c .before .before .before .before .before .octets-at .ensures .0 ns)) (c .refused .ensures)
 
@@ -77,7 +80,8 @@ same-length-4 : tie.Need-same-length-4
 same-length-4 c = search needs
 
 returns-3 : tie.Need-returns-3
-returns-3 c = let a = c .before .before .before .before .before .before .before .before .before .before .before .before .before .before .before .before .before .before .before .args in
+returns-3 c =
+    let a = c .before .before .before .before .before .before .before .before .before .before .before .before .before .before .before .before .before .before .before .args in
     let ns = a .names .now in
     octets-read (table (a .types .now) ns) (a .s .now) (a .row) (a .p) (c .before .before .before .before .before .before .before .before .before .before .before .before .before .kind-of .ensures ns) (c .before .before .before .string-end .ensures) (c .before .before .bytes .ensures .0) (c .before .before .bytes .ensures .1) (c .before .before .before .before .before .before .before .before .before .before .before .before .match .keys2) (sym (c .before .before .before .before .before .before .n .given .1) ∙ c .before .before .before .before .before .before .before .before .before .before .octets-at .ensures .0 ns) (c .before .before .before .before .before .before .before .before .before .before .octets-at .ensures .1 ns)
 
@@ -88,12 +92,14 @@ same-length-6 : tie.Need-same-length-6
 same-length-6 c = search needs
 
 returns-4 : tie.Need-returns-4
-returns-4 c = let a = c .before .before .before .before .before .before .before .before .before .before .before .before .before .before .before .before .before .before .args in
+returns-4 c =
+    let a = c .before .before .before .before .before .before .before .before .before .before .before .before .before .before .before .before .before .before .args in
     let ns = a .names .now in
     utf8-read (table (a .types .now) ns) (a .s .now) (a .row) (a .p) (c .before .before .before .before .before .before .before .before .before .before .before .before .kind-of .ensures ns) (c .before .before .before .string-end2 .ensures ∙ c .before .before .before .before .before .before .before .copy .ensures .1 .0) (c .before .before .bytes2 .ensures .0) (c .before .before .bytes2 .ensures .1) (c .before .before .before .before .before .before .before .before .before .before .before .match .keys3) (c .before .before .before .before .before .before .before .copy .ensures .0) (λ h. c .before .before .before .before .before .before .before .before .wide .ensures .0 ∙ c .before .before .before .before .before .before .before .before .before .narrow .ensures h) (c .before .before .before .before .before .before .before .copy .ensures .1 .1)
 
 returns-5 : tie.Need-returns-5
-returns-5 c = let a = c .before .before .before .before .before .before .before .before .args in
+returns-5 c =
+    let a = c .before .before .before .before .before .before .before .before .args in
     let ns = a .names .now in
     let m = c .before .match .rest in
     refuses (string-other (table (a .types .now) ns) (a .s .now) (a .row) (a .p) (c .before .before .kind-of .ensures ns) (m .0 .0 .1) (m .0 .1) (m .1)) (c .refused2 .ensures)

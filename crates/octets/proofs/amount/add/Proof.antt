@@ -1,7 +1,8 @@
-use borrow.Author.Needs.{needs}
+-- Made by tools/answers.py from answers/amount/add.ans: edit that. 0d1afdfff0e0614c
 use Prim.Native.Nat.{_+_}
 use native.Mathlib.Omega.{arith}
 use Rattle.octets.proofs.AmountLaws.{amount-within, amount-over}
+use borrow.Author.Needs.{needs}
 use Rattle.octets.proofs.amount.add.Statement.{statement}
 use Rattle.octets.proofs.amount.add.Tie as tie
 

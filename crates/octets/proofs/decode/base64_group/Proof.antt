@@ -1,9 +1,10 @@
-use borrow.Author.Needs.{needs}
+-- Made by tools/answers.py from answers/decode/base64_group.ans: edit that. ed45d7b2d3bef36c
 use mathlib.Core.Path.{subst}
 use Rattle.jer.specs.Octets.{base64Value}
 use Rattle.octets.specs.Decode.{Reads}
 use Rattle.octets.proofs.DigitLaws.{base64-below}
 use Rattle.octets.proofs.GroupLaws.{without, base64-end, base64-none, base64-half, base64-first}
+use borrow.Author.Needs.{needs}
 use Rattle.octets.proofs.decode.base64_group.Statement.{statement}
 use Rattle.octets.proofs.decode.base64_group.Tie as tie
 
@@ -37,14 +38,10 @@ base64-tail-requires c κs =
     (c .before .before .before .before .before .before .before .before .before .pre, base64-below d, base64-below e)
 
 returns-2 : tie.Need-returns-2
-returns-2 c =
-    let entry = c .before .before .before .before in
-    base64-end (subst (Reads base64Value (entry .args .s .now) (entry .args .i)) (c .enum-told .given .1) (c .before .before .base64-digit .ensures))
+returns-2 c = base64-end (subst (Reads base64Value (c .before .before .before .before .args .s .now) (c .before .before .before .before .args .i)) (c .enum-told .given .1) (c .before .before .base64-digit .ensures))
 
 returns-3 : tie.Need-returns-3
-returns-3 c =
-    let entry = c .before .before .before .before in
-    base64-none (subst (Reads base64Value (entry .args .s .now) (entry .args .i)) (c .enum-told2 .given .1) (c .before .before .base64-digit .ensures))
+returns-3 c = base64-none (subst (Reads base64Value (c .before .before .before .before .args .s .now) (c .before .before .before .before .args .i)) (c .enum-told2 .given .1) (c .before .before .base64-digit .ensures))
 
 returns-4 : tie.Need-returns-4
 returns-4 c =

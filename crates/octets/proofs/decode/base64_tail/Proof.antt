@@ -1,4 +1,4 @@
-use borrow.Author.Needs.{needs}
+-- Made by tools/answers.py from answers/decode/base64_tail.ans: edit that. 03cd110c21faa90b
 use mathlib.Core.Path.{sym, subst, _∙_}
 use native.Mathlib.Omega.{arith}
 use borrow.Author.Tests.{not-true, not-false}
@@ -6,6 +6,7 @@ use Rattle.jer.specs.Octets.{base64Value}
 use Rattle.octets.specs.Decode.{Reads}
 use Rattle.octets.proofs.DigitLaws.{base64-below}
 use Rattle.octets.proofs.GroupLaws.{without, tail-bits, tail-other, tail-one, tail-bits-2, tail-other-2, tail-two, tail-three}
+use borrow.Author.Needs.{needs}
 use Rattle.octets.proofs.decode.base64_tail.Statement.{statement}
 use Rattle.octets.proofs.decode.base64_tail.Tie as tie
 
@@ -35,8 +36,8 @@ add-t18 c = search needs
 
 returns-3 : tie.Need-returns-3
 returns-3 c =
-    let entry = c .before .before .before .before .before .before .before in
-    tail-one (entry .args .s .now) (entry .args .i) (omega arith) (sym (c .before .same-as .ensures) ∙ not-false (c .before .same-as .result) (c .if2 .left))
+    let entry = (c .before .before .before .before .before .before .before) in
+    tail-one (c .before .before .before .before .before .before .before .args .s .now) (c .before .before .before .before .before .before .before .args .i) (omega arith) (sym (c .before .same-as .ensures) ∙ not-false (c .before .same-as .result) (c .if2 .left))
 
 base64-digit-requires-2 : tie.Need-base64-digit-requires-2
 base64-digit-requires-2 c κs = search needs

@@ -1,8 +1,9 @@
-use borrow.Author.Needs.{needs}
+-- Made by tools/answers.py from answers/decode/hex_digit.ans: edit that. f01e5627e95c1ae0
 use mathlib.Core.Path.{subst}
 use native.Mathlib.Omega.{arith}
 use Rattle.octets.specs.Decode.{asciiValue, Reads}
 use Rattle.octets.proofs.DigitLaws.{digit-some, digit-none, digit-wide, hex-decimal, hex-upper, hex-lower, hex-other, hex-wide}
+use borrow.Author.Needs.{needs}
 use Rattle.octets.proofs.decode.hex_digit.Statement.{statement}
 use Rattle.octets.proofs.decode.hex_digit.Tie as tie
 
@@ -28,9 +29,7 @@ returns : tie.Need-returns
 returns c = subst (Reads asciiValue (c .before .before .before .before .args .s .now) (c .before .before .before .before .args .i)) (c .enum-told .given .1) (c .before .before .next-char .ensures)
 
 returns-2 : tie.Need-returns-2
-returns-2 c =
-    let entry = c .before .before .before .before in
-    digit-wide hex-wide (subst (Reads asciiValue (entry .args .s .now) (entry .args .i)) (c .enum-told2 .given .1) (c .before .before .next-char .ensures))
+returns-2 c = digit-wide hex-wide (subst (Reads asciiValue (c .before .before .before .before .args .s .now) (c .before .before .before .before .args .i)) (c .enum-told2 .given .1) (c .before .before .next-char .ensures))
 
 returns-3 : tie.Need-returns-3
 returns-3 c =

@@ -1,10 +1,11 @@
-use borrow.Author.Needs.{needs}
+-- Made by tools/answers.py from answers/decode/hex_group.ans: edit that. d2608caf85dee6b5
 use mathlib.Core.Path.{subst}
 use native.Mathlib.Omega.{arith}
 use Rattle.jer.specs.Octets.{hexValue}
 use Rattle.octets.specs.Decode.{Reads}
 use Rattle.octets.proofs.DigitLaws.{hex-below}
 use Rattle.octets.proofs.GroupLaws.{without, hex-end, hex-none, hex-half, hex-octet}
+use borrow.Author.Needs.{needs}
 use Rattle.octets.proofs.decode.hex_group.Statement.{statement}
 use Rattle.octets.proofs.decode.hex_group.Tie as tie
 
@@ -43,14 +44,10 @@ add-t11 c =
     omega (arith, hex-below d, hex-below e)
 
 returns-2 : tie.Need-returns-2
-returns-2 c =
-    let entry = c .before .before .before .before in
-    hex-end (subst (Reads hexValue (entry .args .s .now) (entry .args .i)) (c .enum-told .given .1) (c .before .before .hex-digit .ensures))
+returns-2 c = hex-end (subst (Reads hexValue (c .before .before .before .before .args .s .now) (c .before .before .before .before .args .i)) (c .enum-told .given .1) (c .before .before .hex-digit .ensures))
 
 returns-3 : tie.Need-returns-3
-returns-3 c =
-    let entry = c .before .before .before .before in
-    hex-none (subst (Reads hexValue (entry .args .s .now) (entry .args .i)) (c .enum-told2 .given .1) (c .before .before .hex-digit .ensures))
+returns-3 c = hex-none (subst (Reads hexValue (c .before .before .before .before .args .s .now) (c .before .before .before .before .args .i)) (c .enum-told2 .given .1) (c .before .before .hex-digit .ensures))
 
 returns-4 : tie.Need-returns-4
 returns-4 c =

@@ -1,8 +1,9 @@
-use borrow.Author.Needs.{needs}
+-- Made by tools/answers.py from answers/decode/next_char.ans: edit that. d94f8d9cc706c5ae
 use mathlib.Core.Path.{sym, _∙_}
 use native.Mathlib.Omega.{arith}
 use Rattle.tokens.proofs.StringLaws.{bare-inside, denoted-close}
 use Rattle.octets.proofs.DigitLaws.{char-bare, char-wide, escape-ascii, escape-wide}
+use borrow.Author.Needs.{needs}
 use Rattle.octets.proofs.decode.next_char.Statement.{statement}
 use Rattle.octets.proofs.decode.next_char.Tie as tie
 

@@ -1,7 +1,8 @@
-use borrow.Author.Needs.{needs}
+-- Made by tools/answers.py from answers/decode/next_group.ans: edit that. cfb9f91d8cd2c371
 use mathlib.Core.Path.{sym, subst}
 use mathlib.Core.Bool.{Bool}
 use Rattle.octets.specs.Decode.{Groups, decoding}
+use borrow.Author.Needs.{needs}
 use Rattle.octets.proofs.decode.next_group.Statement.{statement}
 use Rattle.octets.proofs.decode.next_group.Tie as tie
 

@@ -1,10 +1,11 @@
-use borrow.Author.Needs.{needs}
+-- Made by tools/answers.py from answers/decode/octets.ans: edit that. 92e4791016ea96ce
 use Prim.Native.Nat.{_-_}
 use mathlib.Core.Path.{subst}
 use native.Mathlib.Omega.{arith}
 use lib.ListN.{length}
 use Rattle.octets.specs.Decode.{Groups, decoding}
 use Rattle.octets.proofs.GroupLaws.{Decoding, decoding-start, decoding-end, decoding-bad, group-length, decoding-more}
+use borrow.Author.Needs.{needs}
 use Rattle.octets.proofs.decode.octets.Statement.{statement}
 use Rattle.octets.proofs.decode.octets.Tie as tie
 
@@ -27,9 +28,7 @@ same-length : tie.Need-same-length Inv-loop μ-loop
 same-length c = c .before .before .before .loop .inv .kept
 
 returns : tie.Need-returns Inv-loop μ-loop
-returns c =
-    let entry = c .before .before .before .before .before .before in
-    decoding-end (c .before .before .before .loop .inv) (subst (Groups (decoding (entry .args .base64)) (entry .args .s .now) (c .before .before .before .loop .i)) (c .enum-told .given .1) (c .before .before .next-group .ensures))
+returns c = decoding-end (c .before .before .before .loop .inv) (subst (Groups (decoding (c .before .before .before .before .before .before .args .base64)) (c .before .before .before .before .before .before .args .s .now) (c .before .before .before .loop .i)) (c .enum-told .given .1) (c .before .before .next-group .ensures))
 
 enum-told-2 : tie.Need-enum-told-2 Inv-loop μ-loop
 enum-told-2 c = search needs
@@ -38,9 +37,7 @@ same-length-2 : tie.Need-same-length-2 Inv-loop μ-loop
 same-length-2 c = c .before .before .before .loop .inv .kept
 
 returns-2 : tie.Need-returns-2 Inv-loop μ-loop
-returns-2 c =
-    let entry = c .before .before .before .before .before .before in
-    decoding-bad (c .before .before .before .loop .inv) (subst (Groups (decoding (entry .args .base64)) (entry .args .s .now) (c .before .before .before .loop .i)) (c .enum-told2 .given .1) (c .before .before .next-group .ensures))
+returns-2 c = decoding-bad (c .before .before .before .loop .inv) (subst (Groups (decoding (c .before .before .before .before .before .before .args .base64)) (c .before .before .before .before .before .before .args .s .now) (c .before .before .before .loop .i)) (c .enum-told2 .given .1) (c .before .before .next-group .ensures))
 
 enum-known-x : tie.Need-enum-known-x Inv-loop μ-loop
 enum-known-x c = search needs

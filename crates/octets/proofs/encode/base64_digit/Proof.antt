@@ -1,6 +1,7 @@
-use borrow.Author.Needs.{needs}
+-- Made by tools/answers.py from answers/encode/base64_digit.ans: edit that. 85efff41d5ac49c3
 use native.Mathlib.Omega.{arith}
 use Rattle.octets.proofs.EncodeLaws.{base64-upper, base64-lower, base64-decimal, base64-plus, base64-slash}
+use borrow.Author.Needs.{needs}
 use Rattle.octets.proofs.encode.base64_digit.Statement.{statement}
 use Rattle.octets.proofs.encode.base64_digit.Tie as tie
 
@@ -31,4 +32,12 @@ returns-5 c = base64-slash (c .before .before .before .before .args .x) (omega (
 pub base64-digit-spec : {M : Type 1} → statement M
 base64-digit-spec =
     tie.close
-    (tie.spec add-result add-result-2 sub-result returns returns-2 returns-3 returns-4 returns-5)
+    (tie.spec
+    add-result
+    add-result-2
+    sub-result
+    returns
+    returns-2
+    returns-3
+    returns-4
+    returns-5)

@@ -1,4 +1,4 @@
-use borrow.Author.Needs.{needs}
+-- Made by tools/answers.py from answers/encode/base64_len.ans: edit that. 78584ddb05792b75
 use Prim.Native.Nat.{_+_, _*_, _/_}
 use mathlib.Core.Path.{_≡_, _∙_}
 use native.Mathlib.Omega.{arith}
@@ -6,6 +6,7 @@ use lib.ListN.{length}
 use Rattle.jer.specs.Octets.{base64}
 use Rattle.octets.proofs.AmountLaws.{amount-within}
 use Rattle.octets.proofs.EncodeLaws.{base64-length}
+use borrow.Author.Needs.{needs}
 use Rattle.octets.proofs.encode.base64_len.Statement.{statement}
 use Rattle.octets.proofs.encode.base64_len.Tie as tie
 
@@ -16,7 +17,8 @@ mul-result : tie.Need-mul-result
 mul-result c = search needs
 
 returns : tie.Need-returns
-returns c = let os = c .args .octets .now in
+returns c =
+    let os = c .args .octets .now in
     let n : (length os + 2) / 3 * 4 ≡ length (base64 os) = omega (arith, base64-length os) in
     n ∙ amount-within (length (base64 os)) (omega arith)
 

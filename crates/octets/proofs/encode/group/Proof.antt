@@ -1,5 +1,6 @@
-use borrow.Author.Needs.{needs}
+-- Made by tools/answers.py from answers/encode/group.ans: edit that. 32b98abe313d6dc9
 use Rattle.octets.proofs.EncodeLaws.{base64-group}
+use borrow.Author.Needs.{needs}
 use Rattle.octets.proofs.encode.group.Statement.{statement}
 use Rattle.octets.proofs.encode.group.Tie as tie
 
@@ -28,9 +29,7 @@ base64-digit-requires-4 : tie.Need-base64-digit-requires-4
 base64-digit-requires-4 c κs = search needs
 
 returns : tie.Need-returns
-returns c =
-    let entry = c .before .before .before .before in
-    base64-group (entry .args .a) (entry .args .b) (entry .args .c) (c .before .before .before .base64-digit .ensures) (c .before .before .base64-digit2 .ensures) (c .before .base64-digit3 .ensures) (c .base64-digit4 .ensures)
+returns c = base64-group (c .before .before .before .before .args .a) (c .before .before .before .before .args .b) (c .before .before .before .before .args .c) (c .before .before .before .base64-digit .ensures) (c .before .before .base64-digit2 .ensures) (c .before .base64-digit3 .ensures) (c .base64-digit4 .ensures)
 
 pub group-spec : {M : Type 1} → statement M
 group-spec =

@@ -1,5 +1,6 @@
-use borrow.Author.Needs.{needs}
+-- Made by tools/answers.py from answers/encode/hex_digit.ans: edit that. 4d8f260bcfa2cd1e
 use Rattle.octets.proofs.EncodeLaws.{hex-decimal, hex-letter}
+use borrow.Author.Needs.{needs}
 use Rattle.octets.proofs.encode.hex_digit.Statement.{statement}
 use Rattle.octets.proofs.encode.hex_digit.Tie as tie
 

@@ -1,4 +1,4 @@
-use borrow.Author.Needs.{needs}
+-- Made by tools/answers.py from answers/encode/put_base64.ans: edit that. 82e42b4ea4c8970f
 use Prim.Native.Nat.{_+_, _-_, _≤_}
 use mathlib.Core.Path.{_∙_}
 use native.Mathlib.Omega.{arith}
@@ -6,6 +6,7 @@ use lib.ListN.{length, drop, getD, length-set}
 use Rattle.jer.specs.Octets.{base64}
 use Rattle.octets.proofs.EncodeLaws.{one-pad, two-pads, base64-done, base64-next, base64-last-two, base64-last-one}
 use Rattle.octets.proofs.PutLaws.{sets-as, Putting, putting-start, putting-done}
+use borrow.Author.Needs.{needs}
 use Rattle.octets.proofs.encode.put_base64.Statement.{statement}
 use Rattle.octets.proofs.encode.put_base64.Tie as tie
 
@@ -59,8 +60,8 @@ loop-less c = search needs
 
 loop-again : tie.Need-loop-again Inv-loop μ-loop
 loop-again c =
-    let entry = c .before .before .before .before .before .before .before .before .before .before .before .before .before in
-    (base64-next (entry .args .octets .now) (c .before .before .before .before .before .before .before .before .before .before .loop .i) (c .before .before .before .before .before .before .before .before .before .before .loop .inv .0) (c .before .before .before .before .before .before .before .before .before .loop-test .taken) (sets-as (c .before .before .before .before .before .before .before .before .before .before .loop .text) (entry .args .k + c .before .before .before .before .before .before .before .before .before .before .loop .n) (c .before .before .before .before .before .group .ensures) (c .before .before .put-all .ensures)) (c .before .before .put-all .kept .0), omega arith)
+    let entry = (c .before .before .before .before .before .before .before .before .before .before .before .before .before) in
+    (base64-next (c .before .before .before .before .before .before .before .before .before .before .before .before .before .args .octets .now) (c .before .before .before .before .before .before .before .before .before .before .loop .i) (c .before .before .before .before .before .before .before .before .before .before .loop .inv .0) (c .before .before .before .before .before .before .before .before .before .loop-test .taken) (sets-as (c .before .before .before .before .before .before .before .before .before .before .loop .text) (c .before .before .before .before .before .before .before .before .before .before .before .before .before .args .k + c .before .before .before .before .before .before .before .before .before .before .loop .n) (c .before .before .before .before .before .group .ensures) (c .before .before .put-all .ensures)) (c .before .before .put-all .kept .0), omega arith)
 
 sub-if1 : tie.Need-sub-if1 Inv-loop μ-loop
 sub-if1 c = search needs

@@ -1,10 +1,11 @@
-use borrow.Author.Needs.{needs}
+-- Made by tools/answers.py from answers/encode/put_hex.ans: edit that. a1ed6c321d9ca9ff
 use Prim.Native.Nat.{_+_, _-_}
 use native.Mathlib.Omega.{arith}
 use lib.ListN.{length, drop, getD}
 use Rattle.jer.specs.Octets.{hex}
 use Rattle.octets.proofs.EncodeLaws.{hex-one, hex-done, hex-next}
 use Rattle.octets.proofs.PutLaws.{sets-as, Putting, putting-start, putting-done}
+use borrow.Author.Needs.{needs}
 use Rattle.octets.proofs.encode.put_hex.Statement.{statement}
 use Rattle.octets.proofs.encode.put_hex.Tie as tie
 

@@ -1,7 +1,8 @@
-use borrow.Author.Needs.{needs}
+-- Made by tools/answers.py from answers/escape/escaped_len.ans: edit that. 883f560560f8665b
 use mathlib.Core.Path.{sym, ap}
 use lib.ListN.{length}
 use Rattle.octets.proofs.EscapeLaws.{escaped-letter, escaped-plain, escaped-control}
+use borrow.Author.Needs.{needs}
 use Rattle.octets.proofs.escape.escaped_len.Statement.{statement}
 use Rattle.octets.proofs.escape.escaped_len.Tie as tie
 

@@ -1,7 +1,8 @@
-use borrow.Author.Needs.{needs}
+-- Made by tools/answers.py from answers/escape/escapes_len.ans: edit that. e61501430fb3d043
 use Prim.Native.Nat.{_-_}
 use lib.ListN.{length}
 use Rattle.octets.proofs.EscapeLaws.{Counting, counting-start, counting-more, counting-done}
+use borrow.Author.Needs.{needs}
 use Rattle.octets.proofs.escape.escapes_len.Statement.{statement}
 use Rattle.octets.proofs.escape.escapes_len.Tie as tie
 

@@ -1,3 +1,4 @@
+-- Made by tools/answers.py from answers/escape/letter_for.ans: edit that. 5cb0ed708a9363a4
 use Rattle.json.specs.Bytes.{pick}
 use Rattle.octets.specs.Encode.{letterFor}
 use Rattle.octets.proofs.EscapeLaws.{letter-none}
@@ -33,9 +34,18 @@ unfolding letterFor pick
 returns-7 c = rw (c .match .keys7)
 
 returns-8 : tie.Need-returns-8
-returns-8 c = let r = c .match .rest in letter-none (c .before .args .b) (r .0 .0 .0 .0 .0 .0 .1) (r .0 .0 .0 .0 .0 .1) (r .0 .0 .0 .0 .1) (r .0 .0 .0 .1) (r .0 .0 .1) (r .0 .1) (r .1)
+returns-8 c =
+    let r = c .match .rest in letter-none (c .before .args .b) (r .0 .0 .0 .0 .0 .0 .1) (r .0 .0 .0 .0 .0 .1) (r .0 .0 .0 .0 .1) (r .0 .0 .0 .1) (r .0 .0 .1) (r .0 .1) (r .1)
 
 pub letter-for-spec : {M : Type 1} → statement M
 letter-for-spec =
     tie.close
-    (tie.spec returns returns-2 returns-3 returns-4 returns-5 returns-6 returns-7 returns-8)
+    (tie.spec
+    returns
+    returns-2
+    returns-3
+    returns-4
+    returns-5
+    returns-6
+    returns-7
+    returns-8)

@@ -1,8 +1,9 @@
-use borrow.Author.Needs.{needs}
+-- Made by tools/answers.py from answers/escape/put_escaped.ans: edit that. 7b302f6d1fe5ea7c
 use mathlib.Core.Path.{sym, ap, _∙_}
 use lib.ListN.{length}
 use Rattle.octets.proofs.EscapeLaws.{escaped-letter, escaped-plain, escaped-control, control-digits}
 use Rattle.octets.proofs.PutLaws.{sets-as}
+use borrow.Author.Needs.{needs}
 use Rattle.octets.proofs.escape.put_escaped.Statement.{statement}
 use Rattle.octets.proofs.escape.put_escaped.Tie as tie
 

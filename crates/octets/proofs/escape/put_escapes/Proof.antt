@@ -1,10 +1,11 @@
-use borrow.Author.Needs.{needs}
+-- Made by tools/answers.py from answers/escape/put_escapes.ans: edit that. 22fd273a0976c2bf
 use Prim.Native.Nat.{_-_}
 use native.Mathlib.Omega.{arith}
 use lib.ListN.{length, drop}
 use Rattle.jer.specs.Write.{escapes}
 use Rattle.octets.proofs.EscapeLaws.{escapes-done, escapes-room, escapes-next}
 use Rattle.octets.proofs.PutLaws.{Putting, putting-start, putting-done}
+use borrow.Author.Needs.{needs}
 use Rattle.octets.proofs.escape.put_escapes.Statement.{statement}
 use Rattle.octets.proofs.escape.put_escapes.Tie as tie
 
@@ -28,8 +29,8 @@ put-escaped-requires c κs = search needs
 
 add-n : tie.Need-add-n Inv-loop μ-loop
 add-n c =
-    let entry = c .before .before .before .before .before .before .before .before .before in
-    omega (arith, escapes-room (entry .args .octets .now) (c .before .before .before .before .before .before .loop .inv) (c .before .before .before .before .before .loop-test .taken) (c .before .before .put-escaped .ensures .0), entry .pre)
+    let entry = (c .before .before .before .before .before .before .before .before .before) in
+    omega (arith, escapes-room (c .before .before .before .before .before .before .before .before .before .args .octets .now) (c .before .before .before .before .before .before .loop .inv) (c .before .before .before .before .before .loop-test .taken) (c .before .before .put-escaped .ensures .0), c .before .before .before .before .before .before .before .before .before .pre)
 
 add-i : tie.Need-add-i Inv-loop μ-loop
 add-i c = search needs

@@ -1,6 +1,7 @@
-use borrow.Author.Needs.{needs}
+-- Made by tools/answers.py from answers/integer/digit_count.ans: edit that. dde5113c8ef7d366
 use native.Mathlib.Omega.{arith}
 use Rattle.octets.proofs.IntegerLaws.{CountingDigits, counting-start, counting-more, counting-few, counting-done}
+use borrow.Author.Needs.{needs}
 use Rattle.octets.proofs.integer.digit_count.Statement.{statement}
 use Rattle.octets.proofs.integer.digit_count.Tie as tie
 
@@ -27,4 +28,12 @@ returns c = counting-done (c .before .loop .inv) (c .loop-test .left)
 
 pub digit-count-spec : {M : Type 1} → statement M
 digit-count-spec =
-    tie.close (tie.spec Inv-loop μ-loop loop-holds add-count loop-less loop-again returns)
+    tie.close
+    (tie.spec
+    Inv-loop
+    μ-loop
+    loop-holds
+    add-count
+    loop-less
+    loop-again
+    returns)

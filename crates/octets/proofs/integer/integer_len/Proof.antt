@@ -1,9 +1,10 @@
-use borrow.Author.Needs.{needs}
+-- Made by tools/answers.py from answers/integer/integer_len.ans: edit that. faa9f721bc6ebd93
 use mathlib.Core.Path.{sym, ap, _∙_}
 use native.Mathlib.Omega.{arith}
 use lib.ListN.{length}
 use Rattle.jer.specs.Write.{intText}
 use Rattle.octets.proofs.IntegerLaws.{int-plus, int-minus}
+use borrow.Author.Needs.{needs}
 use Rattle.octets.proofs.integer.integer_len.Statement.{statement}
 use Rattle.octets.proofs.integer.integer_len.Tie as tie
 
@@ -29,7 +30,8 @@ add-result : tie.Need-add-result
 add-result c = search needs
 
 returns-2 : tie.Need-returns-2
-returns-2 c = let e = sym (int-minus (c .before .before .joined .result) (c .before .if1 .left) (omega arith)) ∙ ap intText (c .before .before .joined .ensures) in
+returns-2 c =
+    let e = sym (int-minus (c .before .before .joined .result) (c .before .if1 .left) (omega arith)) ∙ ap intText (c .before .before .joined .ensures) in
     omega (arith, ap length e, c .digit-count2 .ensures .0)
 
 pub integer-len-spec : {M : Type 1} → statement M

@@ -1,7 +1,8 @@
-use borrow.Author.Needs.{needs}
+-- Made by tools/answers.py from answers/integer/put_digits.ans: edit that. 749fa37f94aebd5a
 use mathlib.Core.Path.{_∙_}
 use native.Mathlib.Omega.{arith}
 use Rattle.octets.proofs.IntegerLaws.{PuttingDigits, putting-start, putting-few, putting-inside, putting-next, putting-done}
+use borrow.Author.Needs.{needs}
 use Rattle.octets.proofs.integer.put_digits.Statement.{statement}
 use Rattle.octets.proofs.integer.put_digits.Tie as tie
 

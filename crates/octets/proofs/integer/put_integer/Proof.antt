@@ -1,4 +1,4 @@
-use borrow.Author.Needs.{needs}
+-- Made by tools/answers.py from answers/integer/put_integer.ans: edit that. c19a180a19dde16a
 use Prim.Native.Nat.{ℕ, _+_, _-_}
 use mathlib.Core.Path.{sym, ap, _∙_}
 use mathlib.Core.List.{List, [], _∷_}
@@ -8,6 +8,7 @@ use lib.Seq.{sets}
 use Rattle.jer.specs.Write.{digits, intText}
 use Rattle.octets.proofs.IntegerLaws.{int-plus, int-minus}
 use Rattle.octets.proofs.PutLaws.{sets-next}
+use borrow.Author.Needs.{needs}
 use Rattle.octets.proofs.integer.put_integer.Statement.{statement}
 use Rattle.octets.proofs.integer.put_integer.Tie as tie
 
@@ -21,9 +22,10 @@ same-length : tie.Need-same-length
 same-length c = search needs
 
 returns : tie.Need-returns
-returns c = let a = c .before .before .before .before .before .before .before .args in
-    let e = sym (int-plus (c .before .before .before .before .before .joined .result) (c .before .before .before .before .if1 .taken)) ∙ ap intText (c .before .before .before .before .before .joined .ensures) in
+returns c =
+    let a = c .before .before .before .before .before .before .before .args in
     let r = c .before .before .put-digits .ensures in
+    let e = sym (int-plus (c .before .before .before .before .before .joined .result) (c .before .before .before .before .if1 .taken)) ∙ ap intText (c .before .before .before .before .before .joined .ensures) in
     (r .0 ∙ ap length e, r .1 .1 ∙ ap (λ (l : List ℕ). sets (a .text .now) (a .k) l) e)
 
 put-requires : tie.Need-put-requires
@@ -48,9 +50,10 @@ same-length-2 : tie.Need-same-length-2
 same-length-2 c = search needs
 
 returns-2 : tie.Need-returns-2
-returns-2 c = let a = c .before .before .before .before .before .before .before .before .before .before .before .args in
-    let e = sym (int-minus (c .before .before .before .before .before .before .before .before .before .joined .result) (c .before .before .before .before .before .before .before .before .if1 .left) (omega arith)) ∙ ap intText (c .before .before .before .before .before .before .before .before .before .joined .ensures) in
+returns-2 c =
+    let a = c .before .before .before .before .before .before .before .before .before .before .before .args in
     let r = c .before .before .put-digits2 .ensures in
+    let e = sym (int-minus (c .before .before .before .before .before .before .before .before .before .joined .result) (c .before .before .before .before .before .before .before .before .if1 .left) (omega arith)) ∙ ap intText (c .before .before .before .before .before .before .before .before .before .joined .ensures) in
     (omega (arith, ap length e, r .0), sets-next (a .text .now) (a .k) (0x2D ∷ []) (digits 20 (18446744073709551615 - c .before .before .before .before .before .before .before .before .before .joined .result + 1) []) (c .before .before .before .before .before .before .put .ensures) (r .1 .1) ∙ ap (λ (l : List ℕ). sets (a .text .now) (a .k) l) e)
 
 pub put-integer-spec : {M : Type 1} → statement M

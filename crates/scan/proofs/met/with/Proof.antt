@@ -1,3 +1,4 @@
+-- Made by tools/answers.py from answers/met/with.ans: edit that. 1aba5fc44fc2b0f0
 use mathlib.Core.Path.{_≡_, ap}
 use Prim.Native.Nat.{ℕ, _*_, _^_, _%_, _<_}
 use native.Mathlib.Nat.{one-mul, mod-eq-of-lt}

@@ -1,3 +1,4 @@
+-- Made by tools/answers.py from answers/names/has_name.ans: edit that. f331fb4ee2ce5dc2
 use mathlib.Core.Path.{refl, sym}
 use Rattle.jer.specs.Table.{nameLength, table}
 use Rattle.tokens.specs.Strings.{denoted}

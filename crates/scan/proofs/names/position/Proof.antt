@@ -1,3 +1,4 @@
+-- Made by tools/answers.py from answers/names/position.ans: edit that. 852bccedbb72332d
 use mathlib.Core.Path.{_≡_, ap}
 use mathlib.Core.List.{List}
 use mathlib.Core.Bool.{Bool}

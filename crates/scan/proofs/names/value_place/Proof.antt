@@ -1,3 +1,4 @@
+-- Made by tools/answers.py from answers/names/value_place.ans: edit that. 2a20776408236238
 use mathlib.Core.Path.{ap, _∙_}
 use native.Mathlib.Omega.{arith}
 use Rattle.tokens.specs.Places.{pastSpace}

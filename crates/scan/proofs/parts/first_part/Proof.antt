@@ -1,3 +1,4 @@
+-- Made by tools/answers.py from answers/parts/first_part.ans: edit that. ac7dda464fa809c9
 use native.Mathlib.Omega.{arith}
 use Rattle.scan.proofs.WithinLaws.{space-within}
 use Rattle.scan.proofs.PartLaws.{first-shut, first-part}
@@ -18,10 +19,12 @@ advance-requires-2 : tie.Need-advance-requires-2
 advance-requires-2 c κs = omega (arith, c .before .before .skip-space .ensures, space-within (c .before .before .before .before .before .args .s .now) 4294967296 (c .before .before .before .advance .result .at) (omega arith) (omega (arith, c .before .before .before .advance .ensures)))
 
 returns : tie.Need-returns
-returns c = let a = c .before .before .before .before .before .before .args in first-shut (a .s .now) (a .close) (a .p) (c .before .before .before .before .advance .ensures) (c .before .before .before .skip-space .ensures) (c .before .before .byte-at .ensures .0) (c .before .if1 .taken) (c .advance2 .ensures)
+returns c =
+    let a = c .before .before .before .before .before .before .args in first-shut (a .s .now) (a .close) (a .p) (c .before .before .before .before .advance .ensures) (c .before .before .before .skip-space .ensures) (c .before .before .byte-at .ensures .0) (c .before .if1 .taken) (c .advance2 .ensures)
 
 returns-2 : tie.Need-returns-2
-returns-2 c = let a = c .before .before .before .before .before .args in first-part (a .s .now) (a .close) (a .p) (c .before .before .before .advance .ensures) (c .before .before .skip-space .ensures) (c .before .byte-at .ensures .0) (c .if1 .left)
+returns-2 c =
+    let a = c .before .before .before .before .before .args in first-part (a .s .now) (a .close) (a .p) (c .before .before .before .advance .ensures) (c .before .before .skip-space .ensures) (c .before .byte-at .ensures .0) (c .if1 .left)
 
 pub first-part-spec : {M : Type 1} → statement M
 first-part-spec =

@@ -1,3 +1,4 @@
+-- Made by tools/answers.py from answers/parts/null_at.ans: edit that. b4c412a7eaae75ba
 use mathlib.Core.Path.{ap}
 use Prim.Native.Nat.{ℕ}
 use lib.Dec.{eqb}

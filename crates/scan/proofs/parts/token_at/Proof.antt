@@ -1,3 +1,4 @@
+-- Made by tools/answers.py from answers/parts/token_at.ans: edit that. 255fb8baa4b2e191
 use mathlib.Core.Path.{sym, _∙_}
 use Rattle.json.specs.Bytes.{pick}
 use Rattle.jer.specs.Table.{tokenCode}
@@ -40,4 +41,12 @@ returns-7 c = token-number (c .before .before .before .args .s .now) (c .before 
 pub token-at-spec : {M : Type 1} → statement M
 token-at-spec =
     tie.close
-    (tie.spec byte-at-requires returns returns-2 returns-3 returns-4 returns-5 returns-6 returns-7)
+    (tie.spec
+    byte-at-requires
+    returns
+    returns-2
+    returns-3
+    returns-4
+    returns-5
+    returns-6
+    returns-7)

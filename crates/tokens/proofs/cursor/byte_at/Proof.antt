@@ -1,7 +1,8 @@
-use borrow.Author.Needs.{needs}
+-- Made by tools/answers.py from answers/cursor/byte_at.ans: edit that. 7be3c614bbf010f4
 use mathlib.Core.Path.{sym}
 use native.Mathlib.Omega.{arith}
 use Rattle.tokens.proofs.PlaceLaws.{byte-inside, byte-past}
+use borrow.Author.Needs.{needs}
 use Rattle.tokens.proofs.cursor.byte_at.Statement.{statement}
 use Rattle.tokens.proofs.cursor.byte_at.Tie as tie
 

@@ -1,5 +1,6 @@
-use borrow.Author.Needs.{needs}
+-- Made by tools/answers.py from answers/cursor/is_between.ans: edit that. f06bc0ce97452c6b
 use borrow.Author.Tests.{eq-eqb, ne-eqb}
+use borrow.Author.Needs.{needs}
 use Rattle.tokens.proofs.cursor.is_between.Statement.{statement}
 use Rattle.tokens.proofs.cursor.is_between.Tie as tie
 

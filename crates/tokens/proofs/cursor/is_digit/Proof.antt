@@ -1,3 +1,4 @@
+-- Made by tools/answers.py from answers/cursor/is_digit.ans: edit that. 72bdc6118ede99c6
 use borrow.Author.Tests.{le-leb, lt-leb}
 use Rattle.tokens.proofs.cursor.is_digit.Statement.{statement}
 use Rattle.tokens.proofs.cursor.is_digit.Tie as tie

@@ -1,5 +1,6 @@
-use borrow.Author.Needs.{needs}
+-- Made by tools/answers.py from answers/cursor/is_end.ans: edit that. eb7e15bae0db8c4f
 use borrow.Author.Tests.{eq-eqb, ne-eqb}
+use borrow.Author.Needs.{needs}
 use Rattle.tokens.proofs.cursor.is_end.Statement.{statement}
 use Rattle.tokens.proofs.cursor.is_end.Tie as tie
 

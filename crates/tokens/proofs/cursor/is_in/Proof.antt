@@ -1,6 +1,7 @@
-use borrow.Author.Needs.{needs}
+-- Made by tools/answers.py from answers/cursor/is_in.ans: edit that. ac8d8f826bdf3c77
 use mathlib.Core.Path.{ap}
 use mathlib.Core.Bool.{not}
+use borrow.Author.Needs.{needs}
 use Rattle.tokens.proofs.cursor.is_in.Statement.{statement}
 use Rattle.tokens.proofs.cursor.is_in.Tie as tie
 

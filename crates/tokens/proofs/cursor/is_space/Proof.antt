@@ -1,3 +1,4 @@
+-- Made by tools/answers.py from answers/cursor/is_space.ans: edit that. df6f98a00992a985
 use borrow.Author.Tests.{eq-eqb, ne-eqb}
 use Rattle.tokens.proofs.cursor.is_space.Statement.{statement}
 use Rattle.tokens.proofs.cursor.is_space.Tie as tie

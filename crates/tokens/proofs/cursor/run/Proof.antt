@@ -1,4 +1,4 @@
-use borrow.Author.Needs.{needs}
+-- Made by tools/answers.py from answers/cursor/run.ans: edit that. 810bb31d43796ab8
 use Prim.Native.Nat.{_-_}
 use mathlib.Core.Path.{_≡_, sym, _∙_}
 use lib.ListN.{length}
@@ -6,6 +6,7 @@ use borrow.Author.Tests.{not-true, not-false}
 use Rattle.tokens.specs.Places.{runFrom}
 use Rattle.tokens.specs.Enums.{passes}
 use Rattle.tokens.proofs.PlaceLaws.{run-more, run-stop, run-end}
+use borrow.Author.Needs.{needs}
 use Rattle.tokens.proofs.cursor.run.Statement.{statement}
 use Rattle.tokens.proofs.cursor.run.Tie as tie
 

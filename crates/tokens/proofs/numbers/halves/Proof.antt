@@ -1,5 +1,6 @@
-use borrow.Author.Needs.{needs}
+-- Made by tools/answers.py from answers/numbers/halves.ans: edit that. 0a8ec029c0fcb451
 use Rattle.tokens.proofs.NumberLaws.{halves-zero, halves-minus, halves-over, halves-plus}
+use borrow.Author.Needs.{needs}
 use Rattle.tokens.proofs.numbers.halves.Statement.{statement}
 use Rattle.tokens.proofs.numbers.halves.Tie as tie
 
@@ -44,4 +45,14 @@ returns-4 c =
 pub halves-spec : {M : Type 1} → statement M
 halves-spec =
     tie.close
-    (tie.spec returns sub-n add-n cast-t7 cast-t9 returns-2 returns-3 cast-t11 cast-t13 returns-4)
+    (tie.spec
+    returns
+    sub-n
+    add-n
+    cast-t7
+    cast-t9
+    returns-2
+    returns-3
+    cast-t11
+    cast-t13
+    returns-4)

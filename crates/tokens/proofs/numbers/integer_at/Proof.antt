@@ -1,9 +1,10 @@
-use borrow.Author.Needs.{needs}
+-- Made by tools/answers.py from answers/numbers/integer_at.ans: edit that. 0748ef6faa9c8351
 use mathlib.Core.Path.{ap, _∙_}
 use native.Mathlib.Omega.{arith}
 use Rattle.tokens.specs.Enums.{integerOf}
 use Rattle.tokens.proofs.PlaceLaws.{inside}
 use Rattle.tokens.proofs.NumberLaws.{integer-minus, integer-plain}
+use borrow.Author.Needs.{needs}
 use Rattle.tokens.proofs.numbers.integer_at.Statement.{statement}
 use Rattle.tokens.proofs.numbers.integer_at.Tie as tie
 
@@ -40,4 +41,10 @@ returns-2 c =
 pub integer-at-spec : {M : Type 1} → statement M
 integer-at-spec =
     tie.close
-    (tie.spec byte-at-requires add-whole whole-requires returns whole-requires-2 returns-2)
+    (tie.spec
+    byte-at-requires
+    add-whole
+    whole-requires
+    returns
+    whole-requires-2
+    returns-2)

@@ -1,9 +1,10 @@
-use borrow.Author.Needs.{needs}
+-- Made by tools/answers.py from answers/numbers/magnitude_at.ans: edit that. 31f4aee2511964ee
 use Prim.Native.Nat.{_-_, _^_, _≤_}
 use mathlib.Core.Path.{_≡_, refl, sym, _∙_}
 use native.Mathlib.Omega.{arith}
 use Rattle.tokens.specs.Numbers.{digitsAt}
 use Rattle.tokens.proofs.NumberLaws.{digits-end, digits-one, digits-over, digits-fit}
+use borrow.Author.Needs.{needs}
 use Rattle.tokens.proofs.numbers.magnitude_at.Statement.{statement}
 use Rattle.tokens.proofs.numbers.magnitude_at.Tie as tie
 

@@ -1,8 +1,9 @@
-use borrow.Author.Needs.{needs}
+-- Made by tools/answers.py from answers/numbers/whole.ans: edit that. 77525900bad8d980
 use mathlib.Core.Path.{sym, _∙_}
 use Prim.Native.Nat.{_-_}
 use Rattle.tokens.specs.Numbers.{digitsAt}
 use Rattle.tokens.proofs.NumberLaws.{within-fits, whole-point, whole-large, whole-small, whole-over, whole-fits}
+use borrow.Author.Needs.{needs}
 use Rattle.tokens.proofs.numbers.whole.Statement.{statement}
 use Rattle.tokens.proofs.numbers.whole.Tie as tie
 

@@ -1,10 +1,11 @@
-use borrow.Author.Needs.{needs}
+-- Made by tools/answers.py from answers/skip/+skip_bracket+skip_value.ans: edit that. 8bc06b073ae4a518
 use Prim.Native.Nat.{ℕ, _<_, _+_, _-_}
 use mathlib.Core.Path.{_∙_}
 use native.Mathlib.Omega.{arith}
 use lib.ListN.{length}
 use Rattle.tokens.proofs.PlaceLaws.{inside}
 use Rattle.tokens.proofs.SkipLaws.{between-is, word-is, value-string, value-bracket, value-word, bracket-deep, Passing, passing-start, passing-end, passing-close, passing-next, passing-ahead, either, other, neither}
+use borrow.Author.Needs.{needs}
 use borrow.Fn.Kinds.{In}
 use borrow.Fn.PlainCycle.{Measures, is, falls, and}
 use Rattle.tokens.proofs.skip.skip_bracket.Reads as skip-bracket
@@ -26,24 +27,16 @@ abbrev μ-skip-value : Measures 1 skip-value-kinds.ps ℕ
 μ-skip-value κs a = a .1 .1 .0 + a .1 .1 .0 + 1
 
 abbrev skip-bracket-at : ℕ → In 1 skip-bracket-kinds.ps
-skip-bracket-at t =
-    and 1 skip-bracket-kinds.ps (is 1 skip-bracket-kinds.ps μ-skip-bracket t) skip-bracket.Pre
+skip-bracket-at t = and 1 skip-bracket-kinds.ps (is 1 skip-bracket-kinds.ps μ-skip-bracket t) skip-bracket.Pre
 
 abbrev skip-bracket-below : ℕ → In 1 skip-bracket-kinds.ps
-skip-bracket-below t =
-    and
-    1
-    skip-bracket-kinds.ps
-    (falls 1 skip-bracket-kinds.ps _<_ μ-skip-bracket t)
-    skip-bracket.Pre
+skip-bracket-below t = and 1 skip-bracket-kinds.ps (falls 1 skip-bracket-kinds.ps _<_ μ-skip-bracket t) skip-bracket.Pre
 
 abbrev skip-value-at : ℕ → In 1 skip-value-kinds.ps
-skip-value-at t =
-    and 1 skip-value-kinds.ps (is 1 skip-value-kinds.ps μ-skip-value t) skip-value.Pre
+skip-value-at t = and 1 skip-value-kinds.ps (is 1 skip-value-kinds.ps μ-skip-value t) skip-value.Pre
 
 abbrev skip-value-below : ℕ → In 1 skip-value-kinds.ps
-skip-value-below t =
-    and 1 skip-value-kinds.ps (falls 1 skip-value-kinds.ps _<_ μ-skip-value t) skip-value.Pre
+skip-value-below t = and 1 skip-value-kinds.ps (falls 1 skip-value-kinds.ps _<_ μ-skip-value t) skip-value.Pre
 
 abbrev skip-bracket-calls : ℕ → skip-bracket-lts.Claims
 skip-bracket-calls t = (run-reads.Asked, run-reads.Learnt, byte-at-reads.Asked, byte-at-reads.Learnt, skip-value-below t, skip-value.Post)
@@ -92,8 +85,8 @@ skip-bracket-returns-3 t c =
     let s = c .before .before .before .before .before .before .before .args .s .now in
     let inv = c .before .before .before .before .loop .inv in
     let between = c .before .before .before .run .ensures ∙ between-is s (c .before .before .before .before .loop .i) in
-    let b = c .before .before .byte-at .result in
     let byte = c .before .before .byte-at .ensures .0 in
+    let b = c .before .before .byte-at .result in
     passing-close inv between byte (c .before .if2 .left) (either b 0x5D 0x7D (c .if3 .taken))
 
 skip-bracket-add-result-2 : (t : ℕ) → skip-bracket-lts.Need-add-result-2 (skip-bracket-calls t) (skip-bracket-at t) skip-bracket.Post skip-bracket-Inv-loop skip-bracket-μ-loop
@@ -107,8 +100,8 @@ skip-bracket-returns-4 t c =
     let s = c .before .before .before .before .before .before .before .before .args .s .now in
     let inv = c .before .before .before .before .before .loop .inv in
     let between = c .before .before .before .before .run .ensures ∙ between-is s (c .before .before .before .before .before .loop .i) in
-    let b = c .before .before .before .byte-at .result in
     let byte = c .before .before .before .byte-at .ensures .0 in
+    let b = c .before .before .before .byte-at .result in
     passing-close inv between byte (c .before .before .if2 .left) (other b 0x5D 0x7D (c .before .if3 .left) (c .if4 .taken))
 
 skip-bracket-sub-skip-value : (t : ℕ) → skip-bracket-lts.Need-sub-skip-value (skip-bracket-calls t) (skip-bracket-at t) skip-bracket.Post skip-bracket-Inv-loop skip-bracket-μ-loop
@@ -122,8 +115,8 @@ skip-bracket-loop-less t c =
     let s = c .before .before .before .before .before .before .before .before .before .args .s .now in
     let inv = c .before .before .before .before .before .before .loop .inv in
     let between = c .before .before .before .before .before .run .ensures ∙ between-is s (c .before .before .before .before .before .before .loop .i) in
-    let b = c .before .before .before .before .byte-at .result in
     let byte = c .before .before .before .before .byte-at .ensures .0 in
+    let b = c .before .before .before .before .byte-at .result in
     let more = neither b 0x5D 0x7D (c .before .before .if3 .left) (c .before .if4 .left) in
     passing-ahead inv between byte (c .before .before .before .if2 .left) more (c .skip-value .ensures)
 
@@ -132,8 +125,8 @@ skip-bracket-loop-again t c =
     let s = c .before .before .before .before .before .before .before .before .before .args .s .now in
     let inv = c .before .before .before .before .before .before .loop .inv in
     let between = c .before .before .before .before .before .run .ensures ∙ between-is s (c .before .before .before .before .before .before .loop .i) in
-    let b = c .before .before .before .before .byte-at .result in
     let byte = c .before .before .before .before .byte-at .ensures .0 in
+    let b = c .before .before .before .before .byte-at .result in
     let more = neither b 0x5D 0x7D (c .before .before .if3 .left) (c .before .if4 .left) in
     passing-next inv between byte (c .before .before .before .if2 .left) more (c .skip-value .ensures)
 
@@ -142,8 +135,8 @@ skip-value-byte-at-requires t c κs = search needs
 
 skip-value-add-string-end : (t : ℕ) → skip-value-lts.Need-add-string-end (skip-value-calls t) (skip-value-at t) skip-value.Post
 skip-value-add-string-end t c =
-    let a = c .before .before .before .args in
     let byte = c .before .byte-at .ensures .0 in
+    let a = c .before .before .before .args in
     omega (arith, (inside (a .s .now) (a .p) (λ e. omega (arith, byte))))
 
 skip-value-string-end-requires : (t : ℕ) → skip-value-lts.Need-string-end-requires (skip-value-calls t) (skip-value-at t) skip-value.Post
@@ -151,15 +144,15 @@ skip-value-string-end-requires t c κs = search needs
 
 skip-value-returns : (t : ℕ) → skip-value-lts.Need-returns (skip-value-calls t) (skip-value-at t) skip-value.Post
 skip-value-returns t c =
-    let a = c .before .before .before .before .args in
-    let b = c .before .before .byte-at .result in
     let byte = c .before .before .byte-at .ensures .0 in
+    let b = c .before .before .byte-at .result in
+    let a = c .before .before .before .before .args in
     c .string-end .ensures ∙ value-string (a .depth) (a .s .now) (a .p) b byte (c .before .if1 .taken)
 
 skip-value-add-skip-bracket : (t : ℕ) → skip-value-lts.Need-add-skip-bracket (skip-value-calls t) (skip-value-at t) skip-value.Post
 skip-value-add-skip-bracket t c =
-    let a = c .before .before .before .before .args in
     let byte = c .before .before .byte-at .ensures .0 in
+    let a = c .before .before .before .before .args in
     omega (arith, (inside (a .s .now) (a .p) (λ e. omega (arith, byte))))
 
 skip-value-skip-bracket-requires : (t : ℕ) → skip-value-lts.Need-skip-bracket-requires (skip-value-calls t) (skip-value-at t) skip-value.Post
@@ -167,15 +160,15 @@ skip-value-skip-bracket-requires t c κs = (omega arith, c .before .before .befo
 
 skip-value-returns-2 : (t : ℕ) → skip-value-lts.Need-returns-2 (skip-value-calls t) (skip-value-at t) skip-value.Post
 skip-value-returns-2 t c =
-    let a = c .before .before .before .before .before .args in
-    let b = c .before .before .before .byte-at .result in
     let byte = c .before .before .before .byte-at .ensures .0 in
+    let b = c .before .before .before .byte-at .result in
+    let a = c .before .before .before .before .before .args in
     c .skip-bracket .ensures ∙ value-bracket (a .depth) (a .s .now) (a .p) b byte (c .before .before .if1 .left) (either b 0x5B 0x7B (c .before .if2 .taken))
 
 skip-value-add-skip-bracket-2 : (t : ℕ) → skip-value-lts.Need-add-skip-bracket-2 (skip-value-calls t) (skip-value-at t) skip-value.Post
 skip-value-add-skip-bracket-2 t c =
-    let a = c .before .before .before .before .before .args in
     let byte = c .before .before .before .byte-at .ensures .0 in
+    let a = c .before .before .before .before .before .args in
     omega (arith, (inside (a .s .now) (a .p) (λ e. omega (arith, byte))))
 
 skip-value-skip-bracket-requires-2 : (t : ℕ) → skip-value-lts.Need-skip-bracket-requires-2 (skip-value-calls t) (skip-value-at t) skip-value.Post
@@ -183,9 +176,9 @@ skip-value-skip-bracket-requires-2 t c κs = (omega arith, c .before .before .be
 
 skip-value-returns-3 : (t : ℕ) → skip-value-lts.Need-returns-3 (skip-value-calls t) (skip-value-at t) skip-value.Post
 skip-value-returns-3 t c =
-    let a = c .before .before .before .before .before .before .args in
-    let b = c .before .before .before .before .byte-at .result in
     let byte = c .before .before .before .before .byte-at .ensures .0 in
+    let b = c .before .before .before .before .byte-at .result in
+    let a = c .before .before .before .before .before .before .args in
     c .skip-bracket2 .ensures ∙ value-bracket (a .depth) (a .s .now) (a .p) b byte (c .before .before .before .if1 .left) (other b 0x5B 0x7B (c .before .before .if2 .left) (c .before .if3 .taken))
 
 skip-value-run-requires : (t : ℕ) → skip-value-lts.Need-run-requires (skip-value-calls t) (skip-value-at t) skip-value.Post
@@ -193,14 +186,15 @@ skip-value-run-requires t c κs = search needs
 
 skip-value-returns-4 : (t : ℕ) → skip-value-lts.Need-returns-4 (skip-value-calls t) (skip-value-at t) skip-value.Post
 skip-value-returns-4 t c =
-    let a = c .before .before .before .before .before .before .args in
-    let b = c .before .before .before .before .byte-at .result in
     let byte = c .before .before .before .before .byte-at .ensures .0 in
+    let b = c .before .before .before .before .byte-at .result in
+    let a = c .before .before .before .before .before .before .args in
     c .run .ensures ∙ word-is (a .s .now) (a .p) ∙ value-word (a .depth) (a .s .now) (a .p) b byte (c .before .before .before .if1 .left) (neither b 0x5B 0x7B (c .before .before .if2 .left) (c .before .if3 .left))
 
 pub +skip-bracket+skip-value-spec : {M : Type 1} → statement M
-+skip-bracket+skip-value-spec = close μ-skip-bracket μ-skip-value (λ t. skip-bracket-lts.spec (skip-bracket-calls t) (skip-bracket-at t)
-    skip-bracket.Post
++skip-bracket+skip-value-spec =
+    close μ-skip-bracket μ-skip-value
+    (λ t. skip-bracket-lts.spec (skip-bracket-calls t) (skip-bracket-at t) skip-bracket.Post
     skip-bracket-Inv-loop
     skip-bracket-μ-loop
     (skip-bracket-returns t)
@@ -216,8 +210,7 @@ pub +skip-bracket+skip-value-spec : {M : Type 1} → statement M
     (skip-bracket-skip-value-requires t)
     (skip-bracket-loop-less t)
     (skip-bracket-loop-again t))
-    λ t. skip-value-lts.spec (skip-value-calls t) (skip-value-at t)
-    skip-value.Post
+    λ t. skip-value-lts.spec (skip-value-calls t) (skip-value-at t) skip-value.Post
     (skip-value-byte-at-requires t)
     (skip-value-add-string-end t)
     (skip-value-string-end-requires t)

@@ -1,8 +1,9 @@
-use borrow.Author.Needs.{needs}
+-- Made by tools/answers.py from answers/slices/part.ans: edit that. 62112c70cea75d58
 use native.Mathlib.Omega.{arith}
 use mathlib.Core.Path.{sym}
 use lib.Seq.{length-take-le}
 use Rattle.tokens.proofs.SliceLaws.{part-past, part-all, part-cut}
+use borrow.Author.Needs.{needs}
 use Rattle.tokens.proofs.slices.part.Statement.{statement}
 use Rattle.tokens.proofs.slices.part.Tie as tie
 

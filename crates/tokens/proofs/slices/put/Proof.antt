@@ -1,6 +1,7 @@
-use borrow.Author.Needs.{needs}
+-- Made by tools/answers.py from answers/slices/put.ans: edit that. 1b8c8e77987f24d4
 use mathlib.Core.Path.{sym}
 use lib.Seq.{set-out}
+use borrow.Author.Needs.{needs}
 use Rattle.tokens.proofs.slices.put.Statement.{statement}
 use Rattle.tokens.proofs.slices.put.Tie as tie
 

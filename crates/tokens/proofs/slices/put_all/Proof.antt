@@ -1,4 +1,4 @@
-use borrow.Author.Needs.{needs}
+-- Made by tools/answers.py from answers/slices/put_all.ans: edit that. a6132e65d6ba0ced
 use Prim.Native.Nat.{ℕ, _+_, _-_}
 use mathlib.Core.Path.{_≡_, refl, sym, ap, _∙_}
 use mathlib.Core.List.{List}
@@ -6,6 +6,7 @@ use native.Mathlib.Nat.{add-zero}
 use lib.ListN.{length, drop}
 use lib.Seq.{sets}
 use Rattle.tokens.proofs.SliceLaws.{sets-one, sets-done}
+use borrow.Author.Needs.{needs}
 use Rattle.tokens.proofs.slices.put_all.Statement.{statement}
 use Rattle.tokens.proofs.slices.put_all.Tie as tie
 

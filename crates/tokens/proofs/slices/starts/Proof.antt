@@ -1,4 +1,4 @@
-use borrow.Author.Needs.{needs}
+-- Made by tools/answers.py from answers/slices/starts.ans: edit that. 04349e746af32e96
 use Prim.Native.Nat.{ℕ, _+_, _-_, _≤_}
 use mathlib.Core.Path.{_≡_, sym, ap, _∙_}
 use native.Mathlib.Nat.{add-zero}
@@ -6,6 +6,7 @@ use native.Mathlib.Omega.{arith}
 use lib.ListN.{length, drop, length-drop}
 use Rattle.tokens.specs.Strings.{begins}
 use Rattle.tokens.proofs.SliceLaws.{begins-length, begins-done, begins-more, begins-differ}
+use borrow.Author.Needs.{needs}
 use Rattle.tokens.proofs.slices.starts.Statement.{statement}
 use Rattle.tokens.proofs.slices.starts.Tie as tie
 

@@ -1,9 +1,10 @@
-use borrow.Author.Needs.{needs}
+-- Made by tools/answers.py from answers/strings/copy_rest.ans: edit that. 2f3f02f405498740
 use Prim.Native.Nat.{_-_}
 use mathlib.Core.Path.{sym, _∙_}
 use native.Mathlib.Omega.{arith}
 use lib.ListN.{length}
 use Rattle.tokens.proofs.StringLaws.{piece-past, piece-quote, piece-escape, piece-bare, escaped-inside, encodes-length, counting-close, Copying, copying-start, copying-close, copying-bare, copying-escaped}
+use borrow.Author.Needs.{needs}
 use Rattle.tokens.proofs.strings.copy_rest.Statement.{statement}
 use Rattle.tokens.proofs.strings.copy_rest.Tie as tie
 

@@ -1,6 +1,7 @@
-use borrow.Author.Needs.{needs}
+-- Made by tools/answers.py from answers/strings/digit.ans: edit that. 5d4d92ad410c61ff
 use native.Mathlib.Omega.{arith}
 use Rattle.tokens.proofs.StringLaws.{digit-low, digit-decimal, digit-between, digit-upper, digit-middle, digit-lower, digit-high}
+use borrow.Author.Needs.{needs}
 use Rattle.tokens.proofs.strings.digit.Statement.{statement}
 use Rattle.tokens.proofs.strings.digit.Tie as tie
 

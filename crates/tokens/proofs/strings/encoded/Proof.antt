@@ -1,5 +1,6 @@
-use borrow.Author.Needs.{needs}
+-- Made by tools/answers.py from answers/strings/encoded.ans: edit that. 467d6dd7e76d0b71
 use Rattle.tokens.proofs.StringLaws.{encode-one, encode-two, encode-three, encode-four}
+use borrow.Author.Needs.{needs}
 use Rattle.tokens.proofs.strings.encoded.Statement.{statement}
 use Rattle.tokens.proofs.strings.encoded.Tie as tie
 

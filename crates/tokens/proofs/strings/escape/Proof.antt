@@ -1,6 +1,7 @@
-use borrow.Author.Needs.{needs}
+-- Made by tools/answers.py from answers/strings/escape.ans: edit that. acdd3e82cc0fd87f
 use native.Mathlib.Omega.{arith}
 use Rattle.tokens.proofs.StringLaws.{escape-letter, escape-low, escape-high, escape-pair}
+use borrow.Author.Needs.{needs}
 use Rattle.tokens.proofs.strings.escape.Statement.{statement}
 use Rattle.tokens.proofs.strings.escape.Tie as tie
 

@@ -1,9 +1,10 @@
-use borrow.Author.Needs.{needs}
+-- Made by tools/answers.py from answers/strings/first_differs.ans: edit that. a79fb4159ebb55d9
 use Prim.Native.Nat.{ℕ}
 use mathlib.Core.Path.{_≡_, _∙_}
 use native.Mathlib.Omega.{arith}
 use borrow.Author.Tests.{eqb-false, not-true}
 use Rattle.tokens.proofs.StringLaws.{denoted-other}
+use borrow.Author.Needs.{needs}
 use Rattle.tokens.proofs.strings.first_differs.Statement.{statement}
 use Rattle.tokens.proofs.strings.first_differs.Tie as tie
 

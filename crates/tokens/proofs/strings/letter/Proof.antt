@@ -1,3 +1,4 @@
+-- Made by tools/answers.py from answers/strings/letter.ans: edit that. 3a4d229374739d04
 use native.Mathlib.Omega.{arith}
 use Rattle.tokens.proofs.StringLaws.{letter-backspace, letter-form, letter-line, letter-return, letter-tab, letter-own}
 use Rattle.tokens.proofs.strings.letter.Statement.{statement}

@@ -1,6 +1,7 @@
-use borrow.Author.Needs.{needs}
+-- Made by tools/answers.py from answers/strings/pair.ans: edit that. f4c56f11a6c7a231
 use native.Mathlib.Omega.{arith}
 use Rattle.tokens.proofs.StringLaws.{pair-plain, pair-sum}
+use borrow.Author.Needs.{needs}
 use Rattle.tokens.proofs.strings.pair.Statement.{statement}
 use Rattle.tokens.proofs.strings.pair.Tie as tie
 

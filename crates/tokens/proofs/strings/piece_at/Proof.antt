@@ -1,6 +1,7 @@
-use borrow.Author.Needs.{needs}
+-- Made by tools/answers.py from answers/strings/piece_at.ans: edit that. 4f27b8f0dc72be59
 use mathlib.Core.Path.{_∙_}
 use Rattle.tokens.proofs.StringLaws.{piece-past, piece-quote, piece-escape, piece-bare}
+use borrow.Author.Needs.{needs}
 use Rattle.tokens.proofs.strings.piece_at.Statement.{statement}
 use Rattle.tokens.proofs.strings.piece_at.Tie as tie
 
@@ -40,4 +41,11 @@ returns-4 c =
 pub piece-at-spec : {M : Type 1} → statement M
 piece-at-spec =
     tie.close
-    (tie.spec returns shared-slice-read-b returns-2 add-escape escape-requires returns-3 returns-4)
+    (tie.spec
+    returns
+    shared-slice-read-b
+    returns-2
+    add-escape
+    escape-requires
+    returns-3
+    returns-4)

@@ -1,6 +1,7 @@
-use borrow.Author.Needs.{needs}
+-- Made by tools/answers.py from answers/strings/plain_first.ans: edit that. 69de942ac69e2056
 use native.Mathlib.Omega.{arith}
 use Rattle.tokens.proofs.StringLaws.{piece-plain}
+use borrow.Author.Needs.{needs}
 use Rattle.tokens.proofs.strings.plain_first.Statement.{statement}
 use Rattle.tokens.proofs.strings.plain_first.Tie as tie
 

@@ -1,9 +1,10 @@
-use borrow.Author.Needs.{needs}
+-- Made by tools/answers.py from answers/strings/same.ans: edit that. 132d0a1ab2379933
 use mathlib.Core.Path.{ap, _∙_}
 use mathlib.Core.List.{List}
 use Prim.Native.Nat.{ℕ}
 use Rattle.jer.specs.Table.{sameBytes}
 use Rattle.tokens.specs.Strings.{denoted}
+use borrow.Author.Needs.{needs}
 use Rattle.tokens.proofs.strings.same.Statement.{statement}
 use Rattle.tokens.proofs.strings.same.Tie as tie
 

@@ -1,10 +1,11 @@
-use borrow.Author.Needs.{needs}
+-- Made by tools/answers.py from answers/strings/same_as.ans: edit that. 59062a52e25977f6
 use Prim.Native.Nat.{_-_}
 use mathlib.Core.Path.{refl, sym, _∙_}
 use native.Mathlib.Omega.{arith}
 use borrow.Author.Tests.{not-true, not-false}
 use lib.ListN.{length}
 use Rattle.tokens.proofs.StringLaws.{piece-past, piece-quote, piece-escape, piece-bare, escaped-inside, encodes-length, Comparing, comparing-close, comparing-short, comparing-differ, comparing-bare, comparing-other, comparing-escaped}
+use borrow.Author.Needs.{needs}
 use Rattle.tokens.proofs.strings.same_as.Statement.{statement}
 use Rattle.tokens.proofs.strings.same_as.Tie as tie
 

@@ -1,9 +1,10 @@
-use borrow.Author.Needs.{needs}
+-- Made by tools/answers.py from answers/strings/string_end.ans: edit that. 799ef63c2e8ca7b5
 use Prim.Native.Nat.{_-_}
 use mathlib.Core.Path.{_≡_, refl, sym, _∙_}
 use lib.ListN.{length}
 use Rattle.tokens.specs.Strings.{stringEnd}
 use Rattle.tokens.proofs.StringLaws.{end-past, end-quote, end-pair, end-other}
+use borrow.Author.Needs.{needs}
 use Rattle.tokens.proofs.strings.string_end.Statement.{statement}
 use Rattle.tokens.proofs.strings.string_end.Tie as tie
 

@@ -1,6 +1,7 @@
-use borrow.Author.Needs.{needs}
+-- Made by tools/answers.py from answers/strings/unit.ans: edit that. 184b3fd1bc68cb8e
 use native.Mathlib.Omega.{arith}
 use Rattle.tokens.proofs.StringLaws.{unit-is}
+use borrow.Author.Needs.{needs}
 use Rattle.tokens.proofs.strings.unit.Statement.{statement}
 use Rattle.tokens.proofs.strings.unit.Tie as tie
 

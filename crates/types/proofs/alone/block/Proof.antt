@@ -1,3 +1,4 @@
+-- Made by tools/answers.py from answers/alone/block.ans: edit that. 08eb27523ad88105
 use Rattle.types.proofs.AloneLaws.{good-block}
 use borrow.Author.Needs.{needs}
 use Rattle.types.proofs.alone.block.Statement.{statement}

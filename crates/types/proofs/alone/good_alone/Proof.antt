@@ -1,3 +1,4 @@
+-- Made by tools/answers.py from answers/alone/good_alone.ans: edit that. decbc20c993b6600
 use Rattle.jer.specs.Table.{table}
 use Rattle.types.proofs.RowLaws.{marks-told, layout-told}
 use Rattle.types.proofs.AloneLaws.{alone-marked, alone-bare, alone-holds, alone-lists, alone-names, alone-unknown}
@@ -66,48 +67,43 @@ enum-told-4 c = search needs
 
 returns-2 : tie.Need-returns-2
 returns-2 c =
-    let d = c .before .before .before .before in
-    let a = d .before .before .before .before .before .before .args in
+    let a = c .before .before .before .before .before .before .before .before .before .before .args in
     let ns = a .names .now in
     let t = table (a .rows .now) ns in
-    let e = d .before .before .before .row-in .ensures ns in
-    alone-bare t (a .r) (d .before .good-marks .ensures t (a .r) e (marks-told t (a .r) e (d .before .before .carries .ensures))) (d .if1 .left) (layout-told t (a .r) e (d .before .before .carries .ensures)) (c .before .enum-told .given .1) (c .unused .ensures ns)
+    let e = c .before .before .before .before .before .before .before .row-in .ensures ns in
+    alone-bare t (a .r) (c .before .before .before .before .before .good-marks .ensures t (a .r) e (marks-told t (a .r) e (c .before .before .before .before .before .before .carries .ensures))) (c .before .before .before .before .if1 .left) (layout-told t (a .r) e (c .before .before .before .before .before .before .carries .ensures)) (c .before .enum-told .given .1) (c .unused .ensures ns)
 
 returns-3 : tie.Need-returns-3
 returns-3 c =
-    let d = c .before .before .before .before .before .before .before .before in
-    let a = d .before .before .before .before .before .before .args in
+    let a = c .before .before .before .before .before .before .before .before .before .before .before .before .before .before .args in
     let ns = a .names .now in
     let t = table (a .rows .now) ns in
-    let e = d .before .before .before .row-in .ensures ns in
-    alone-holds t (a .r) (d .before .good-marks .ensures t (a .r) e (marks-told t (a .r) e (d .before .before .carries .ensures))) (d .if1 .left) (layout-told t (a .r) e (d .before .before .carries .ensures)) e (c .before .before .before .before .before .layout .given .1) (c .before .unused2 .ensures ns) (c .block .ensures t (a .r) e (c .before .before .before .before .before .before .before .row-count .ensures ns))
+    let e = c .before .before .before .before .before .before .before .before .before .before .before .row-in .ensures ns in
+    alone-holds t (a .r) (c .before .before .before .before .before .before .before .before .before .good-marks .ensures t (a .r) e (marks-told t (a .r) e (c .before .before .before .before .before .before .before .before .before .before .carries .ensures))) (c .before .before .before .before .before .before .before .before .if1 .left) (layout-told t (a .r) e (c .before .before .before .before .before .before .before .before .before .before .carries .ensures)) e (c .before .before .before .before .before .layout .given .1) (c .before .unused2 .ensures ns) (c .block .ensures t (a .r) e (c .before .before .before .before .before .before .before .row-count .ensures ns))
 
 returns-4 : tie.Need-returns-4
 returns-4 c =
-    let d = c .before .before .before .before .before in
-    let a = d .before .before .before .before .before .before .args in
+    let a = c .before .before .before .before .before .before .before .before .before .before .before .args in
     let ns = a .names .now in
     let t = table (a .rows .now) ns in
-    let e = d .before .before .before .row-in .ensures ns in
-    alone-lists t (a .r) (d .before .good-marks .ensures t (a .r) e (marks-told t (a .r) e (d .before .before .carries .ensures))) (d .if1 .left) (layout-told t (a .r) e (d .before .before .carries .ensures)) e (c .before .before .enum-told2 .given .1) (c .before .unused3 .ensures ns) (c .wide .ensures .0) (c .before .before .before .before .row-count .ensures ns)
+    let e = c .before .before .before .before .before .before .before .before .row-in .ensures ns in
+    alone-lists t (a .r) (c .before .before .before .before .before .before .good-marks .ensures t (a .r) e (marks-told t (a .r) e (c .before .before .before .before .before .before .before .carries .ensures))) (c .before .before .before .before .before .if1 .left) (layout-told t (a .r) e (c .before .before .before .before .before .before .before .carries .ensures)) e (c .before .before .enum-told2 .given .1) (c .before .unused3 .ensures ns) (c .wide .ensures .0) (c .before .before .before .before .row-count .ensures ns)
 
 returns-5 : tie.Need-returns-5
 returns-5 c =
-    let d = c .before .before .before .before .before .before in
-    let a = d .before .before .before .before .before .before .args in
+    let a = c .before .before .before .before .before .before .before .before .before .before .before .before .args in
     let ns = a .names .now in
     let t = table (a .rows .now) ns in
-    let e = d .before .before .before .row-in .ensures ns in
-    alone-names t (a .r) (d .before .good-marks .ensures t (a .r) e (marks-told t (a .r) e (d .before .before .carries .ensures))) (d .if1 .left) (layout-told t (a .r) e (d .before .before .carries .ensures)) e (c .before .before .before .enum-told3 .given .1) (c .before .unused4 .ensures ns) (c .before .before .wide2 .ensures .0) (c .before .before .before .before .before .row-count .ensures ns) (c .good-name .ensures)
+    let e = c .before .before .before .before .before .before .before .before .before .row-in .ensures ns in
+    alone-names t (a .r) (c .before .before .before .before .before .before .before .good-marks .ensures t (a .r) e (marks-told t (a .r) e (c .before .before .before .before .before .before .before .before .carries .ensures))) (c .before .before .before .before .before .before .if1 .left) (layout-told t (a .r) e (c .before .before .before .before .before .before .before .before .carries .ensures)) e (c .before .before .before .enum-told3 .given .1) (c .before .unused4 .ensures ns) (c .before .before .wide2 .ensures .0) (c .before .before .before .before .before .row-count .ensures ns) (c .good-name .ensures)
 
 returns-6 : tie.Need-returns-6
 returns-6 c =
-    let d = c .before .before .before in
-    let a = d .before .before .before .before .before .before .args in
+    let a = c .before .before .before .before .before .before .before .before .before .args in
     let ns = a .names .now in
     let t = table (a .rows .now) ns in
-    let e = d .before .before .before .row-in .ensures ns in
-    alone-unknown t (a .r) (d .before .good-marks .ensures t (a .r) e (marks-told t (a .r) e (d .before .before .carries .ensures))) (d .if1 .left) (layout-told t (a .r) e (d .before .before .carries .ensures)) (c .enum-told4 .given .1)
+    let e = c .before .before .before .before .before .before .row-in .ensures ns in
+    alone-unknown t (a .r) (c .before .before .before .before .good-marks .ensures t (a .r) e (marks-told t (a .r) e (c .before .before .before .before .before .carries .ensures))) (c .before .before .before .if1 .left) (layout-told t (a .r) e (c .before .before .before .before .before .carries .ensures)) (c .enum-told4 .given .1)
 
 pub good-alone-spec : {M : Type 1} → statement M
 good-alone-spec =

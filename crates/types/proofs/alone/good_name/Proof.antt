@@ -1,3 +1,4 @@
+-- Made by tools/answers.py from answers/alone/good_name.ans: edit that. fde2d1022cde5227
 use mathlib.Core.Path.{refl}
 use Rattle.jer.specs.Table.{table}
 use Rattle.types.proofs.AloneLaws.{name-empty, name-long, name-out, name-ascii, name-utf8}

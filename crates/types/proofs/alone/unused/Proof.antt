@@ -1,3 +1,4 @@
+-- Made by tools/answers.py from answers/alone/unused.ans: edit that. 36c49165bb5759c4
 -- The fields from i on are 0 as those from `from` on are; `8 - i` falls.
 use mathlib.Core.Path.{_≡_, refl, sym}
 use mathlib.Core.List.{List}

@@ -1,3 +1,4 @@
+-- Made by tools/answers.py from answers/bytes/all_ascii.ans: edit that. 6117a948a894222a
 -- The bytes before i are ASCII, if all is true; `length s - i` falls.
 use Prim.Native.Nat.{_<_, _≤_, _-_, ℕ}
 use mathlib.Core.Path.{_≡_}

@@ -1,3 +1,4 @@
+-- Made by tools/answers.py from answers/bytes/first.ans: edit that. 93a2008a9446d043
 use native.Mathlib.Omega.{arith}
 use Rattle.json.specs.Bytes.{pick}
 use Rattle.json.specs.Utf8.{wideRows, dueStep}
@@ -36,8 +37,7 @@ returns-7 c = first-three (c .before .before .before .before .before .args .b) (
 
 returns-8 : tie.Need-returns-8
 unfolding dueOf
-returns-8 c =
-    first-three-too (c .before .before .before .before .before .before .args .b) (omega arith) (omega arith) (omega arith) (omega arith) (omega arith)
+returns-8 c = first-three-too (c .before .before .before .before .before .before .args .b) (omega arith) (omega arith) (omega arith) (omega arith) (omega arith)
 
 returns-9 : tie.Need-returns-9
 unfolding dueOf

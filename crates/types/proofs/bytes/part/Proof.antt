@@ -1,3 +1,4 @@
+-- Made by tools/answers.py from answers/bytes/part.ans: edit that. 19d352c4d6a782bb
 use Rattle.types.proofs.ByteLaws.{part-none, part-rest, part-whole}
 use borrow.Author.Needs.{needs}
 use Rattle.types.proofs.bytes.part.Statement.{statement}

@@ -1,3 +1,4 @@
+-- Made by tools/answers.py from answers/bytes/same_bytes.ans: edit that. 6c0462eb86755491
 -- The bytes from i on are the same as all are; `length a - i` falls.
 use mathlib.Core.Path.{_≡_, refl, _∙_}
 use Prim.Native.Nat.{_-_}

@@ -1,3 +1,4 @@
+-- Made by tools/answers.py from answers/bytes/tail.ans: edit that. 1ec2780a5a7c5645
 use Rattle.types.specs.Bytes.{dueOf}
 use Rattle.types.proofs.ByteLaws.{tail-none, tail-more}
 use borrow.Author.Needs.{needs}

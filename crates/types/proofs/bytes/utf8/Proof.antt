@@ -1,3 +1,4 @@
+-- Made by tools/answers.py from answers/bytes/utf8.ans: edit that. 4446671d1253122a
 -- The bytes from i on, from the state that the code has, are UTF-8 as the whole is; `length s - i` falls.
 use mathlib.Core.Path.{_≡_, refl, _∙_}
 use Prim.Native.Nat.{_-_}

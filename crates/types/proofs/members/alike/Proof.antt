@@ -1,3 +1,4 @@
+-- Made by tools/answers.py from answers/members/alike.ans: edit that. 5ead13c9c10cdd4a
 use Rattle.jer.specs.Table.{table}
 use Rattle.types.proofs.MemberLaws.{alike-name, alike-token}
 use borrow.Author.Needs.{needs}

@@ -1,3 +1,4 @@
+-- Made by tools/answers.py from answers/members/all_keep.ans: edit that. b585061402b26698
 -- The members from i on keep the rule as all do; `count - i` falls.
 use mathlib.Core.Path.{_≡_}
 use Prim.Native.Nat.{_-_}

@@ -1,3 +1,4 @@
+-- Made by tools/answers.py from answers/members/differs.ans: edit that. 721cd16779758a5f
 -- The members from i to j differ from the one at j as all before it do; `j - i` falls.
 use mathlib.Core.Path.{_≡_, ap}
 use mathlib.Core.Bool.{not}

@@ -1,3 +1,4 @@
+-- Made by tools/answers.py from answers/members/keeps.ans: edit that. 2e6707abd30df6bc
 use Rattle.jer.specs.Table.{table}
 use Rattle.types.proofs.MemberLaws.{keeps-member, keeps-required, keeps-untyped, keeps-null-free, keeps-wrapped, keeps-differs}
 use borrow.Author.Needs.{needs}

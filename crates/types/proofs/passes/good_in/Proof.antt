@@ -1,3 +1,4 @@
+-- Made by tools/answers.py from answers/passes/good_in.ans: edit that. 4c9f966f497210e2
 use mathlib.Core.Path.{_∙_}
 use Rattle.types.specs.Check.{goodIn}
 use borrow.Author.Needs.{needs}

@@ -1,3 +1,4 @@
+-- Made by tools/answers.py from answers/passes/passed.ans: edit that. 5883b309090dcc8f
 -- The first bad row from r on is the first of all; `count - r` falls.
 use mathlib.Core.Path.{_≡_}
 use Prim.Native.Nat.{_-_}

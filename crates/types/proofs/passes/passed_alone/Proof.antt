@@ -1,3 +1,4 @@
+-- Made by tools/answers.py from answers/passes/passed_alone.ans: edit that. 3817ed1d1c519d59
 -- The first bad row from r on is the first of all; `count - r` falls.
 use mathlib.Core.Path.{_≡_, ap}
 use mathlib.Core.Bool.{not}

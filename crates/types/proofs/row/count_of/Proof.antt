@@ -1,3 +1,4 @@
+-- Made by tools/answers.py from answers/row/count_of.ans: edit that. 737dd1239d5f8bb8
 use Rattle.jer.specs.Table.{countOf}
 use borrow.Author.Needs.{needs}
 use Rattle.types.proofs.row.count_of.Statement.{statement}

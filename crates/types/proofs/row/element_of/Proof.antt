@@ -1,3 +1,4 @@
+-- Made by tools/answers.py from answers/row/element_of.ans: edit that. da98e72f83e0dea0
 use mathlib.Core.Path.{_∙_}
 use Rattle.jer.specs.Table.{elementOf}
 use borrow.Author.Needs.{needs}

@@ -1,3 +1,4 @@
+-- Made by tools/answers.py from answers/row/field.ans: edit that. 721d1c6b3555383e
 use mathlib.Core.Path.{refl}
 use native.Mathlib.Omega.{arith}
 use Rattle.jer.specs.Table.{field}

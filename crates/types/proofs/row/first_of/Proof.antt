@@ -1,3 +1,4 @@
+-- Made by tools/answers.py from answers/row/first_of.ans: edit that. 45421f3513b5e065
 use mathlib.Core.Path.{_∙_}
 use native.Mathlib.Omega.{arith}
 use Rattle.jer.specs.Table.{firstOf}

@@ -1,3 +1,4 @@
+-- Made by tools/answers.py from answers/row/kind_of.ans: edit that. dd6d98fa5344df71
 use Rattle.jer.specs.Table.{kindOf}
 use borrow.Author.Needs.{needs}
 use Rattle.types.proofs.row.kind_of.Statement.{statement}

@@ -1,3 +1,4 @@
+-- Made by tools/answers.py from answers/row/may_be_absent.ans: edit that. da3a647d7a197c2a
 use Rattle.types.proofs.RowLaws.{may-be-absent}
 use borrow.Author.Needs.{needs}
 use Rattle.types.proofs.row.may_be_absent.Statement.{statement}
@@ -19,4 +20,10 @@ returns c =
     (c .root-of .ensures ns)
 
 pub may-be-absent-spec : {M : Type 1} → statement M
-may-be-absent-spec = tie.close (tie.spec member-at-requires optional-requires root-of-requires returns)
+may-be-absent-spec =
+    tie.close
+    (tie.spec
+    member-at-requires
+    optional-requires
+    root-of-requires
+    returns)

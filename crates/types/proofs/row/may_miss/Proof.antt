@@ -1,3 +1,4 @@
+-- Made by tools/answers.py from answers/row/may_miss.ans: edit that. e4ea3d2464db8f20
 use Rattle.types.proofs.RowLaws.{may-miss}
 use borrow.Author.Needs.{needs}
 use Rattle.types.proofs.row.may_miss.Statement.{statement}

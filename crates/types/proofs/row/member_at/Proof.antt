@@ -1,3 +1,4 @@
+-- Made by tools/answers.py from answers/row/member_at.ans: edit that. 0235bb934b3d447b
 use mathlib.Core.Path.{ap, _∙_}
 use Prim.Native.Nat.{ℕ}
 use Rattle.types.specs.Rows.{rowOf}
@@ -13,8 +14,7 @@ at-requires : tie.Need-at-requires
 at-requires c κs = search needs
 
 returns : tie.Need-returns
-returns c =
-    λ ns. c .at .ensures ns ∙ ap (λ (m : ℕ). rowOf (table (c .before .before .before .args .rows .now) ns) m) (c .before .member-row .ensures ns)
+returns c = λ ns. c .at .ensures ns ∙ ap (λ (m : ℕ). rowOf (table (c .before .before .before .args .rows .now) ns) m) (c .before .member-row .ensures ns)
 
 pub member-at-spec : {M : Type 1} → statement M
 member-at-spec = tie.close (tie.spec member-row-requires at-requires returns)

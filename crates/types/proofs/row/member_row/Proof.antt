@@ -1,3 +1,4 @@
+-- Made by tools/answers.py from answers/row/member_row.ans: edit that. 2a8146e359ac3873
 use Rattle.types.proofs.RowLaws.{member-row}
 use borrow.Author.Needs.{needs}
 use Rattle.types.proofs.row.member_row.Statement.{statement}

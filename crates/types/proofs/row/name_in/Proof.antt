@@ -1,3 +1,4 @@
+-- Made by tools/answers.py from answers/row/name_in.ans: edit that. 924032804e830bde
 use Rattle.types.proofs.RowLaws.{name-in}
 use borrow.Author.Needs.{needs}
 use Rattle.types.proofs.row.name_in.Statement.{statement}

@@ -1,3 +1,4 @@
+-- Made by tools/answers.py from answers/row/name_length.ans: edit that. 7c89e59930bd80cb
 use mathlib.Core.Path.{_∙_}
 use native.Mathlib.Omega.{arith}
 use borrow.Author.Needs.{needs}

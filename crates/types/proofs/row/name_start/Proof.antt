@@ -1,3 +1,4 @@
+-- Made by tools/answers.py from answers/row/name_start.ans: edit that. d1657a7c1a47ca41
 use mathlib.Core.Path.{_∙_}
 use native.Mathlib.Omega.{arith}
 use borrow.Author.Needs.{needs}

@@ -1,3 +1,4 @@
+-- Made by tools/answers.py from answers/row/root_of.ans: edit that. 07c08ff39dfe6deb
 use Rattle.jer.specs.Table.{rootOf}
 use borrow.Author.Needs.{needs}
 use Rattle.types.proofs.row.root_of.Statement.{statement}

@@ -1,3 +1,4 @@
+-- Made by tools/answers.py from answers/row/row_in.ans: edit that. 8aa20eb4cb621089
 use mathlib.Core.Path.{refl}
 use Rattle.jer.specs.Table.{field}
 use Rattle.types.proofs.RowLaws.{row-of}

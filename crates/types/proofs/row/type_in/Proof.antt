@@ -1,3 +1,4 @@
+-- Made by tools/answers.py from answers/row/type_in.ans: edit that. 1a2de0266db05f0c
 use mathlib.Core.Path.{_∙_}
 use borrow.Author.Needs.{needs}
 use Rattle.types.proofs.row.type_in.Statement.{statement}

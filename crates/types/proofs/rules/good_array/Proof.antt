@@ -1,3 +1,4 @@
+-- Made by tools/answers.py from answers/rules/good_array.ans: edit that. c31bed65ca3b1c29
 use Rattle.jer.specs.Valid.{goodArray}
 use Rattle.types.specs.Check.{keeps}
 use borrow.Author.Needs.{needs}

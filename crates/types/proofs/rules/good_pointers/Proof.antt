@@ -1,3 +1,4 @@
+-- Made by tools/answers.py from answers/rules/good_pointers.ans: edit that. 62a00a2fbeca5069
 use Rattle.jer.specs.Table.{table}
 use Rattle.types.proofs.RuleLaws.{pointers-type, pointers-members, pointers-none}
 use borrow.Author.Needs.{needs}

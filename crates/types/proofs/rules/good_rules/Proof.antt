@@ -1,3 +1,4 @@
+-- Made by tools/answers.py from answers/rules/good_rules.ans: edit that. acc26fb9da54382a
 use Rattle.jer.specs.Table.{table}
 use Rattle.types.proofs.RuleLaws.{rules-enumerated, rules-array, rules-sequence, rules-unwrapped, rules-choice, rules-none}
 use borrow.Author.Needs.{needs}

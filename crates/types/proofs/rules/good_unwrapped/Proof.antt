@@ -1,3 +1,4 @@
+-- Made by tools/answers.py from answers/rules/good_unwrapped.ans: edit that. ad69bd23297b91af
 use Rattle.jer.specs.Valid.{allDiffer, goodUnwrapped}
 use Rattle.types.specs.Check.{alike, keeps}
 use borrow.Author.Needs.{needs}

@@ -1,3 +1,4 @@
+-- Made by tools/answers.py from answers/rules/names_differ.ans: edit that. 1acbdc6e642609a3
 use Rattle.jer.specs.Valid.{allDiffer, namesDiffer}
 use Rattle.types.specs.Check.{alike, keeps}
 use borrow.Author.Needs.{needs}

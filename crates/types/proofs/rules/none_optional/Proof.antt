@@ -1,3 +1,4 @@
+-- Made by tools/answers.py from answers/rules/none_optional.ans: edit that. d61888e6da843f71
 use Rattle.jer.specs.Valid.{noneOptional}
 use Rattle.types.specs.Check.{keeps}
 use borrow.Author.Needs.{needs}

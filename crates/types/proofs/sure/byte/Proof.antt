@@ -1,3 +1,4 @@
+-- Made by tools/answers.py from answers/sure/byte.ans: edit that. 26c89907bdf7353a
 use mathlib.Core.Path.{refl}
 use native.Mathlib.Omega.{arith}
 use borrow.Author.Needs.{needs}
@@ -14,9 +15,4 @@ returns : tie.Need-returns
 returns c = (refl, omega (arith, c .shared-slice-known .given (c .before .args .i)))
 
 pub byte-spec : {M : Type 1} → statement M
-byte-spec =
-    tie.close
-    (tie.spec
-    shared-slice-read-result
-    cast-result
-    returns)
+byte-spec = tie.close (tie.spec shared-slice-read-result cast-result returns)

@@ -1,3 +1,4 @@
+-- Made by tools/answers.py from answers/sure/fits.ans: edit that. ffb1a78d8f206dae
 use Rattle.jer.specs.Table.{table}
 use Rattle.types.proofs.SureLaws.{fits-told}
 use borrow.Author.Needs.{needs}
@@ -13,8 +14,4 @@ returns c =
     λ ns. fits-told (table (a .rows .now) ns) (a .m) (a .marks) (a .types) (c .before .before .before .row-in .ensures ns)
 
 pub fits-spec : {M : Type 1} → statement M
-fits-spec =
-    tie.close
-    (tie.spec
-    row-in-requires
-    returns)
+fits-spec = tie.close (tie.spec row-in-requires returns)

@@ -1,3 +1,4 @@
+-- Made by tools/answers.py from answers/sure/holds_type.ans: edit that. 07a9429e1aa7fc9e
 use mathlib.Core.Path.{_∙_}
 use Rattle.types.proofs.SureLaws.{type-told}
 use borrow.Author.Needs.{needs}

@@ -1,3 +1,4 @@
+-- Made by tools/answers.py from answers/sure/name_inside.ans: edit that. c6fecbd2561ee114
 use mathlib.Core.Path.{refl}
 use Rattle.jer.specs.Table.{table}
 use Rattle.types.proofs.AloneLaws.{name-room, name-told}

@@ -1,3 +1,4 @@
+-- Made by tools/answers.py from answers/sure/sign.ans: edit that. 1457c886fd945f4b
 use native.Mathlib.Omega.{arith}
 use Rattle.types.proofs.SureMembers.{sign-told}
 use borrow.Author.Needs.{needs}

@@ -1,3 +1,4 @@
+-- Made by tools/answers.py from answers/sure/sure.ans: edit that. 50aa0a6e5ea85b58
 -- The rows before r are sure; `count - r` falls.
 use Prim.Native.Nat.{ℕ, _-_, _<_}
 use native.Mathlib.Omega.{arith}

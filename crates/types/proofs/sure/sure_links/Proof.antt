@@ -1,3 +1,4 @@
+-- Made by tools/answers.py from answers/sure/sure_links.ans: edit that. a9e41fea7ca5fb6b
 use mathlib.Core.Logic.{inl, inr}
 use borrow.Author.Tests.{not-false}
 use Rattle.jer.specs.Table.{table}

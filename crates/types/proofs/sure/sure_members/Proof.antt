@@ -1,3 +1,4 @@
+-- Made by tools/answers.py from answers/sure/sure_members.ans: edit that. 28d3a0eefdc80ce9
 -- The members before the one at j are sure, and their signs are marked; `count - j` falls.
 use Prim.Native.Nat.{_+_, _-_}
 use native.Mathlib.Omega.{arith}

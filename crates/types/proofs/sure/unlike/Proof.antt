@@ -1,3 +1,4 @@
+-- Made by tools/answers.py from answers/sure/unlike.ans: edit that. 67d80a848355b43b
 -- No member before the one at i has the name; `j - i` falls.
 use Prim.Native.Nat.{_-_}
 use Rattle.types.proofs.SureMembers.{apart-next}

@@ -1,3 +1,4 @@
+-- Made by tools/answers.py from answers/token/alternative.ans: edit that. 5adaf7ab839166d2
 -- The first alternative from i on is the first of all, for any token that has the number; `count - i` falls.
 use mathlib.Core.Path.{_≡_, refl, ap}
 use mathlib.Core.List.{List}

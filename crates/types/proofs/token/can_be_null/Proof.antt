@@ -1,3 +1,4 @@
+-- Made by tools/answers.py from answers/token/can_be_null.ans: edit that. 12e67965c7c1cdf1
 use mathlib.Core.Path.{refl}
 use Rattle.jer.specs.Table.{tokenCode, tNull, table}
 use Rattle.types.proofs.TokenLaws.{null-yes, null-wrapped, null-found, null-nothing}

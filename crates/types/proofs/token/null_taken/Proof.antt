@@ -1,3 +1,4 @@
+-- Made by tools/answers.py from answers/token/null_taken.ans: edit that. 921180ee74c8f9e6
 use Rattle.jer.specs.Table.{nullTaken}
 use borrow.Author.Needs.{needs}
 use Rattle.types.proofs.token.null_taken.Statement.{statement}

@@ -1,3 +1,4 @@
+-- Made by tools/answers.py from answers/token/open_unwrapped.ans: edit that. 28f8692dadf17f7b
 use Rattle.jer.specs.Table.{openUnwrapped}
 use borrow.Author.Needs.{needs}
 use Rattle.types.proofs.token.open_unwrapped.Statement.{statement}
@@ -20,4 +21,9 @@ returns c =
 
 pub open-unwrapped-spec : {M : Type 1} → statement M
 open-unwrapped-spec =
-    tie.close (tie.spec at-requires is-unwrapped-requires extensible-requires returns)
+    tie.close
+    (tie.spec
+    at-requires
+    is-unwrapped-requires
+    extensible-requires
+    returns)

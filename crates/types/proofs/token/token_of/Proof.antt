@@ -1,3 +1,4 @@
+-- Made by tools/answers.py from answers/token/token_of.ans: edit that. 998e838e806ebd67
 use borrow.Author.Needs.{needs}
 use Rattle.types.proofs.token.token_of.Statement.{statement}
 use Rattle.types.proofs.token.token_of.Tie as tie

@@ -1,5 +1,6 @@
-use borrow.Author.Needs.{needs}
+-- Made by tools/answers.py from answers/cursor/Cursor/skip_space.ans: edit that. dba2325d0c9e87a0
 use Rattle.tokens.specs.Places.{pastSpace}
+use borrow.Author.Needs.{needs}
 use Rattle.tokens.proofs.cursor.Cursor.skip_space.Statement.{statement}
 use Rattle.tokens.proofs.cursor.Cursor.skip_space.Tie as tie
 

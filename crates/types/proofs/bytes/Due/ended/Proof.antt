@@ -1,3 +1,4 @@
+-- Made by tools/answers.py from answers/bytes/Due/ended.ans: edit that. 9aaf8c8c95717e48
 use Rattle.json.specs.Utf8.{dueEnd}
 use Rattle.types.specs.Bytes.{dueOf}
 use borrow.Author.Needs.{needs}

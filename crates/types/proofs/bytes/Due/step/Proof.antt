@@ -1,3 +1,4 @@
+-- Made by tools/answers.py from answers/bytes/Due/step.ans: edit that. 4948a5dd7b3e3226
 use mathlib.Core.Path.{_∙_}
 use Rattle.json.specs.Utf8.{dueStep}
 use Rattle.types.specs.Bytes.{dueOf}

@@ -1,3 +1,4 @@
+-- Made by tools/answers.py from answers/row/Row/at.ans: edit that. 1936496b5764df6f
 use Rattle.types.proofs.RowLaws.{row-of}
 use borrow.Author.Needs.{needs}
 use Rattle.types.proofs.row.Row.at.Statement.{statement}

@@ -1,3 +1,4 @@
+-- Made by tools/answers.py from answers/row/Row/begins.ans: edit that. a55caa877e496e98
 use Rattle.types.proofs.RowLaws.{begins-marked, begins-plain}
 use borrow.Author.Needs.{needs}
 use Rattle.types.proofs.row.Row.begins.Statement.{statement}

@@ -1,3 +1,4 @@
+-- Made by tools/answers.py from answers/row/Row/carries.ans: edit that. 0534336e222a12de
 use mathlib.Core.Path.{_∙_}
 use Rattle.json.specs.Bytes.{pick}
 use Rattle.jer.specs.Table.{tokenCode, codeOf, carries}

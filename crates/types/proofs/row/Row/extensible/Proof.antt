@@ -1,3 +1,4 @@
+-- Made by tools/answers.py from answers/row/Row/extensible.ans: edit that. 5da6483699b32357
 use Rattle.jer.specs.Table.{extensible}
 use borrow.Author.Needs.{needs}
 use Rattle.types.proofs.row.Row.extensible.Statement.{statement}

@@ -1,3 +1,4 @@
+-- Made by tools/answers.py from answers/row/Row/good_marks.ans: edit that. 94ee5537bb10ed27
 use Rattle.types.proofs.RowLaws.{marks-among}
 use Rattle.types.proofs.row.Row.good_marks.Statement.{statement}
 use Rattle.types.proofs.row.Row.good_marks.Tie as tie

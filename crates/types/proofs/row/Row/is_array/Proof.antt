@@ -1,3 +1,4 @@
+-- Made by tools/answers.py from answers/row/Row/is_array.ans: edit that. e61eba06d327dac5
 use Rattle.jer.specs.Table.{isArray}
 use Rattle.types.proofs.RowLaws.{kind-marked}
 use borrow.Author.Needs.{needs}

@@ -1,3 +1,4 @@
+-- Made by tools/answers.py from answers/row/Row/is_base64.ans: edit that. a71d5c598c7ac5cb
 use Rattle.jer.specs.Table.{isBase64}
 use Rattle.types.proofs.RowLaws.{kind-marked}
 use borrow.Author.Needs.{needs}

@@ -1,3 +1,4 @@
+-- Made by tools/answers.py from answers/row/Row/is_type.ans: edit that. 1abdd1e9ebb84c4b
 use mathlib.Core.Path.{ap, _∙_}
 use Rattle.jer.specs.Table.{typeKind, isType}
 use Rattle.types.proofs.RowLaws.{kind-of}

@@ -1,3 +1,4 @@
+-- Made by tools/answers.py from answers/row/Row/is_unwrapped.ans: edit that. d030335a20e613f1
 use Rattle.jer.specs.Table.{isUnwrapped}
 use Rattle.types.proofs.RowLaws.{kind-marked}
 use borrow.Author.Needs.{needs}

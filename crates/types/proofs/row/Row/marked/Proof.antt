@@ -1,3 +1,4 @@
+-- Made by tools/answers.py from answers/row/Row/marked.ans: edit that. 827b630cc86b0e07
 use mathlib.Core.Path.{ap}
 use Prim.Native.Nat.{_/_, _%_}
 use lib.Dec.{eqb}

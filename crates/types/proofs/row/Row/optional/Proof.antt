@@ -1,3 +1,4 @@
+-- Made by tools/answers.py from answers/row/Row/optional.ans: edit that. 6a1ddcfa332bccb4
 use mathlib.Core.Path.{ap}
 use lib.Dec.{eqb}
 use Rattle.jer.specs.Table.{optional, marksOf}

@@ -1,3 +1,4 @@
+-- Made by tools/answers.py from answers/row/Row/type_kind.ans: edit that. b0b215ba37309d26
 use mathlib.Core.Path.{ap, _∙_}
 use mathlib.Core.Bool.{not}
 use lib.Dec.{eqb}
