@@ -1,34 +1,28 @@
+-- Made by tools/answers.py from answers/attrywind_check_table.ans: edit that. 080b2c17738b4444
 use mathlib.Core.Path.{refl}
 use Rattle.capi.specs.Answers.{ofTable}
 use borrow.Author.Needs.{needs}
 use Rattle.capi.proofs.attrywind_check_table.Statement.{statement}
 use Rattle.capi.proofs.attrywind_check_table.Tie as tie
 
--- src/lib.rt:41:11
 check-requires : tie.Need-check-requires
 check-requires c κs = search needs
 
--- src/lib.rt:42:25
 enum-known-e : tie.Need-enum-known-e
 enum-known-e c = search needs
 
--- src/lib.rt:42:31
 refused-requires : tie.Need-refused-requires
 refused-requires c κs = search needs
 
--- src/lib.rt:44:18
 enum-told : tie.Need-enum-told
 enum-told c = search needs
 
--- src/lib.rt:44:13
 told-requires : tie.Need-told-requires
 told-requires c κs = search needs
 
--- src/lib.rt:36:1
 same-length : tie.Need-same-length
 same-length c = search needs
 
--- src/lib.rt:36:1
 returns : tie.Need-returns
 unfolding ofTable
 returns c =
@@ -36,11 +30,9 @@ returns c =
     let refused = c .before .before .refused .ensures in
     record { answer = _; call = c .before .before .before .before .before .before .before .check .ensures; number = rw is (refused .0); told = rw is (refused .1) }
 
--- src/lib.rt:36:1
 same-length-2 : tie.Need-same-length-2
 same-length-2 c = search needs
 
--- src/lib.rt:36:1
 returns-2 : tie.Need-returns-2
 unfolding ofTable
 returns-2 c =

@@ -1,38 +1,31 @@
+-- Made by tools/answers.py from answers/attrywind_write.ans: edit that. 9b55c4515df60df5
 use mathlib.Core.Path.{refl}
 use Rattle.capi.specs.Answers.{ofWriting}
 use borrow.Author.Needs.{needs}
 use Rattle.capi.proofs.attrywind_write.Statement.{statement}
 use Rattle.capi.proofs.attrywind_write.Tie as tie
 
--- src/lib.rt:88:11
 write-requires : tie.Need-write-requires
 write-requires c κs = search needs
 
--- src/lib.rt:89:26
 enum-known-e : tie.Need-enum-known-e
 enum-known-e c = search needs
 
--- src/lib.rt:89:32
 refused-requires : tie.Need-refused-requires
 refused-requires c κs = search needs
 
--- src/lib.rt:90:26
 enum-known-n : tie.Need-enum-known-n
 enum-known-n c = search needs
 
--- src/lib.rt:91:13
 told-requires : tie.Need-told-requires
 told-requires c κs = search needs
 
--- src/lib.rt:75:1
 same-length : tie.Need-same-length
 same-length c = search needs
 
--- src/lib.rt:75:1
 same-length-2 : tie.Need-same-length-2
 same-length-2 c = search needs
 
--- src/lib.rt:75:1
 returns : tie.Need-returns
 unfolding ofWriting
 returns c =
@@ -41,15 +34,12 @@ returns c =
     let is = c .before .before .before .before .before .e .given .1 in
     record { answer = _; call = write; number = rw is (refused .0); told = rw is (refused .1) }
 
--- src/lib.rt:75:1
 same-length-3 : tie.Need-same-length-3
 same-length-3 c = search needs
 
--- src/lib.rt:75:1
 same-length-4 : tie.Need-same-length-4
 same-length-4 c = search needs
 
--- src/lib.rt:75:1
 returns-2 : tie.Need-returns-2
 unfolding ofWriting
 returns-2 c =

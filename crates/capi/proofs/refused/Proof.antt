@@ -1,3 +1,4 @@
+-- Made by tools/answers.py from answers/refused.ans: edit that. a6eedba69a3fd871
 use mathlib.Core.Path.{_∙_, ap}
 use Rattle.jer.specs.declared.Reported.{Reported}
 use Rattle.capi.specs.Answers.{amountsAfter}
@@ -5,19 +6,15 @@ use borrow.Author.Needs.{needs}
 use Rattle.capi.proofs.refused.Statement.{statement}
 use Rattle.capi.proofs.refused.Tie as tie
 
--- src/lib.rt:30:9
 report-requires : tie.Need-report-requires
 report-requires c κs = search needs
 
--- src/lib.rt:31:5
 told-requires : tie.Need-told-requires
 told-requires c κs = search needs
 
--- src/lib.rt:26:1
 same-length : tie.Need-same-length
 same-length c = search needs
 
--- src/lib.rt:26:1
 returns : tie.Need-returns
 returns c =
     let report = c .before .before .before .before .report .ensures in

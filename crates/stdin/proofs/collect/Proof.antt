@@ -1,3 +1,4 @@
+-- Made by tools/answers.py from answers/collect.ans: edit that. 91519a38ec4166ac
 use Prim.Native.Nat.{_≤_, _-_}
 use mathlib.Core.Path.{_≡_}
 use lib.ListN.{length}

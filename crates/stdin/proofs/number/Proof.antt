@@ -1,3 +1,4 @@
+-- Made by tools/answers.py from answers/number.ans: edit that. 52f8d06dc6b284a4
 use Prim.Native.Nat.{_≤_, _-_}
 use mathlib.Core.Path.{_≡_}
 use lib.ListN.{length}

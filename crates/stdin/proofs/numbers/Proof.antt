@@ -1,3 +1,4 @@
+-- Made by tools/answers.py from answers/numbers.ans: edit that. 0f6971db09e3db50
 use Prim.Native.Nat.{_≤_, _-_}
 use mathlib.Core.Path.{_≡_}
 use lib.ListN.{length}

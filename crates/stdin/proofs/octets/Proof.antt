@@ -1,3 +1,4 @@
+-- Made by tools/answers.py from answers/octets.ans: edit that. 017206581c1d9af6
 use Prim.Native.Nat.{_≤_, _-_}
 use mathlib.Core.Path.{_≡_}
 use lib.ListN.{length}

@@ -1,3 +1,4 @@
+-- Made by tools/answers.py from answers/write.ans: edit that. d3fa8cf86e5ce156
 use mathlib.Core.Path.{sym, _∙_}
 use Rattle.jer.specs.Table.{table}
 use Rattle.writing.proofs.CallLaws.{answers-as, refuses, table-good, table-bad}
@@ -5,36 +6,32 @@ use borrow.Author.Needs.{needs}
 use Rattle.writing.proofs.write.Statement.{statement}
 use Rattle.writing.proofs.write.Tie as tie
 
--- src/lib.rt:33:11
 check-requires : tie.Need-check-requires
 check-requires c κs = search needs
 
--- src/lib.rt:34:25
 enum-known-e : tie.Need-enum-known-e
 enum-known-e c = search needs
 
--- src/lib.rt:35:65
 enum-told : tie.Need-enum-told
 enum-told c = search needs
 
--- src/lib.rt:35:25
 write-value-requires : tie.Need-write-value-requires
-write-value-requires c κs = let a = c .before .before .before .before .before .before .before .before .before .args in
+write-value-requires c κs =
+    let a = c .before .before .before .before .before .before .before .before .before .args in
     table-good {t = table (a .types .now) (a .names .now)} {ns = a .values .now} {pool = a .pool .now} (sym (c .before .enum-told .given .1) ∙ c .before .before .before .check .ensures) .wrapped
 
--- src/lib.rt:29:1
 returns : tie.Need-returns
-returns c = let a = c .before .before .before .before .before .before .before .before .before .args in
+returns c =
+    let a = c .before .before .before .before .before .before .before .before .before .args in
     let r = refuses (a .text .now) (table-bad (table (a .types .now) (a .names .now)) (a .values .now) (a .pool .now) (sym (c .before .e .given .1) ∙ c .before .before .before .check .ensures)) in
     record { answer = r .answer; textLeft = r .text }
 
--- src/lib.rt:29:1
 same-length : tie.Need-same-length
 same-length c = search needs
 
--- src/lib.rt:29:1
 returns-2 : tie.Need-returns-2
-returns-2 c = let a = c .before .before .before .before .before .before .before .before .before .before .before .before .args in
+returns-2 c =
+    let a = c .before .before .before .before .before .before .before .before .before .before .before .before .args in
     let g = table-good {t = table (a .types .now) (a .names .now)} {ns = a .values .now} {pool = a .pool .now} (sym (c .before .before .before .before .enum-told .given .1) ∙ c .before .before .before .before .before .before .check .ensures) in
     let r = answers-as (g .text) (c .before .before .write-value .ensures) in
     record { answer = r .answer; textLeft = r .text }

@@ -1,3 +1,4 @@
+-- Made by tools/answers.py from answers/write_value.ans: edit that. 1b6787797898744b
 use mathlib.Core.Path.{refl}
 use borrow.Author.Tests.{not-true, not-false}
 use Rattle.jer.specs.Judge.{rowsIn}
@@ -9,56 +10,51 @@ use borrow.Author.Needs.{needs}
 use Rattle.writing.proofs.write_value.Statement.{statement}
 use Rattle.writing.proofs.write_value.Tie as tie
 
--- src/lib.rt:45:11
 judged-requires : tie.Need-judged-requires
 judged-requires c κs = search needs
 
--- src/lib.rt:46:22
 enum-known-q : tie.Need-enum-known-q
 enum-known-q c = search needs
 
--- src/lib.rt:47:23
 enum-known-row : tie.Need-enum-known-row
 enum-known-row c = search needs
 
--- src/lib.rt:50:17
 returns : tie.Need-returns
-returns c = let a = c .before .before .before .before .before .before .before .before .before .before .args in
+returns c =
+    let a = c .before .before .before .before .before .before .before .before .before .before .args in
     let t = table (a .types .now) (a .names .now) in
     let v = value-got (rowsIn (a .values .now)) refl 0 (c .before .before .before .before .judged .ensures) (c .before .before .row .given .1) in
     refuses (a .text .now) (left-over t (a .values .now) (a .pool .now) v (not-true _ (c .if1 .taken)))
 
--- src/lib.rt:53:17
 returns-2 : tie.Need-returns-2
-returns-2 c = let a = c .before .before .before .before .before .before .before .before .before .before .before .args in
+returns-2 c =
+    let a = c .before .before .before .before .before .before .before .before .before .before .before .args in
     let t = table (a .types .now) (a .names .now) in
     let v = value-got (rowsIn (a .values .now)) refl 0 (c .before .before .before .before .before .judged .ensures) (c .before .before .before .row .given .1) in
     answers-as (all-taken t (a .values .now) (a .pool .now) v (not-false _ (c .before .if1 .left))) (too-long (a .text .now) (write (v .what) t 0) (end-of (v .puts)) (c .if2 .taken))
 
--- src/lib.rt:56:17
 returns-3 : tie.Need-returns-3
-returns-3 c = let a = c .before .before .before .before .before .before .before .before .before .before .before .before .args in
+returns-3 c =
+    let a = c .before .before .before .before .before .before .before .before .before .before .before .before .args in
     let t = table (a .types .now) (a .names .now) in
     let v = value-got (rowsIn (a .values .now)) refl 0 (c .before .before .before .before .before .before .judged .ensures) (c .before .before .before .before .row .given .1) in
     answers-as (all-taken t (a .values .now) (a .pool .now) v (not-false _ (c .before .before .if1 .left))) (too-small (a .text .now) (write (v .what) t 0) (end-of (v .puts)) (c .before .if2 .left) (c .if3 .taken))
 
--- src/lib.rt:58:13
 value-requires : tie.Need-value-requires
 value-requires c κs = search needs
 
--- src/lib.rt:41:1
 returns-4 : tie.Need-returns-4
-returns-4 c = let a = c .before .before .before .before .before .before .before .before .before .args in
+returns-4 c =
+    let a = c .before .before .before .before .before .before .before .before .before .args in
     let t = table (a .types .now) (a .names .now) in
     refuses (a .text .now) (value-bad t (a .values .now) (a .pool .now) (value-wrong (rowsIn (a .values .now)) refl 0 (c .before .before .before .judged .ensures) (c .before .q .given .1)))
 
--- src/lib.rt:41:1
 same-length : tie.Need-same-length
 same-length c = search needs
 
--- src/lib.rt:41:1
 returns-5 : tie.Need-returns-5
-returns-5 c = let a = c .before .before .before .before .before .before .before .before .before .before .before .before .before .before .before .before .args in
+returns-5 c =
+    let a = c .before .before .before .before .before .before .before .before .before .before .before .before .before .before .before .before .args in
     let t = table (a .types .now) (a .names .now) in
     let v = value-got (rowsIn (a .values .now)) refl 0 (c .before .before .before .before .before .before .before .before .before .before .judged .ensures) (c .before .before .before .before .before .before .before .before .row .given .1) in
     let e = end-of (v .puts) in

@@ -1,4 +1,4 @@
-use borrow.Author.Needs.{needs}
+-- Made by tools/answers.py from answers/reads/second.ans: edit that. 399411db705ae458
 use Prim.Native.Nat.{ℕ}
 use mathlib.Core.Path.{sym, ap, _∙_}
 use mathlib.Core.List.{List}
@@ -7,6 +7,7 @@ use lib.ListN.{drop}
 use Rattle.jer.specs.Programs.{readSecond, readThird}
 use Rattle.lines.proofs.ShownLaws.{shown-as}
 use Rattle.shell.proofs.LineLaws.{octets-refused, octets-given}
+use borrow.Author.Needs.{needs}
 use Rattle.shell.proofs.reads.second.Statement.{statement}
 use Rattle.shell.proofs.reads.second.Tie as tie
 
@@ -30,7 +31,8 @@ same-length c = search needs
 
 returns : tie.Need-returns
 unfolding readSecond
-returns c = let a = c .before .before .before .before .before .before .before .before .before .before .before .before .args in
+returns c =
+    let a = c .before .before .before .before .before .before .before .before .before .before .before .before .args in
     shown-as (a .out .now) 0 (octets-refused 2 (a .s .now) (a .p) (λ names rest. readThird (a .types .now) names rest) (sym (c .before .before .before .before .enum-told .given .1) ∙ c .before .before .before .before .before .before .before .octets-line .ensures .0)) (c .before .before .put-bad-line .ensures)
 
 slice-aggregate-part : tie.Need-slice-aggregate-part
@@ -47,7 +49,8 @@ same-length-2 c = search needs
 
 returns-2 : tie.Need-returns-2
 unfolding readSecond
-returns-2 c = let a = c .before .before .before .before .before .before .before .before .before .before .before .before .before .before .before .args in
+returns-2 c =
+    let a = c .before .before .before .before .before .before .before .before .before .before .before .before .before .before .before .args in
     let taken = c .before .before .before .before .before .before .before .before .before .before .octets-line in
     let line = c .before .before .before .before .before .before .before .n .given in
     let f : List ℕ → List ℕ → List ℕ = λ names rest. readThird (a .types .now) names rest in

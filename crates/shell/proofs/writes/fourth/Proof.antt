@@ -1,4 +1,4 @@
-use borrow.Author.Needs.{needs}
+-- Made by tools/answers.py from answers/writes/fourth.ans: edit that. 19fe530542a5dc27
 use Prim.Native.Nat.{ℕ}
 use mathlib.Core.Path.{sym, ap, _∙_}
 use mathlib.Core.List.{List}
@@ -7,6 +7,7 @@ use lib.ListN.{drop}
 use Rattle.jer.specs.Programs.{writeFourth, writeShown}
 use Rattle.lines.proofs.ShownLaws.{shown-as}
 use Rattle.shell.proofs.LineLaws.{octets-refused, octets-given}
+use borrow.Author.Needs.{needs}
 use Rattle.shell.proofs.writes.fourth.Statement.{statement}
 use Rattle.shell.proofs.writes.fourth.Tie as tie
 
@@ -30,7 +31,8 @@ same-length c = search needs
 
 returns : tie.Need-returns
 unfolding writeFourth
-returns c = let a = c .before .before .before .before .before .before .before .before .before .before .before .before .before .before .args in
+returns c =
+    let a = c .before .before .before .before .before .before .before .before .before .before .before .before .before .before .args in
     shown-as (a .out .now) 0 (octets-refused 4 (a .s .now) (a .p) (λ pool rest. writeShown (a .types .now) (a .names .now) (a .values .now) pool) (sym (c .before .before .before .before .enum-told .given .1) ∙ c .before .before .before .before .before .before .before .octets-line .ensures .0)) (c .before .before .put-bad-line .ensures)
 
 slice-aggregate-part : tie.Need-slice-aggregate-part
@@ -47,7 +49,8 @@ same-length-2 c = search needs
 
 returns-2 : tie.Need-returns-2
 unfolding writeFourth
-returns-2 c = let a = c .before .before .before .before .before .before .before .before .before .before .before .before .before .before .before .before .before .args in
+returns-2 c =
+    let a = c .before .before .before .before .before .before .before .before .before .before .before .before .before .before .before .before .before .args in
     let taken = c .before .before .before .before .before .before .before .before .before .before .octets-line in
     let line = c .before .before .before .before .before .before .before .n .given in
     let f : List ℕ → List ℕ → List ℕ = λ pool rest. writeShown (a .types .now) (a .names .now) (a .values .now) pool in

@@ -1,4 +1,4 @@
-use borrow.Author.Needs.{needs}
+-- Made by tools/answers.py from answers/writes/third.ans: edit that. b9d15b5dbb105cd0
 use Prim.Native.Nat.{ℕ}
 use mathlib.Core.Path.{sym, ap, _∙_}
 use mathlib.Core.List.{List}
@@ -7,6 +7,7 @@ use lib.ListN.{drop}
 use Rattle.jer.specs.Programs.{writeThird, writeFourth}
 use Rattle.lines.proofs.ShownLaws.{shown-as}
 use Rattle.shell.proofs.LineLaws.{numbers-refused, numbers-given}
+use borrow.Author.Needs.{needs}
 use Rattle.shell.proofs.writes.third.Statement.{statement}
 use Rattle.shell.proofs.writes.third.Tie as tie
 
@@ -30,7 +31,8 @@ same-length c = search needs
 
 returns : tie.Need-returns
 unfolding writeThird
-returns c = let a = c .before .before .before .before .before .before .before .before .before .before .before .before .before .args in
+returns c =
+    let a = c .before .before .before .before .before .before .before .before .before .before .before .before .before .args in
     shown-as (a .out .now) 0 (numbers-refused 3 (a .s .now) (a .p) (λ values rest. writeFourth (a .types .now) (a .names .now) values rest) (sym (c .before .before .before .before .enum-told .given .1) ∙ c .before .before .before .before .before .before .before .numbers-line .ensures .0)) (c .before .before .put-bad-line .ensures)
 
 slice-aggregate-first-numbers : tie.Need-slice-aggregate-first-numbers
@@ -47,7 +49,8 @@ same-length-2 c = search needs
 
 returns-2 : tie.Need-returns-2
 unfolding writeThird
-returns-2 c = let a = c .before .before .before .before .before .before .before .before .before .before .before .before .before .before .before .before .args in
+returns-2 c =
+    let a = c .before .before .before .before .before .before .before .before .before .before .before .before .before .before .before .before .args in
     let taken = c .before .before .before .before .before .before .before .before .before .before .numbers-line in
     let line = c .before .before .before .before .before .before .before .n .given in
     let f : List ℕ → List ℕ → List ℕ = λ values rest. writeFourth (a .types .now) (a .names .now) values rest in

@@ -1,3 +1,4 @@
+-- Made by tools/answers.py from answers/close/bounded.ans: edit that. 45c67f4de327301e
 use Rattle.typed.proofs.FoundLaws.{bounded-refused, bounded-rows, bounded-bytes, bounded-read}
 use borrow.Author.Needs.{needs}
 use Rattle.typed.proofs.close.bounded.Statement.{statement}

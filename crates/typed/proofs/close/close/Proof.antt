@@ -1,3 +1,4 @@
+-- Made by tools/answers.py from answers/close/close.ans: edit that. 247f38dfb46b0250
 use mathlib.Core.Path.{ap, _∙_}
 use mathlib.Core.List.{[], _∷_}
 use Prim.Native.Nat.{ℕ, _*_}
@@ -25,10 +26,7 @@ same-length : tie.Need-same-length
 same-length c = search needs
 
 returns : tie.Need-returns
-returns c =
-    let c₅ = c .before .before .before .before .before in
-    let entry = c₅ .before .before in
-    (c .bounded .ensures, λ l. c .before .before .before .put-row .ensures ∙ ap (λ (x : ℕ). sets (entry .args .rows .now) (entry .args .i * 4) (entry .args .kind ∷ entry .args .a ∷ 0 ∷ x ∷ [])) (c .before .before .before .before .narrow .ensures l))
+returns c = (c .bounded .ensures, λ l. c .before .before .before .put-row .ensures ∙ ap (λ (x : ℕ). sets (c .before .before .before .before .before .before .before .args .rows .now) (c .before .before .before .before .before .before .before .args .i * 4) (c .before .before .before .before .before .before .before .args .kind ∷ c .before .before .before .before .before .before .before .args .a ∷ 0 ∷ x ∷ [])) (c .before .before .before .before .narrow .ensures l))
 
 pub close-spec : {M : Type 1} → statement M
 close-spec =

@@ -1,6 +1,7 @@
+-- Made by tools/answers.py from answers/close/close_array.ans: edit that. 0234ee5b8b4b143e
 use mathlib.Core.Path.{refl, sym, _∙_}
-use borrow.Author.Needs.{needs}
 use Rattle.typed.specs.Cycle.{stops, closes}
+use borrow.Author.Needs.{needs}
 use Rattle.typed.proofs.close.close_array.Statement.{statement}
 use Rattle.typed.proofs.close.close_array.Tie as tie
 
@@ -23,9 +24,16 @@ same-length : tie.Need-same-length
 same-length c = search needs
 
 returns-2 : tie.Need-returns-2
-returns-2 c =
-    let c₅ = c .before .before .before .before .before in
-    λ ns. closes (sym (c₅ .q .given .1) ∙ c₅ .before .before .surplus .ensures ns) (c .before .before .close .ensures .0) (c .before .before .close .ensures .1)
+returns-2 c = λ ns. closes (sym (c .before .before .before .before .before .q .given .1) ∙ c .before .before .before .before .before .before .before .surplus .ensures ns) (c .before .before .close .ensures .0) (c .before .before .close .ensures .1)
 
 pub close-array-spec : {M : Type 1} → statement M
-close-array-spec = tie.close (tie.spec surplus-requires enum-known-e enum-known-q close-requires returns same-length returns-2)
+close-array-spec =
+    tie.close
+    (tie.spec
+    surplus-requires
+    enum-known-e
+    enum-known-q
+    close-requires
+    returns
+    same-length
+    returns-2)

@@ -1,3 +1,4 @@
+-- Made by tools/answers.py from answers/cycle/+array+choice+each_member+list+object+plain+value.ans: edit that. 60250a6900dc05c4
 use Prim.Native.Nat.{ℕ, _<_, _≤_, _+_, _-_, _*_}
 use mathlib.Core.Path.{_≡_, refl, sym, ap, _∙_}
 use native.Mathlib.Omega.{arith}
@@ -50,13 +51,6 @@ use Rattle.leaf.proofs.missing.missing.Reads as missing-reads
 use Rattle.leaf.proofs.refused.Reads as refused-reads
 use Rattle.leaf.proofs.store.narrow.Reads as narrow-reads
 use Rattle.leaf.proofs.store.put_row.Reads as put-row-reads
-use Rattle.typed.proofs.close.bounded.Reads as bounded-reads
-use Rattle.typed.proofs.close.close.Reads as close-reads
-use Rattle.typed.proofs.close.close_array.Reads as close-array-reads
-use Rattle.typed.proofs.members.element_found.Reads as element-found-reads
-use Rattle.typed.proofs.members.member_found.Reads as member-found-reads
-use Rattle.typed.proofs.members.one_at.Reads as one-at-reads
-use Rattle.typed.proofs.members.unknown.Reads as unknown-reads
 use Rattle.scan.proofs.met.bit.Reads as bit-reads
 use Rattle.scan.proofs.met.ones.Reads as ones-reads
 use Rattle.scan.proofs.met.with.Reads as with-reads
@@ -68,6 +62,13 @@ use Rattle.scan.proofs.parts.token_at.Reads as token-at-reads
 use Rattle.scan.proofs.scan.Reads as scan-reads
 use Rattle.tokens.proofs.cursor.Cursor.advance.Reads as advance-reads
 use Rattle.tokens.proofs.cursor.Cursor.skip_space.Reads as skip-space-reads
+use Rattle.typed.proofs.close.bounded.Reads as bounded-reads
+use Rattle.typed.proofs.close.close.Reads as close-reads
+use Rattle.typed.proofs.close.close_array.Reads as close-array-reads
+use Rattle.typed.proofs.members.element_found.Reads as element-found-reads
+use Rattle.typed.proofs.members.member_found.Reads as member-found-reads
+use Rattle.typed.proofs.members.one_at.Reads as one-at-reads
+use Rattle.typed.proofs.members.unknown.Reads as unknown-reads
 use Rattle.types.proofs.row.Row.at.Reads as at-reads
 use Rattle.types.proofs.row.Row.is_array.Reads as is-array-reads
 use Rattle.types.proofs.row.Row.is_unwrapped.Reads as is-unwrapped-reads
@@ -113,12 +114,10 @@ abbrev choice-below : ℕ → In 5 choice-kinds.ps
 choice-below t = and 5 choice-kinds.ps (falls 5 choice-kinds.ps _<_ μ-choice t) choice.Pre
 
 abbrev each-member-at : ℕ → In 5 each-member-kinds.ps
-each-member-at t =
-    and 5 each-member-kinds.ps (is 5 each-member-kinds.ps μ-each-member t) each-member.Pre
+each-member-at t = and 5 each-member-kinds.ps (is 5 each-member-kinds.ps μ-each-member t) each-member.Pre
 
 abbrev each-member-below : ℕ → In 5 each-member-kinds.ps
-each-member-below t =
-    and 5 each-member-kinds.ps (falls 5 each-member-kinds.ps _<_ μ-each-member t) each-member.Pre
+each-member-below t = and 5 each-member-kinds.ps (falls 5 each-member-kinds.ps _<_ μ-each-member t) each-member.Pre
 
 abbrev list-at : ℕ → In 5 list-kinds.ps
 list-at t = and 5 list-kinds.ps (is 5 list-kinds.ps μ-list t) list.Pre
@@ -166,12 +165,10 @@ abbrev value-calls : ℕ → value-lts.Claims
 value-calls t = (token-at-reads.Asked, token-at-reads.Learnt, at-reads.Asked, at-reads.Learnt, is-unwrapped-reads.Asked, is-unwrapped-reads.Learnt, plain-below t, plain.Post, alternative-reads.Asked, alternative-reads.Learnt, unknown-reads.Asked, unknown-reads.Learnt, type-at-reads.Asked, type-at-reads.Learnt, close-reads.Asked, close-reads.Learnt)
 
 abbrev array-Inv-loop : array-lts.InvT-loop
-array-Inv-loop types names s rows₀ pool₀ row p i o d count next₀ k₀ present₀ n₀ m₀ rows pool next k present n m =
-    (count ≡ countOf (table types names) row) × (count ≤ 64) × Near (65539 + d) next × Elements (λ q u. readAt (d - 1) (table types names) s q u) (d - 1) (table types names) s row p (elementsAt (λ q u. readAt (d - 1) (table types names) s q u) (d - 1) (table types names) s row p 0 (countOf (table types names) row) (firstPart s 0x5D p)) next i o n m k present rows rows₀ pool pool₀ × (k ≤ count)
+array-Inv-loop types names s rows₀ pool₀ row p i o d count next₀ k₀ present₀ n₀ m₀ rows pool next k present n m = (count ≡ countOf (table types names) row) × (count ≤ 64) × Near (65539 + d) next × Elements (λ q u. readAt (d - 1) (table types names) s q u) (d - 1) (table types names) s row p (elementsAt (λ q u. readAt (d - 1) (table types names) s q u) (d - 1) (table types names) s row p 0 (countOf (table types names) row) (firstPart s 0x5D p)) next i o n m k present rows rows₀ pool pool₀ × (k ≤ count)
 
 abbrev array-μ-loop : array-lts.MeasureT-loop
-array-μ-loop types names s rows₀ pool₀ row p i o d count next₀ k₀ present₀ n₀ m₀ rows pool next k present n m =
-    count - k
+array-μ-loop types names s rows₀ pool₀ row p i o d count next₀ k₀ present₀ n₀ m₀ rows pool next k present n m = count - k
 
 array-count-of-requires : (t : ℕ) → array-lts.Need-count-of-requires (array-calls t) (array-at t) array.Post array-Inv-loop array-μ-loop
 array-count-of-requires t c κs = search needs
@@ -181,21 +178,19 @@ array-first-part-requires t c κs = search needs
 
 array-loop-holds : (t : ℕ) → array-lts.Need-loop-holds (array-calls t) (array-at t) array.Post array-Inv-loop array-μ-loop
 array-loop-holds t c =
-    let c₅ = c .before .before .before .before .before in
-    let entry = c₅ .before .before in
-    let names = entry .args .names .now in
-    let tab = table (entry .args .types .now) names in
-    let s = entry .args .s .now in
-    let d = entry .args .d in
+    let names = c .before .before .before .before .before .before .before .args .names .now in
+    let tab = table (c .before .before .before .before .before .before .before .args .types .now) names in
+    let s = c .before .before .before .before .before .before .before .args .s .now in
+    let d = c .before .before .before .before .before .before .before .args .d in
     let first = c .first-part .result in
     let first-part-said = c .first-part .ensures in
-    (c .before .count-of .ensures names, omega (arith, (entry .pre .1 .0) .sane .few (entry .args .row) ((entry .pre .1 .0) .typed), c .before .count-of .ensures names), near-first s 0x5D (entry .args .p) (65539 + d) first ((entry .pre .1 .0) .short) (entry .pre .1 .1 .0) (omega (arith, entry .pre .1 .1 .1)) first-part-said, elements-start (λ q u. readAt (d - 1) tab s q u) (d - 1) tab s (entry .args .row) (entry .args .p) (firstPart s 0x5D (entry .args .p)) first (entry .args .i) (entry .args .o) (entry .args .rows .now) (entry .args .pool .now) first-part-said, omega arith)
+    let entry = (c .before .before .before .before .before .before .before) in
+    (c .before .count-of .ensures names, omega (arith, (c .before .before .before .before .before .before .before .pre .1 .0) .sane .few (c .before .before .before .before .before .before .before .args .row) ((c .before .before .before .before .before .before .before .pre .1 .0) .typed), c .before .count-of .ensures names), near-first s 0x5D (c .before .before .before .before .before .before .before .args .p) (65539 + d) first ((c .before .before .before .before .before .before .before .pre .1 .0) .short) (c .before .before .before .before .before .before .before .pre .1 .1 .0) (omega (arith, c .before .before .before .before .before .before .before .pre .1 .1 .1)) first-part-said, elements-start (λ q u. readAt (d - 1) tab s q u) (d - 1) tab s (c .before .before .before .before .before .before .before .args .row) (c .before .before .before .before .before .before .before .args .p) (firstPart s 0x5D (c .before .before .before .before .before .before .before .args .p)) first (c .before .before .before .before .before .before .before .args .i) (c .before .before .before .before .before .before .before .args .o) (c .before .before .before .before .before .before .before .args .rows .now) (c .before .before .before .before .before .before .before .args .pool .now) first-part-said, omega arith)
 
 array-element-found-requires : (t : ℕ) → array-lts.Need-element-found-requires (array-calls t) (array-at t) array.Post array-Inv-loop array-μ-loop
 array-element-found-requires t c κs =
-    let c₅ = c .before .before .before .before .before in
-    let entry = c₅ .before .before .before .before in
-    ((entry .pre .1 .0) .short, near-follows (65539 + entry .args .d) 4294967295 (c .before .loop .next) (omega (arith, (entry .pre .1 .0) .rowRoom)) (omega arith) (c .before .loop .inv .2))
+    let entry = (c .before .before .before .before .before .before .before .before .before) in
+    ((c .before .before .before .before .before .before .before .before .before .pre .1 .0) .short, near-follows (65539 + c .before .before .before .before .before .before .before .before .before .args .d) 4294967295 (c .before .loop .next) (omega (arith, (c .before .before .before .before .before .before .before .before .before .pre .1 .0) .rowRoom)) (omega arith) (c .before .loop .inv .2))
 
 array-enum-known-f : (t : ℕ) → array-lts.Need-enum-known-f (array-calls t) (array-at t) array.Post array-Inv-loop array-μ-loop
 array-enum-known-f t c = search needs
@@ -220,20 +215,17 @@ array-loop-less t c = search needs
 
 array-loop-again : (t : ℕ) → array-lts.Need-loop-again (array-calls t) (array-at t) array.Post array-Inv-loop array-μ-loop
 array-loop-again t c =
-    let c₅ = c .before .before .before .before .before in
-    let c₁₀ = c₅ .before .before .before .before .before in
-    let c₁₅ = c₁₀ .before .before .before .before .before in
-    let loop = c₅ .before .before .before .before .loop in
-    let entry = c₁₅ .before .before in
-    let f = c₅ .f in
+    let names = c .before .before .before .before .before .before .before .before .before .before .before .before .before .before .before .before .before .args .names .now in
+    let tab = table (c .before .before .before .before .before .before .before .before .before .before .before .before .before .before .before .before .before .args .types .now) names in
+    let s = c .before .before .before .before .before .before .before .before .before .before .before .before .before .before .before .before .before .args .s .now in
+    let d = c .before .before .before .before .before .before .before .before .before .before .before .before .before .before .before .before .before .args .d in
+    let loop = c .before .before .before .before .before .before .before .before .before .loop in
     let loop-inv = loop .inv .0 in
-    let names = entry .args .names .now in
-    let tab = table (entry .args .types .now) names in
-    let s = entry .args .s .now in
-    let d = entry .args .d in
-    let back = sym (f .given .1) ∙ c₅ .before .before .element-found .ensures names in
-    let loop-test-yes = c₅ .before .before .before .loop-test .taken in
-    (loop-inv, loop .inv .1, near-absent tab s (entry .args .row) (loop .k) (65539 + d) (loop .next) (f .given .0 .0) ((entry .pre .1 .0) .short) (omega (arith, entry .pre .1 .1 .1)) (loop .inv .2) back, elements-absent (λ q u. readAt (d - 1) tab s q u) (d - 1) tab s (entry .args .row) (entry .args .p) (loop .inv .3) (rw (← loop-inv) (c₅ .before .before .before .loop-test .taken)) back (c .before .before .put-row .ensures) (c .before .before .put-row .kept .0), omega (arith, loop-test-yes))
+    let loop-test-yes = c .before .before .before .before .before .before .before .before .loop-test .taken in
+    let entry = (c .before .before .before .before .before .before .before .before .before .before .before .before .before .before .before .before .before) in
+    let f = c .before .before .before .before .before .f in
+    let back = sym (f .given .1) ∙ c .before .before .before .before .before .before .before .element-found .ensures names in
+    (loop-inv, loop .inv .1, near-absent tab s (c .before .before .before .before .before .before .before .before .before .before .before .before .before .before .before .before .before .args .row) (loop .k) (65539 + d) (loop .next) (f .given .0 .0) ((c .before .before .before .before .before .before .before .before .before .before .before .before .before .before .before .before .before .pre .1 .0) .short) (omega (arith, c .before .before .before .before .before .before .before .before .before .before .before .before .before .before .before .before .before .pre .1 .1 .1)) (loop .inv .2) back, elements-absent (λ q u. readAt (d - 1) tab s q u) (d - 1) tab s (c .before .before .before .before .before .before .before .before .before .before .before .before .before .before .before .before .before .args .row) (c .before .before .before .before .before .before .before .before .before .before .before .before .before .before .before .before .before .args .p) (loop .inv .3) (rw (← loop-inv) (c .before .before .before .before .before .before .before .before .loop-test .taken)) back (c .before .before .put-row .ensures) (c .before .before .put-row .kept .0), omega (arith, loop-test-yes))
 
 array-enum-known-q : (t : ℕ) → array-lts.Need-enum-known-q (array-calls t) (array-at t) array.Post array-Inv-loop array-μ-loop
 array-enum-known-q t c = search needs
@@ -258,17 +250,12 @@ array-same-length-2 t c = search needs
 
 array-returns : (t : ℕ) → array-lts.Need-returns (array-calls t) (array-at t) array.Post array-Inv-loop array-μ-loop
 array-returns t c =
-    let c₅ = c .before .before .before .before .before in
-    let c₁₀ = c₅ .before .before .before .before .before in
-    let c₁₅ = c₁₀ .before .before .before .before .before in
-    let c₂₀ = c₁₅ .before .before .before .before .before in
-    let entry = c₂₀ in
-    let loop = c₁₀ .before .before .loop in
-    let q₂ = c₅ .before .before .before .q in
-    let names = entry .args .names .now in
-    let tab = table (entry .args .types .now) names in
-    let s = entry .args .s .now in
-    reads-no (over-no tab (entry .args .row) (array-no (λ q u. readAt (entry .args .d - 1) tab s q u) tab s (entry .args .row) (entry .args .p) (entry .args .d - 1) (elements-lost (λ q u. readAt (entry .args .d - 1) tab s q u) (entry .args .d - 1) tab s (entry .args .row) (entry .args .p) (loop .inv .3) (rw (← loop .inv .0) (c₁₀ .before .loop-test .taken)) (sym (q₂ .given .1) ∙ c₁₀ .element-found .ensures names) (missing-no tab (entry .args .row) (entry .args .p) (loop .k) (q₂ .given .0 .0) (not-took tab (typeAt tab (entry .args .row) (loop .k)) _ (c .before .e .given .0 .0) (sym (c .before .e .given .1) ∙ (c₅ .missing .ensures names (loop .pool) (entry .args .o + loop .m)) .answer))))))
+    let names = c .before .before .before .before .before .before .before .before .before .before .before .before .before .before .before .before .before .before .before .before .args .names .now in
+    let tab = table (c .before .before .before .before .before .before .before .before .before .before .before .before .before .before .before .before .before .before .before .before .args .types .now) names in
+    let s = c .before .before .before .before .before .before .before .before .before .before .before .before .before .before .before .before .before .before .before .before .args .s .now in
+    let loop = c .before .before .before .before .before .before .before .before .before .before .before .before .loop in
+    let q₂ = c .before .before .before .before .before .before .before .before .q in
+    reads-no (over-no tab (c .before .before .before .before .before .before .before .before .before .before .before .before .before .before .before .before .before .before .before .before .args .row) (array-no (λ q u. readAt (c .before .before .before .before .before .before .before .before .before .before .before .before .before .before .before .before .before .before .before .before .args .d - 1) tab s q u) tab s (c .before .before .before .before .before .before .before .before .before .before .before .before .before .before .before .before .before .before .before .before .args .row) (c .before .before .before .before .before .before .before .before .before .before .before .before .before .before .before .before .before .before .before .before .args .p) (c .before .before .before .before .before .before .before .before .before .before .before .before .before .before .before .before .before .before .before .before .args .d - 1) (elements-lost (λ q u. readAt (c .before .before .before .before .before .before .before .before .before .before .before .before .before .before .before .before .before .before .before .before .args .d - 1) tab s q u) (c .before .before .before .before .before .before .before .before .before .before .before .before .before .before .before .before .before .before .before .before .args .d - 1) tab s (c .before .before .before .before .before .before .before .before .before .before .before .before .before .before .before .before .before .before .before .before .args .row) (c .before .before .before .before .before .before .before .before .before .before .before .before .before .before .before .before .before .before .before .before .args .p) (loop .inv .3) (rw (← loop .inv .0) (c .before .before .before .before .before .before .before .before .before .before .before .loop-test .taken)) (sym (q₂ .given .1) ∙ c .before .before .before .before .before .before .before .before .before .before .element-found .ensures names) (missing-no tab (c .before .before .before .before .before .before .before .before .before .before .before .before .before .before .before .before .before .before .before .before .args .row) (c .before .before .before .before .before .before .before .before .before .before .before .before .before .before .before .before .before .before .before .before .args .p) (loop .k) (q₂ .given .0 .0) (not-took tab (typeAt tab (c .before .before .before .before .before .before .before .before .before .before .before .before .before .before .before .before .before .before .before .before .args .row) (loop .k)) _ (c .before .e .given .0 .0) (sym (c .before .e .given .1) ∙ (c .before .before .before .before .before .missing .ensures names (loop .pool) (c .before .before .before .before .before .before .before .before .before .before .before .before .before .before .before .before .before .before .before .before .args .o + loop .m)) .answer))))))
 
 array-enum-known-a : (t : ℕ) → array-lts.Need-enum-known-a (array-calls t) (array-at t) array.Post array-Inv-loop array-μ-loop
 array-enum-known-a t c = search needs
@@ -278,29 +265,21 @@ array-with-requires t c κs = search needs
 
 array-add-n-2 : (t : ℕ) → array-lts.Need-add-n-2 (array-calls t) (array-at t) array.Post array-Inv-loop array-μ-loop
 array-add-n-2 t c =
-    let c₅ = c .before .before .before .before .before in
-    let c₁₀ = c₅ .before .before .before .before .before in
-    let c₁₅ = c₁₀ .before .before .before .before .before in
-    let c₂₀ = c₁₅ .before .before .before .before .before in
-    let entry = c₂₀ .before in
-    let loop = c₁₀ .before .before .before .loop in
-    let names = entry .args .names .now in
-    let tab = table (entry .args .types .now) names in
-    let q = c₅ .before .before .before .before .q .given .0 .0 in
-    omega (arith, missing-small tab (entry .args .row) (entry .args .p) (loop .k) q (took tab (typeAt tab (entry .args .row) (loop .k)) (ending q (missingElement tab (entry .args .row) (entry .args .p) (loop .k))) (c .before .before .a .given .0 .0) (c .before .before .a .given .0 .1 .0) (c .before .before .a .given .0 .1 .1 .0) (sym (c .before .before .a .given .1) ∙ (c₅ .before .missing .ensures names (loop .pool) (entry .args .o + loop .m)) .answer)) .0, loop .inv .3 .done .sofar .fewRows, loop .inv .1, c₁₀ .before .before .loop-test .taken)
+    let names = c .before .before .before .before .before .before .before .before .before .before .before .before .before .before .before .before .before .before .before .before .before .args .names .now in
+    let tab = table (c .before .before .before .before .before .before .before .before .before .before .before .before .before .before .before .before .before .before .before .before .before .args .types .now) names in
+    let loop = c .before .before .before .before .before .before .before .before .before .before .before .before .before .loop in
+    let entry = (c .before .before .before .before .before .before .before .before .before .before .before .before .before .before .before .before .before .before .before .before .before) in
+    let q = c .before .before .before .before .before .before .before .before .before .q .given .0 .0 in
+    omega (arith, missing-small tab (c .before .before .before .before .before .before .before .before .before .before .before .before .before .before .before .before .before .before .before .before .before .args .row) (c .before .before .before .before .before .before .before .before .before .before .before .before .before .before .before .before .before .before .before .before .before .args .p) (loop .k) q (took tab (typeAt tab (c .before .before .before .before .before .before .before .before .before .before .before .before .before .before .before .before .before .before .before .before .before .args .row) (loop .k)) (ending q (missingElement tab (c .before .before .before .before .before .before .before .before .before .before .before .before .before .before .before .before .before .before .before .before .before .args .row) (c .before .before .before .before .before .before .before .before .before .before .before .before .before .before .before .before .before .before .before .before .before .args .p) (loop .k))) (c .before .before .a .given .0 .0) (c .before .before .a .given .0 .1 .0) (c .before .before .a .given .0 .1 .1 .0) (sym (c .before .before .a .given .1) ∙ (c .before .before .before .before .before .before .missing .ensures names (loop .pool) (c .before .before .before .before .before .before .before .before .before .before .before .before .before .before .before .before .before .before .before .before .before .args .o + loop .m)) .answer)) .0, loop .inv .3 .done .sofar .fewRows, loop .inv .1, c .before .before .before .before .before .before .before .before .before .before .before .before .loop-test .taken)
 
 array-add-m : (t : ℕ) → array-lts.Need-add-m (array-calls t) (array-at t) array.Post array-Inv-loop array-μ-loop
 array-add-m t c =
-    let c₅ = c .before .before .before .before .before in
-    let c₁₀ = c₅ .before .before .before .before .before in
-    let c₁₅ = c₁₀ .before .before .before .before .before in
-    let c₂₀ = c₁₅ .before .before .before .before .before in
-    let entry = c₂₀ .before in
-    let loop = c₁₀ .before .before .before .loop in
-    let names = entry .args .names .now in
-    let tab = table (entry .args .types .now) names in
-    let q = c₅ .before .before .before .before .q .given .0 .0 in
-    omega (arith, missing-small tab (entry .args .row) (entry .args .p) (loop .k) q (took tab (typeAt tab (entry .args .row) (loop .k)) (ending q (missingElement tab (entry .args .row) (entry .args .p) (loop .k))) (c .before .before .a .given .0 .0) (c .before .before .a .given .0 .1 .0) (c .before .before .a .given .0 .1 .1 .0) (sym (c .before .before .a .given .1) ∙ (c₅ .before .missing .ensures names (loop .pool) (entry .args .o + loop .m)) .answer)) .1, loop .inv .3 .done .sofar .fewBytes, loop .inv .1, c₁₀ .before .before .loop-test .taken)
+    let names = c .before .before .before .before .before .before .before .before .before .before .before .before .before .before .before .before .before .before .before .before .before .args .names .now in
+    let tab = table (c .before .before .before .before .before .before .before .before .before .before .before .before .before .before .before .before .before .before .before .before .before .args .types .now) names in
+    let loop = c .before .before .before .before .before .before .before .before .before .before .before .before .before .loop in
+    let entry = (c .before .before .before .before .before .before .before .before .before .before .before .before .before .before .before .before .before .before .before .before .before) in
+    let q = c .before .before .before .before .before .before .before .before .before .q .given .0 .0 in
+    omega (arith, missing-small tab (c .before .before .before .before .before .before .before .before .before .before .before .before .before .before .before .before .before .before .before .before .before .args .row) (c .before .before .before .before .before .before .before .before .before .before .before .before .before .before .before .before .before .before .before .before .before .args .p) (loop .k) q (took tab (typeAt tab (c .before .before .before .before .before .before .before .before .before .before .before .before .before .before .before .before .before .before .before .before .before .args .row) (loop .k)) (ending q (missingElement tab (c .before .before .before .before .before .before .before .before .before .before .before .before .before .before .before .before .before .before .before .before .before .args .row) (c .before .before .before .before .before .before .before .before .before .before .before .before .before .before .before .before .before .before .before .before .before .args .p) (loop .k))) (c .before .before .a .given .0 .0) (c .before .before .a .given .0 .1 .0) (c .before .before .a .given .0 .1 .1 .0) (sym (c .before .before .a .given .1) ∙ (c .before .before .before .before .before .before .missing .ensures names (loop .pool) (c .before .before .before .before .before .before .before .before .before .before .before .before .before .before .before .before .before .before .before .before .before .args .o + loop .m)) .answer)) .1, loop .inv .3 .done .sofar .fewBytes, loop .inv .1, c .before .before .before .before .before .before .before .before .before .before .before .before .loop-test .taken)
 
 array-add-k-2 : (t : ℕ) → array-lts.Need-add-k-2 (array-calls t) (array-at t) array.Post array-Inv-loop array-μ-loop
 array-add-k-2 t c = search needs
@@ -310,21 +289,17 @@ array-loop-less-2 t c = search needs
 
 array-loop-again-2 : (t : ℕ) → array-lts.Need-loop-again-2 (array-calls t) (array-at t) array.Post array-Inv-loop array-μ-loop
 array-loop-again-2 t c =
-    let c₅ = c .before .before .before .before .before in
-    let c₁₀ = c₅ .before .before .before .before .before in
-    let c₁₅ = c₁₀ .before .before .before .before .before in
-    let c₂₀ = c₁₅ .before .before .before .before .before in
-    let loop = c₁₀ .before .before .before .loop in
-    let entry = c₂₀ .before in
-    let q₂ = c₅ .before .before .before .before .q in
-    let missing = c₅ .before .missing in
+    let names = c .before .before .before .before .before .before .before .before .before .before .before .before .before .before .before .before .before .before .before .before .before .args .names .now in
+    let tab = table (c .before .before .before .before .before .before .before .before .before .before .before .before .before .before .before .before .before .before .before .before .before .args .types .now) names in
+    let s = c .before .before .before .before .before .before .before .before .before .before .before .before .before .before .before .before .before .before .before .before .before .args .s .now in
+    let loop = c .before .before .before .before .before .before .before .before .before .before .before .before .before .loop in
     let loop-inv = loop .inv .0 in
-    let names = entry .args .names .now in
-    let tab = table (entry .args .types .now) names in
-    let s = entry .args .s .now in
-    let took′ = took tab (typeAt tab (entry .args .row) (loop .k)) (ending (q₂ .given .0 .0) (missingElement tab (entry .args .row) (entry .args .p) (loop .k))) (c .before .before .a .given .0 .0) (c .before .before .a .given .0 .1 .0) (c .before .before .a .given .0 .1 .1 .0) (sym (c .before .before .a .given .1) ∙ (missing .ensures names (loop .pool) (entry .args .o + loop .m)) .answer) in
-    let loop-test-yes = c₁₀ .before .before .loop-test .taken in
-    (loop-inv, loop .inv .1, loop .inv .2, elements-null (λ q u. readAt (entry .args .d - 1) tab s q u) (entry .args .d - 1) tab s (entry .args .row) (entry .args .p) (loop .inv .3) (rw (← loop-inv) (c₁₀ .before .before .loop-test .taken)) (sym (q₂ .given .1) ∙ c₁₀ .before .element-found .ensures names) took′ (missing .ensures names (loop .pool) (entry .args .o + loop .m)) (missing-small tab (entry .args .row) (entry .args .p) (loop .k) (q₂ .given .0 .0) took′ .0) (missing-small tab (entry .args .row) (entry .args .p) (loop .k) (q₂ .given .0 .0) took′ .1) (missing .kept .1 .0) refl (c .with .ensures), omega (arith, loop-test-yes))
+    let loop-test-yes = c .before .before .before .before .before .before .before .before .before .before .before .before .loop-test .taken in
+    let q₂ = c .before .before .before .before .before .before .before .before .before .q in
+    let entry = (c .before .before .before .before .before .before .before .before .before .before .before .before .before .before .before .before .before .before .before .before .before) in
+    let missing = c .before .before .before .before .before .before .missing in
+    let took′ = took tab (typeAt tab (c .before .before .before .before .before .before .before .before .before .before .before .before .before .before .before .before .before .before .before .before .before .args .row) (loop .k)) (ending (q₂ .given .0 .0) (missingElement tab (c .before .before .before .before .before .before .before .before .before .before .before .before .before .before .before .before .before .before .before .before .before .args .row) (c .before .before .before .before .before .before .before .before .before .before .before .before .before .before .before .before .before .before .before .before .before .args .p) (loop .k))) (c .before .before .a .given .0 .0) (c .before .before .a .given .0 .1 .0) (c .before .before .a .given .0 .1 .1 .0) (sym (c .before .before .a .given .1) ∙ (missing .ensures names (loop .pool) (c .before .before .before .before .before .before .before .before .before .before .before .before .before .before .before .before .before .before .before .before .before .args .o + loop .m)) .answer) in
+    (loop-inv, loop .inv .1, loop .inv .2, elements-null (λ q u. readAt (c .before .before .before .before .before .before .before .before .before .before .before .before .before .before .before .before .before .before .before .before .before .args .d - 1) tab s q u) (c .before .before .before .before .before .before .before .before .before .before .before .before .before .before .before .before .before .before .before .before .before .args .d - 1) tab s (c .before .before .before .before .before .before .before .before .before .before .before .before .before .before .before .before .before .before .before .before .before .args .row) (c .before .before .before .before .before .before .before .before .before .before .before .before .before .before .before .before .before .before .before .before .before .args .p) (loop .inv .3) (rw (← loop-inv) (c .before .before .before .before .before .before .before .before .before .before .before .before .loop-test .taken)) (sym (q₂ .given .1) ∙ c .before .before .before .before .before .before .before .before .before .before .before .element-found .ensures names) took′ (missing .ensures names (loop .pool) (c .before .before .before .before .before .before .before .before .before .before .before .before .before .before .before .before .before .before .before .before .before .args .o + loop .m)) (missing-small tab (c .before .before .before .before .before .before .before .before .before .before .before .before .before .before .before .before .before .before .before .before .before .args .row) (c .before .before .before .before .before .before .before .before .before .before .before .before .before .before .before .before .before .before .before .before .before .args .p) (loop .k) (q₂ .given .0 .0) took′ .0) (missing-small tab (c .before .before .before .before .before .before .before .before .before .before .before .before .before .before .before .before .before .before .before .before .before .args .row) (c .before .before .before .before .before .before .before .before .before .before .before .before .before .before .before .before .before .before .before .before .before .args .p) (loop .k) (q₂ .given .0 .0) took′ .1) (missing .kept .1 .0) refl (c .with .ensures), omega (arith, loop-test-yes))
 
 array-enum-known-q-2 : (t : ℕ) → array-lts.Need-enum-known-q-2 (array-calls t) (array-at t) array.Post array-Inv-loop array-μ-loop
 array-enum-known-q-2 t c = search needs
@@ -346,15 +321,12 @@ array-sub-value t c = search needs
 
 array-value-requires : (t : ℕ) → array-lts.Need-value-requires (array-calls t) (array-at t) array.Post array-Inv-loop array-μ-loop
 array-value-requires t c κs =
-    let c₅ = c .before .before .before .before .before in
-    let c₁₀ = c₅ .before .before .before .before .before in
-    let c₁₅ = c₁₀ .before .before .before .before .before in
-    let entry = c₁₅ .before in
-    let loop = c₅ .before .before .before .loop in
-    let names = entry .args .names .now in
+    let names = c .before .before .before .before .before .before .before .before .before .before .before .before .before .before .before .before .args .names .now in
+    let loop = c .before .before .before .before .before .before .before .before .loop in
+    let loop-test-yes = c .before .before .before .before .before .before .before .loop-test .taken in
+    let entry = (c .before .before .before .before .before .before .before .before .before .before .before .before .before .before .before .before) in
     let loop-inv = loop .inv .1 in
-    let loop-test-yes = c₅ .before .before .loop-test .taken in
-    (omega arith, given-part (entry .pre .1 .0) (entry .pre .1 .1 .1) (rw (c .before .before .type-at .ensures names) ((entry .pre .1 .0) .sane .member (entry .args .row) (loop .k) ((entry .pre .1 .0) .typed) (rw (← loop .inv .0) (c₅ .before .before .loop-test .taken)))) (omega (arith, near-there (table (entry .args .types .now) names) (entry .args .s .now) (entry .args .row) (loop .k) (65539 + entry .args .d) (loop .next) (loop .inv .2) (sym (c .before .before .before .before .q2 .given .1) ∙ c₅ .before .element-found .ensures names))) (omega (arith, loop .inv .3 .done .sofar .fewRows, loop-inv, loop-test-yes)) (omega (arith, loop .inv .3 .done .sofar .fewBytes, loop-inv, loop-test-yes)))
+    (omega arith, given-part (c .before .before .before .before .before .before .before .before .before .before .before .before .before .before .before .before .pre .1 .0) (c .before .before .before .before .before .before .before .before .before .before .before .before .before .before .before .before .pre .1 .1 .1) (rw (c .before .before .type-at .ensures names) ((c .before .before .before .before .before .before .before .before .before .before .before .before .before .before .before .before .pre .1 .0) .sane .member (c .before .before .before .before .before .before .before .before .before .before .before .before .before .before .before .before .args .row) (loop .k) ((c .before .before .before .before .before .before .before .before .before .before .before .before .before .before .before .before .pre .1 .0) .typed) (rw (← loop .inv .0) (c .before .before .before .before .before .before .before .loop-test .taken)))) (omega (arith, near-there (table (c .before .before .before .before .before .before .before .before .before .before .before .before .before .before .before .before .args .types .now) names) (c .before .before .before .before .before .before .before .before .before .before .before .before .before .before .before .before .args .s .now) (c .before .before .before .before .before .before .before .before .before .before .before .before .before .before .before .before .args .row) (loop .k) (65539 + c .before .before .before .before .before .before .before .before .before .before .before .before .before .before .before .before .args .d) (loop .next) (loop .inv .2) (sym (c .before .before .before .before .q2 .given .1) ∙ c .before .before .before .before .before .before .element-found .ensures names))) (omega (arith, loop .inv .3 .done .sofar .fewRows, loop-inv, loop-test-yes)) (omega (arith, loop .inv .3 .done .sofar .fewBytes, loop-inv, loop-test-yes)))
 
 array-enum-known-e-2 : (t : ℕ) → array-lts.Need-enum-known-e-2 (array-calls t) (array-at t) array.Post array-Inv-loop array-μ-loop
 array-enum-known-e-2 t c = search needs
@@ -367,62 +339,43 @@ array-same-length-4 t c = search needs
 
 array-returns-2 : (t : ℕ) → array-lts.Need-returns-2 (array-calls t) (array-at t) array.Post array-Inv-loop array-μ-loop
 array-returns-2 t c =
-    let c₅ = c .before .before .before .before .before in
-    let c₁₀ = c₅ .before .before .before .before .before in
-    let c₁₅ = c₁₀ .before .before .before .before .before in
-    let c₂₀ = c₁₅ .before .before .before .before .before in
-    let entry = c₂₀ .before .before .before .before in
-    let loop = c₁₅ .before .loop in
-    let q2 = c₁₀ .before .before .q2 in
-    let names = entry .args .names .now in
-    let tab = table (entry .args .types .now) names in
-    let s = entry .args .s .now in
-    reads-no (over-no tab (entry .args .row) (array-no (λ q u. readAt (entry .args .d - 1) tab s q u) tab s (entry .args .row) (entry .args .p) (entry .args .d - 1) (elements-refused (λ q u. readAt (entry .args .d - 1) tab s q u) (entry .args .d - 1) tab s (entry .args .row) (entry .args .p) (loop .inv .3) (rw (← loop .inv .0) (c₁₅ .loop-test .taken)) (sym (q2 .given .1) ∙ c₁₀ .before .before .before .before .element-found .ensures names) (failed (at-row (λ q u. readAt (entry .args .d - 1) tab s q u) (q2 .given .0 .0) (c₁₀ .type-at .ensures names) (c₅ .before .before .value .ensures)) (c .before .e2 .given .1)))))
+    let names = c .before .before .before .before .before .before .before .before .before .before .before .before .before .before .before .before .before .before .before .before .before .before .before .before .args .names .now in
+    let tab = table (c .before .before .before .before .before .before .before .before .before .before .before .before .before .before .before .before .before .before .before .before .before .before .before .before .args .types .now) names in
+    let s = c .before .before .before .before .before .before .before .before .before .before .before .before .before .before .before .before .before .before .before .before .before .before .before .before .args .s .now in
+    let loop = c .before .before .before .before .before .before .before .before .before .before .before .before .before .before .before .before .loop in
+    let q2 = c .before .before .before .before .before .before .before .before .before .before .before .before .q2 in
+    reads-no (over-no tab (c .before .before .before .before .before .before .before .before .before .before .before .before .before .before .before .before .before .before .before .before .before .before .before .before .args .row) (array-no (λ q u. readAt (c .before .before .before .before .before .before .before .before .before .before .before .before .before .before .before .before .before .before .before .before .before .before .before .before .args .d - 1) tab s q u) tab s (c .before .before .before .before .before .before .before .before .before .before .before .before .before .before .before .before .before .before .before .before .before .before .before .before .args .row) (c .before .before .before .before .before .before .before .before .before .before .before .before .before .before .before .before .before .before .before .before .before .before .before .before .args .p) (c .before .before .before .before .before .before .before .before .before .before .before .before .before .before .before .before .before .before .before .before .before .before .before .before .args .d - 1) (elements-refused (λ q u. readAt (c .before .before .before .before .before .before .before .before .before .before .before .before .before .before .before .before .before .before .before .before .before .before .before .before .args .d - 1) tab s q u) (c .before .before .before .before .before .before .before .before .before .before .before .before .before .before .before .before .before .before .before .before .before .before .before .before .args .d - 1) tab s (c .before .before .before .before .before .before .before .before .before .before .before .before .before .before .before .before .before .before .before .before .before .before .before .before .args .row) (c .before .before .before .before .before .before .before .before .before .before .before .before .before .before .before .before .before .before .before .before .before .before .before .before .args .p) (loop .inv .3) (rw (← loop .inv .0) (c .before .before .before .before .before .before .before .before .before .before .before .before .before .before .before .loop-test .taken)) (sym (q2 .given .1) ∙ c .before .before .before .before .before .before .before .before .before .before .before .before .before .before .element-found .ensures names) (failed (at-row (λ q u. readAt (c .before .before .before .before .before .before .before .before .before .before .before .before .before .before .before .before .before .before .before .before .before .before .before .before .args .d - 1) tab s q u) (q2 .given .0 .0) (c .before .before .before .before .before .before .before .before .before .before .type-at .ensures names) (c .before .before .before .before .before .before .before .value .ensures)) (c .before .e2 .given .1)))))
 
 array-enum-known-end : (t : ℕ) → array-lts.Need-enum-known-end (array-calls t) (array-at t) array.Post array-Inv-loop array-μ-loop
 array-enum-known-end t c = search needs
 
 array-after-part-requires : (t : ℕ) → array-lts.Need-after-part-requires (array-calls t) (array-at t) array.Post array-Inv-loop array-μ-loop
 array-after-part-requires t c κs =
-    let c₅ = c .before .before .before .before .before in
-    let c₁₀ = c₅ .before .before .before .before .before in
-    let c₁₅ = c₁₀ .before .before .before .before .before in
-    let c₂₀ = c₁₅ .before .before .before .before .before in
-    let entry = c₂₀ .before .before .before .before in
-    let q2 = c₁₀ .before .before .q2 in
-    let loop = c₁₅ .before .loop in
-    let d = entry .args .d in
-    let names = entry .args .names .now in
-    let tab = table (entry .args .types .now) names in
-    let s = entry .args .s .now in
-    ((entry .pre .1 .0) .short, omega (arith, (passed (at-row (λ q u. readAt (d - 1) tab s q u) (q2 .given .0 .0) (c₁₀ .type-at .ensures names) (c₅ .before .before .value .ensures)) (c .before .end .given .1)) .near, near-there tab s (entry .args .row) (loop .k) (65539 + d) (loop .next) (loop .inv .2) (sym (q2 .given .1) ∙ c₁₀ .before .before .before .before .element-found .ensures names), (entry .pre .1 .0) .rowRoom))
+    let names = c .before .before .before .before .before .before .before .before .before .before .before .before .before .before .before .before .before .before .before .before .before .before .before .before .args .names .now in
+    let tab = table (c .before .before .before .before .before .before .before .before .before .before .before .before .before .before .before .before .before .before .before .before .before .before .before .before .args .types .now) names in
+    let s = c .before .before .before .before .before .before .before .before .before .before .before .before .before .before .before .before .before .before .before .before .before .before .before .before .args .s .now in
+    let d = c .before .before .before .before .before .before .before .before .before .before .before .before .before .before .before .before .before .before .before .before .before .before .before .before .args .d in
+    let loop = c .before .before .before .before .before .before .before .before .before .before .before .before .before .before .before .before .loop in
+    let q2 = c .before .before .before .before .before .before .before .before .before .before .before .before .q2 in
+    let entry = (c .before .before .before .before .before .before .before .before .before .before .before .before .before .before .before .before .before .before .before .before .before .before .before .before) in
+    ((c .before .before .before .before .before .before .before .before .before .before .before .before .before .before .before .before .before .before .before .before .before .before .before .before .pre .1 .0) .short, omega (arith, (passed (at-row (λ q u. readAt (d - 1) tab s q u) (q2 .given .0 .0) (c .before .before .before .before .before .before .before .before .before .before .type-at .ensures names) (c .before .before .before .before .before .before .before .value .ensures)) (c .before .end .given .1)) .near, near-there tab s (c .before .before .before .before .before .before .before .before .before .before .before .before .before .before .before .before .before .before .before .before .before .before .before .before .args .row) (loop .k) (65539 + d) (loop .next) (loop .inv .2) (sym (q2 .given .1) ∙ c .before .before .before .before .before .before .before .before .before .before .before .before .before .before .element-found .ensures names), (c .before .before .before .before .before .before .before .before .before .before .before .before .before .before .before .before .before .before .before .before .before .before .before .before .pre .1 .0) .rowRoom))
 
 array-with-requires-2 : (t : ℕ) → array-lts.Need-with-requires-2 (array-calls t) (array-at t) array.Post array-Inv-loop array-μ-loop
 array-with-requires-2 t c κs = search needs
 
 array-add-n-3 : (t : ℕ) → array-lts.Need-add-n-3 (array-calls t) (array-at t) array.Post array-Inv-loop array-μ-loop
 array-add-n-3 t c =
-    let c₅ = c .before .before .before .before .before in
-    let c₁₀ = c₅ .before .before .before .before .before in
-    let c₁₅ = c₁₀ .before .before .before .before .before in
-    let c₂₀ = c₁₅ .before .before .before .before .before in
-    let c₂₅ = c₂₀ .before .before .before .before .before in
-    let entry = c₂₅ .before in
-    let loop = c₁₅ .before .before .before .loop in
-    let names = entry .args .names .now in
-    omega (arith, (passed (at-row (λ q u. readAt (entry .args .d - 1) (table (entry .args .types .now) names) (entry .args .s .now) q u) (c₁₀ .before .before .before .before .q2 .given .0 .0) (c₁₀ .before .before .type-at .ensures names) (c₅ .before .before .before .before .value .ensures)) (c .before .before .before .end .given .1)) .fewRows, loop .inv .3 .done .sofar .fewRows, loop .inv .1, c₁₅ .before .before .loop-test .taken)
+    let names = c .before .before .before .before .before .before .before .before .before .before .before .before .before .before .before .before .before .before .before .before .before .before .before .before .before .before .args .names .now in
+    let loop = c .before .before .before .before .before .before .before .before .before .before .before .before .before .before .before .before .before .before .loop in
+    let entry = (c .before .before .before .before .before .before .before .before .before .before .before .before .before .before .before .before .before .before .before .before .before .before .before .before .before .before) in
+    omega (arith, (passed (at-row (λ q u. readAt (c .before .before .before .before .before .before .before .before .before .before .before .before .before .before .before .before .before .before .before .before .before .before .before .before .before .before .args .d - 1) (table (c .before .before .before .before .before .before .before .before .before .before .before .before .before .before .before .before .before .before .before .before .before .before .before .before .before .before .args .types .now) names) (c .before .before .before .before .before .before .before .before .before .before .before .before .before .before .before .before .before .before .before .before .before .before .before .before .before .before .args .s .now) q u) (c .before .before .before .before .before .before .before .before .before .before .before .before .before .before .q2 .given .0 .0) (c .before .before .before .before .before .before .before .before .before .before .before .before .type-at .ensures names) (c .before .before .before .before .before .before .before .before .before .value .ensures)) (c .before .before .before .end .given .1)) .fewRows, loop .inv .3 .done .sofar .fewRows, loop .inv .1, c .before .before .before .before .before .before .before .before .before .before .before .before .before .before .before .before .before .loop-test .taken)
 
 array-add-m-2 : (t : ℕ) → array-lts.Need-add-m-2 (array-calls t) (array-at t) array.Post array-Inv-loop array-μ-loop
 array-add-m-2 t c =
-    let c₅ = c .before .before .before .before .before in
-    let c₁₀ = c₅ .before .before .before .before .before in
-    let c₁₅ = c₁₀ .before .before .before .before .before in
-    let c₂₀ = c₁₅ .before .before .before .before .before in
-    let c₂₅ = c₂₀ .before .before .before .before .before in
-    let entry = c₂₅ .before in
-    let loop = c₁₅ .before .before .before .loop in
-    let names = entry .args .names .now in
-    omega (arith, (passed (at-row (λ q u. readAt (entry .args .d - 1) (table (entry .args .types .now) names) (entry .args .s .now) q u) (c₁₀ .before .before .before .before .q2 .given .0 .0) (c₁₀ .before .before .type-at .ensures names) (c₅ .before .before .before .before .value .ensures)) (c .before .before .before .end .given .1)) .fewBytes, loop .inv .3 .done .sofar .fewBytes, loop .inv .1, c₁₅ .before .before .loop-test .taken)
+    let names = c .before .before .before .before .before .before .before .before .before .before .before .before .before .before .before .before .before .before .before .before .before .before .before .before .before .before .args .names .now in
+    let loop = c .before .before .before .before .before .before .before .before .before .before .before .before .before .before .before .before .before .before .loop in
+    let entry = (c .before .before .before .before .before .before .before .before .before .before .before .before .before .before .before .before .before .before .before .before .before .before .before .before .before .before) in
+    omega (arith, (passed (at-row (λ q u. readAt (c .before .before .before .before .before .before .before .before .before .before .before .before .before .before .before .before .before .before .before .before .before .before .before .before .before .before .args .d - 1) (table (c .before .before .before .before .before .before .before .before .before .before .before .before .before .before .before .before .before .before .before .before .before .before .before .before .before .before .args .types .now) names) (c .before .before .before .before .before .before .before .before .before .before .before .before .before .before .before .before .before .before .before .before .before .before .before .before .before .before .args .s .now) q u) (c .before .before .before .before .before .before .before .before .before .before .before .before .before .before .q2 .given .0 .0) (c .before .before .before .before .before .before .before .before .before .before .before .before .type-at .ensures names) (c .before .before .before .before .before .before .before .before .before .value .ensures)) (c .before .before .before .end .given .1)) .fewBytes, loop .inv .3 .done .sofar .fewBytes, loop .inv .1, c .before .before .before .before .before .before .before .before .before .before .before .before .before .before .before .before .before .loop-test .taken)
 
 array-add-k-3 : (t : ℕ) → array-lts.Need-add-k-3 (array-calls t) (array-at t) array.Post array-Inv-loop array-μ-loop
 array-add-k-3 t c = search needs
@@ -432,37 +385,30 @@ array-loop-less-3 t c = search needs
 
 array-loop-again-3 : (t : ℕ) → array-lts.Need-loop-again-3 (array-calls t) (array-at t) array.Post array-Inv-loop array-μ-loop
 array-loop-again-3 t c =
-    let c₅ = c .before .before .before .before .before in
-    let c₁₀ = c₅ .before .before .before .before .before in
-    let c₁₅ = c₁₀ .before .before .before .before .before in
-    let c₂₀ = c₁₅ .before .before .before .before .before in
-    let c₂₅ = c₂₀ .before .before .before .before .before in
-    let loop = c₁₅ .before .before .before .loop in
-    let entry = c₂₅ .before in
-    let q2 = c₁₀ .before .before .before .before .q2 in
-    let value₂ = c₅ .before .before .before .before .value in
+    let names = c .before .before .before .before .before .before .before .before .before .before .before .before .before .before .before .before .before .before .before .before .before .before .before .before .before .before .args .names .now in
+    let tab = table (c .before .before .before .before .before .before .before .before .before .before .before .before .before .before .before .before .before .before .before .before .before .before .before .before .before .before .args .types .now) names in
+    let s = c .before .before .before .before .before .before .before .before .before .before .before .before .before .before .before .before .before .before .before .before .before .before .before .before .before .before .args .s .now in
+    let d = c .before .before .before .before .before .before .before .before .before .before .before .before .before .before .before .before .before .before .before .before .before .before .before .before .before .before .args .d in
+    let loop = c .before .before .before .before .before .before .before .before .before .before .before .before .before .before .before .before .before .before .loop in
     let loop-inv = loop .inv .0 in
-    let s = entry .args .s .now in
-    let d = entry .args .d in
+    let loop-test-yes = c .before .before .before .before .before .before .before .before .before .before .before .before .before .before .before .before .before .loop-test .taken in
+    let q2 = c .before .before .before .before .before .before .before .before .before .before .before .before .before .before .q2 in
+    let value₂ = c .before .before .before .before .before .before .before .before .before .value in
     let it = 65539 + d in
-    let names = entry .args .names .now in
-    let tab = table (entry .args .types .now) names in
-    let there = at-row (λ q u. readAt (d - 1) tab s q u) (q2 .given .0 .0) (c₁₀ .before .before .type-at .ensures names) (value₂ .ensures) in
-    let went = passed there (c .before .before .before .end .given .1) in
-    let back = sym (q2 .given .1) ∙ c₁₅ .before .element-found .ensures names in
     let after-part-said = c .before .after-part .ensures in
-    let loop-test-yes = c₁₅ .before .before .loop-test .taken in
-    (loop-inv, loop .inv .1, near-after s (c .before .before .before .end .given .0 .0) it (c .before .after-part .result) ((entry .pre .1 .0) .short) (omega (arith, went .near, near-there tab s (entry .args .row) (loop .k) it (loop .next) (loop .inv .2) back, entry .pre .1 .1 .1)) (omega arith) after-part-said, elements-more (λ q u. readAt (d - 1) tab s q u) (d - 1) tab s (entry .args .row) (entry .args .p) (loop .inv .3) (rw (← loop-inv) (c₁₅ .before .before .loop-test .taken)) back (went .took) (there .stepped) (went .fewRows) (went .fewBytes) (value₂ .kept .1 .1 .1 .0) (value₂ .kept .1 .1 .1 .1 .0) (c .with2 .ensures) after-part-said, omega (arith, loop-test-yes))
+    let entry = (c .before .before .before .before .before .before .before .before .before .before .before .before .before .before .before .before .before .before .before .before .before .before .before .before .before .before) in
+    let there = at-row (λ q u. readAt (d - 1) tab s q u) (q2 .given .0 .0) (c .before .before .before .before .before .before .before .before .before .before .before .before .type-at .ensures names) (value₂ .ensures) in
+    let went = passed there (c .before .before .before .end .given .1) in
+    let back = sym (q2 .given .1) ∙ c .before .before .before .before .before .before .before .before .before .before .before .before .before .before .before .before .element-found .ensures names in
+    (loop-inv, loop .inv .1, near-after s (c .before .before .before .end .given .0 .0) it (c .before .after-part .result) ((c .before .before .before .before .before .before .before .before .before .before .before .before .before .before .before .before .before .before .before .before .before .before .before .before .before .before .pre .1 .0) .short) (omega (arith, went .near, near-there tab s (c .before .before .before .before .before .before .before .before .before .before .before .before .before .before .before .before .before .before .before .before .before .before .before .before .before .before .args .row) (loop .k) it (loop .next) (loop .inv .2) back, c .before .before .before .before .before .before .before .before .before .before .before .before .before .before .before .before .before .before .before .before .before .before .before .before .before .before .pre .1 .1 .1)) (omega arith) after-part-said, elements-more (λ q u. readAt (d - 1) tab s q u) (d - 1) tab s (c .before .before .before .before .before .before .before .before .before .before .before .before .before .before .before .before .before .before .before .before .before .before .before .before .before .before .args .row) (c .before .before .before .before .before .before .before .before .before .before .before .before .before .before .before .before .before .before .before .before .before .before .before .before .before .before .args .p) (loop .inv .3) (rw (← loop-inv) (c .before .before .before .before .before .before .before .before .before .before .before .before .before .before .before .before .before .loop-test .taken)) back (went .took) (there .stepped) (went .fewRows) (went .fewBytes) (value₂ .kept .1 .1 .1 .0) (value₂ .kept .1 .1 .1 .1 .0) (c .with2 .ensures) after-part-said, omega (arith, loop-test-yes))
 
 array-ones-requires : (t : ℕ) → array-lts.Need-ones-requires (array-calls t) (array-at t) array.Post array-Inv-loop array-μ-loop
 array-ones-requires t c κs = search needs
 
 array-close-array-requires : (t : ℕ) → array-lts.Need-close-array-requires (array-calls t) (array-at t) array.Post array-Inv-loop array-μ-loop
 array-close-array-requires t c κs =
-    let c₅ = c .before .before .before .before .before in
-    let c₁₀ = c₅ .before .before .before .before .before in
-    let entry = c₁₀ .before in
-    ((entry .pre .1 .0) .short, entry .pre .1 .1 .1, omega (arith, (entry .pre .1 .0) .rowRoom), omega (arith, c .before .before .before .loop .inv .3 .done .sofar .fewRows, c .before .before .before .loop .inv .4, c .before .before .before .loop .inv .1))
+    let entry = (c .before .before .before .before .before .before .before .before .before .before .before) in
+    ((c .before .before .before .before .before .before .before .before .before .before .before .pre .1 .0) .short, c .before .before .before .before .before .before .before .before .before .before .before .pre .1 .1 .1, omega (arith, (c .before .before .before .before .before .before .before .before .before .before .before .pre .1 .0) .rowRoom), omega (arith, c .before .before .before .loop .inv .3 .done .sofar .fewRows, c .before .before .before .loop .inv .4, c .before .before .before .loop .inv .1))
 
 array-same-length-5 : (t : ℕ) → array-lts.Need-same-length-5 (array-calls t) (array-at t) array.Post array-Inv-loop array-μ-loop
 array-same-length-5 t c = search needs
@@ -472,14 +418,12 @@ array-same-length-6 t c = search needs
 
 array-returns-3 : (t : ℕ) → array-lts.Need-returns-3 (array-calls t) (array-at t) array.Post array-Inv-loop array-μ-loop
 array-returns-3 t c =
-    let c₅ = c .before .before .before .before .before in
-    let c₁₀ = c₅ .before .before .before .before .before in
-    let entry = c₁₀ .before .before .before .before in
-    let loop = c₅ .before .loop in
-    let names = entry .args .names .now in
-    let tab = table (entry .args .types .now) names in
-    let s = entry .args .s .now in
-    array-end (λ q u. readAt (entry .args .d - 1) tab s q u) tab s (entry .args .row) (entry .args .p) (entry .args .d - 1) (loop .inv .3) (omega (arith, loop .inv .0, c₅ .loop-test .left)) (entry .pre .1 .1 .2) (c .before .before .before .ones .ensures) ((entry .pre .1 .0) .short) (omega (arith, entry .pre .1 .1 .1)) (omega (arith, entry .pre .1 .1 .0, (entry .pre .1 .0) .short)) (loop .inv .2) (c .before .before .close-array .ensures names)
+    let names = c .before .before .before .before .before .before .before .before .before .before .before .before .before .before .args .names .now in
+    let tab = table (c .before .before .before .before .before .before .before .before .before .before .before .before .before .before .args .types .now) names in
+    let s = c .before .before .before .before .before .before .before .before .before .before .before .before .before .before .args .s .now in
+    let loop = c .before .before .before .before .before .before .loop in
+    let entry = (c .before .before .before .before .before .before .before .before .before .before .before .before .before .before) in
+    array-end (λ q u. readAt (c .before .before .before .before .before .before .before .before .before .before .before .before .before .before .args .d - 1) tab s q u) tab s (c .before .before .before .before .before .before .before .before .before .before .before .before .before .before .args .row) (c .before .before .before .before .before .before .before .before .before .before .before .before .before .before .args .p) (c .before .before .before .before .before .before .before .before .before .before .before .before .before .before .args .d - 1) (loop .inv .3) (omega (arith, loop .inv .0, c .before .before .before .before .before .loop-test .left)) (c .before .before .before .before .before .before .before .before .before .before .before .before .before .before .pre .1 .1 .2) (c .before .before .before .ones .ensures) ((c .before .before .before .before .before .before .before .before .before .before .before .before .before .before .pre .1 .0) .short) (omega (arith, c .before .before .before .before .before .before .before .before .before .before .before .before .before .before .pre .1 .1 .1)) (omega (arith, c .before .before .before .before .before .before .before .before .before .before .before .before .before .before .pre .1 .1 .0, (c .before .before .before .before .before .before .before .before .before .before .before .before .before .before .pre .1 .0) .short)) (loop .inv .2) (c .before .before .close-array .ensures names)
 
 choice-sub-one-at : (t : ℕ) → choice-lts.Need-sub-one-at (choice-calls t) (choice-at t) choice.Post
 choice-sub-one-at t c = search needs
@@ -497,10 +441,7 @@ choice-enum-known-q : (t : ℕ) → choice-lts.Need-enum-known-q (choice-calls t
 choice-enum-known-q t c = search needs
 
 choice-position-requires : (t : ℕ) → choice-lts.Need-position-requires (choice-calls t) (choice-at t) choice.Post
-choice-position-requires t c κs =
-    let c₅ = c .before .before .before .before .before in
-    let entry = c₅ .before .before .before .before in
-    ((entry .pre .1 .0) .short, one-near (entry .args .d - 1) (entry .args .s .now) (entry .args .p) ((entry .pre .1 .0) .short) (entry .pre .1 .1 .0) (sym (c .before .q .given .1) ∙ c .before .before .before .one-at .ensures))
+choice-position-requires t c κs = ((c .before .before .before .before .before .before .before .before .before .pre .1 .0) .short, one-near (c .before .before .before .before .before .before .before .before .before .args .d - 1) (c .before .before .before .before .before .before .before .before .before .args .s .now) (c .before .before .before .before .before .before .before .before .before .args .p) ((c .before .before .before .before .before .before .before .before .before .pre .1 .0) .short) (c .before .before .before .before .before .before .before .before .before .pre .1 .1 .0) (sym (c .before .q .given .1) ∙ c .before .before .before .one-at .ensures))
 
 choice-enum-told-2 : (t : ℕ) → choice-lts.Need-enum-told-2 (choice-calls t) (choice-at t) choice.Post
 choice-enum-told-2 t c = search needs
@@ -515,11 +456,7 @@ choice-type-at-requires : (t : ℕ) → choice-lts.Need-type-at-requires (choice
 choice-type-at-requires t c κs = search needs
 
 choice-value-place-requires : (t : ℕ) → choice-lts.Need-value-place-requires (choice-calls t) (choice-at t) choice.Post
-choice-value-place-requires t c κs =
-    let c₅ = c .before .before .before .before .before in
-    let c₁₀ = c₅ .before .before .before .before .before in
-    let entry = c₁₀ .before .before .before .before in
-    ((entry .pre .1 .0) .short, one-near (entry .args .d - 1) (entry .args .s .now) (entry .args .p) ((entry .pre .1 .0) .short) (entry .pre .1 .1 .0) (sym (c₅ .before .q .given .1) ∙ c₅ .before .before .before .one-at .ensures))
+choice-value-place-requires t c κs = ((c .before .before .before .before .before .before .before .before .before .before .before .before .before .before .pre .1 .0) .short, one-near (c .before .before .before .before .before .before .before .before .before .before .before .before .before .before .args .d - 1) (c .before .before .before .before .before .before .before .before .before .before .before .before .before .before .args .s .now) (c .before .before .before .before .before .before .before .before .before .before .before .before .before .before .args .p) ((c .before .before .before .before .before .before .before .before .before .before .before .before .before .before .pre .1 .0) .short) (c .before .before .before .before .before .before .before .before .before .before .before .before .before .before .pre .1 .1 .0) (sym (c .before .before .before .before .before .before .q .given .1) ∙ c .before .before .before .before .before .before .before .before .one-at .ensures))
 
 choice-add-value : (t : ℕ) → choice-lts.Need-add-value (choice-calls t) (choice-at t) choice.Post
 choice-add-value t c = search needs
@@ -529,13 +466,10 @@ choice-sub-value t c = search needs
 
 choice-value-requires : (t : ℕ) → choice-lts.Need-value-requires (choice-calls t) (choice-at t) choice.Post
 choice-value-requires t c κs =
-    let c₅ = c .before .before .before .before .before in
-    let c₁₀ = c₅ .before .before .before .before .before in
-    let c₁₅ = c₁₀ .before .before .before .before .before in
-    let entry = c₁₅ .before .before in
-    let k = c₅ .k in
-    let names = entry .args .names .now in
-    (omega arith, given-one (entry .pre .1 .0) (entry .pre .1 .1 .1) (rw (c .before .before .before .type-at .ensures names) ((entry .pre .1 .0) .sane .member (entry .args .row) (k .given .0 .0) ((entry .pre .1 .0) .typed) (position-found (table (entry .args .types .now) names) (entry .args .row) (denoted (entry .args .s .now) (c₅ .before .before .before .before .q .given .0 .0 + 1)) (k .given .0 .0) (found-some _ (sym (k .given .1) ∙ c₅ .before .before .position .ensures)) .1))) (omega (arith, c .before .before .value-place .ensures .1)))
+    let names = c .before .before .before .before .before .before .before .before .before .before .before .before .before .before .before .before .before .args .names .now in
+    let k = c .before .before .before .before .before .k in
+    let entry = (c .before .before .before .before .before .before .before .before .before .before .before .before .before .before .before .before .before) in
+    (omega arith, given-one (c .before .before .before .before .before .before .before .before .before .before .before .before .before .before .before .before .before .pre .1 .0) (c .before .before .before .before .before .before .before .before .before .before .before .before .before .before .before .before .before .pre .1 .1 .1) (rw (c .before .before .before .type-at .ensures names) ((c .before .before .before .before .before .before .before .before .before .before .before .before .before .before .before .before .before .pre .1 .0) .sane .member (c .before .before .before .before .before .before .before .before .before .before .before .before .before .before .before .before .before .args .row) (k .given .0 .0) ((c .before .before .before .before .before .before .before .before .before .before .before .before .before .before .before .before .before .pre .1 .0) .typed) (position-found (table (c .before .before .before .before .before .before .before .before .before .before .before .before .before .before .before .before .before .args .types .now) names) (c .before .before .before .before .before .before .before .before .before .before .before .before .before .before .before .before .before .args .row) (denoted (c .before .before .before .before .before .before .before .before .before .before .before .before .before .before .before .before .before .args .s .now) (c .before .before .before .before .before .before .before .before .before .q .given .0 .0 + 1)) (k .given .0 .0) (found-some _ (sym (k .given .1) ∙ c .before .before .before .before .before .before .before .position .ensures)) .1))) (omega (arith, c .before .before .value-place .ensures .1)))
 
 choice-enum-known-e : (t : ℕ) → choice-lts.Need-enum-known-e (choice-calls t) (choice-at t) choice.Post
 choice-enum-known-e t c = search needs
@@ -547,37 +481,28 @@ choice-skip-space-requires : (t : ℕ) → choice-lts.Need-skip-space-requires (
 choice-skip-space-requires t c κs = search needs
 
 choice-advance-requires : (t : ℕ) → choice-lts.Need-advance-requires (choice-calls t) (choice-at t) choice.Post
-choice-advance-requires t c κs = let z : c .skip-space .result .at + 1 < 18446744073709551616 = omega (arith, c .skip-space .ensures, c .before .before .before .before .before .before .before .before .before .before .before .value-place .ensures .1, (c .before .before .before .before .before .before .before .before .before .before .before .before .before .before .before .before .before .before .before .before .before .before .before .before .before .before .pre .1 .0) .rowRoom, space-within (c .before .before .before .before .before .before .before .before .before .before .before .before .before .before .before .before .before .before .before .before .before .before .before .before .before .before .args .s .now) (limit (c .before .before .before .before .before .before .before .before .before .before .before .value-place .result) + (c .before .before .before .before .before .before .before .before .before .before .before .before .before .before .before .before .before .before .before .before .before .before .before .before .before .before .args .d - 1)) (c .before .before .next .given .0 .0) (omega (arith, (c .before .before .before .before .before .before .before .before .before .before .before .before .before .before .before .before .before .before .before .before .before .before .before .before .before .before .pre .1 .0) .short)) (passed (c .before .before .before .before .before .before .before .before .value .ensures) (c .before .before .next .given .1) .near)) in z
+choice-advance-requires t c κs =
+    let z : c .skip-space .result .at + 1 < 18446744073709551616 = omega (arith, c .skip-space .ensures, c .before .before .before .before .before .before .before .before .before .before .before .value-place .ensures .1, (c .before .before .before .before .before .before .before .before .before .before .before .before .before .before .before .before .before .before .before .before .before .before .before .before .before .before .pre .1 .0) .rowRoom, space-within (c .before .before .before .before .before .before .before .before .before .before .before .before .before .before .before .before .before .before .before .before .before .before .before .before .before .before .args .s .now) (limit (c .before .before .before .before .before .before .before .before .before .before .before .value-place .result) + (c .before .before .before .before .before .before .before .before .before .before .before .before .before .before .before .before .before .before .before .before .before .before .before .before .before .before .args .d - 1)) (c .before .before .next .given .0 .0) (omega (arith, (c .before .before .before .before .before .before .before .before .before .before .before .before .before .before .before .before .before .before .before .before .before .before .before .before .before .before .pre .1 .0) .short)) (passed (c .before .before .before .before .before .before .before .before .value .ensures) (c .before .before .next .given .1) .near)) in z
 
 choice-close-requires : (t : ℕ) → choice-lts.Need-close-requires (choice-calls t) (choice-at t) choice.Post
 choice-close-requires t c κs =
-    let c₅ = c .before .before .before .before .before in
-    let c₁₀ = c₅ .before .before .before .before .before in
-    let c₁₅ = c₁₀ .before .before .before .before .before in
-    let c₂₀ = c₁₅ .before .before .before .before .before in
-    let c₂₅ = c₂₀ .before .before .before .before .before in
-    let entry = c₂₅ .before .before .before in
-    let names = entry .args .names .now in
-    (omega (arith, (entry .pre .1 .0) .rowRoom), omega (arith, (passed (at-place (λ q u. readAt (entry .args .d - 1) (table (entry .args .types .now) names) (entry .args .s .now) q u) (c₁₀ .before .before .before .before .type-at .ensures names) (c₁₀ .before .before .before .value-place .ensures .0) (c₁₀ .value .ensures)) (c .before .before .before .before .next .given .1)) .fewRows))
+    let names = c .before .before .before .before .before .before .before .before .before .before .before .before .before .before .before .before .before .before .before .before .before .before .before .before .before .before .before .before .args .names .now in
+    let entry = (c .before .before .before .before .before .before .before .before .before .before .before .before .before .before .before .before .before .before .before .before .before .before .before .before .before .before .before .before) in
+    (omega (arith, (c .before .before .before .before .before .before .before .before .before .before .before .before .before .before .before .before .before .before .before .before .before .before .before .before .before .before .before .before .pre .1 .0) .rowRoom), omega (arith, (passed (at-place (λ q u. readAt (c .before .before .before .before .before .before .before .before .before .before .before .before .before .before .before .before .before .before .before .before .before .before .before .before .before .before .before .before .args .d - 1) (table (c .before .before .before .before .before .before .before .before .before .before .before .before .before .before .before .before .before .before .before .before .before .before .before .before .before .before .before .before .args .types .now) names) (c .before .before .before .before .before .before .before .before .before .before .before .before .before .before .before .before .before .before .before .before .before .before .before .before .before .before .before .before .args .s .now) q u) (c .before .before .before .before .before .before .before .before .before .before .before .before .before .before .type-at .ensures names) (c .before .before .before .before .before .before .before .before .before .before .before .before .before .value-place .ensures .0) (c .before .before .before .before .before .before .before .before .before .before .value .ensures)) (c .before .before .before .before .next .given .1)) .fewRows))
 
 choice-returns : (t : ℕ) → choice-lts.Need-returns (choice-calls t) (choice-at t) choice.Post
 choice-returns t c =
-    let c₅ = c .before .before .before .before .before in
-    let entry = c₅ .before .before .before .before in
-    let tab = table (entry .args .types .now) (entry .args .names .now) in
-    let s = entry .args .s .now in
-    rw (c .refused .ensures) (reads-no (over-no tab (entry .args .row) (choice-not-one (λ q u. readAt (entry .args .d - 1) tab s q u) (entry .args .d - 1) tab s (entry .args .row) (entry .args .p) (sym (c .before .enum-told .given .1) ∙ c .before .before .before .one-at .ensures))))
+    let s = c .before .before .before .before .before .before .before .before .before .args .s .now in
+    let tab = table (c .before .before .before .before .before .before .before .before .before .args .types .now) (c .before .before .before .before .before .before .before .before .before .args .names .now) in
+    rw (c .refused .ensures) (reads-no (over-no tab (c .before .before .before .before .before .before .before .before .before .args .row) (choice-not-one (λ q u. readAt (c .before .before .before .before .before .before .before .before .before .args .d - 1) tab s q u) (c .before .before .before .before .before .before .before .before .before .args .d - 1) tab s (c .before .before .before .before .before .before .before .before .before .args .row) (c .before .before .before .before .before .before .before .before .before .args .p) (sym (c .before .enum-told .given .1) ∙ c .before .before .before .one-at .ensures))))
 
 choice-returns-2 : (t : ℕ) → choice-lts.Need-returns-2 (choice-calls t) (choice-at t) choice.Post
 choice-returns-2 t c =
-    let c₅ = c .before .before .before .before .before in
-    let c₁₀ = c₅ .before .before .before .before .before in
-    let entry = c₁₀ .before .before .before in
-    let q₂ = c₅ .q in
-    let names = entry .args .names .now in
-    let tab = table (entry .args .types .now) names in
-    let s = entry .args .s .now in
-    unknown-over UnknownName (entry .args .p) (q₂ .given .0 .0) (extensible tab (entry .args .row)) (c .unknown .ensures names) (choice-none (λ q u. readAt (entry .args .d - 1) tab s q u) (entry .args .d - 1) tab s (entry .args .row) (entry .args .p) (sym (q₂ .given .1) ∙ c₅ .before .before .one-at .ensures) (found-none _ (sym (c .before .enum-told2 .given .1) ∙ c .before .before .before .position .ensures)))
+    let names = c .before .before .before .before .before .before .before .before .before .before .before .before .before .args .names .now in
+    let tab = table (c .before .before .before .before .before .before .before .before .before .before .before .before .before .args .types .now) names in
+    let s = c .before .before .before .before .before .before .before .before .before .before .before .before .before .args .s .now in
+    let q₂ = c .before .before .before .before .before .q in
+    unknown-over UnknownName (c .before .before .before .before .before .before .before .before .before .before .before .before .before .args .p) (q₂ .given .0 .0) (extensible tab (c .before .before .before .before .before .before .before .before .before .before .before .before .before .args .row)) (c .unknown .ensures names) (choice-none (λ q u. readAt (c .before .before .before .before .before .before .before .before .before .before .before .before .before .args .d - 1) tab s q u) (c .before .before .before .before .before .before .before .before .before .before .before .before .before .args .d - 1) tab s (c .before .before .before .before .before .before .before .before .before .before .before .before .before .args .row) (c .before .before .before .before .before .before .before .before .before .before .before .before .before .args .p) (sym (q₂ .given .1) ∙ c .before .before .before .before .before .before .before .one-at .ensures) (found-none _ (sym (c .before .enum-told2 .given .1) ∙ c .before .before .before .position .ensures)))
 
 choice-same-length : (t : ℕ) → choice-lts.Need-same-length (choice-calls t) (choice-at t) choice.Post
 choice-same-length t c = search needs
@@ -587,16 +512,10 @@ choice-same-length-2 t c = search needs
 
 choice-returns-3 : (t : ℕ) → choice-lts.Need-returns-3 (choice-calls t) (choice-at t) choice.Post
 choice-returns-3 t c =
-    let c₅ = c .before .before .before .before .before in
-    let c₁₀ = c₅ .before .before .before .before .before in
-    let c₁₅ = c₁₀ .before .before .before .before .before in
-    let c₂₀ = c₁₅ .before .before .before .before .before in
-    let c₂₅ = c₂₀ .before .before .before .before .before in
-    let entry = c₂₅ in
-    let names = entry .args .names .now in
-    let tab = table (entry .args .types .now) names in
-    let s = entry .args .s .now in
-    reads-no (over-no tab (entry .args .row) (choice-refused (λ q u. readAt (entry .args .d - 1) tab s q u) (entry .args .d - 1) tab s (entry .args .row) (entry .args .p) (sym (c₁₅ .before .before .q .given .1) ∙ c₁₅ .before .before .before .before .one-at .ensures) (found-some _ (sym (c₁₀ .before .before .before .k .given .1) ∙ c₁₅ .position .ensures)) (failed (at-place (λ q u. readAt (entry .args .d - 1) tab s q u) (c₁₀ .before .type-at .ensures names) (c₁₀ .value-place .ensures .0) (c₅ .before .before .value .ensures)) (c .before .e .given .1))))
+    let names = c .before .before .before .before .before .before .before .before .before .before .before .before .before .before .before .before .before .before .before .before .before .before .before .before .before .args .names .now in
+    let tab = table (c .before .before .before .before .before .before .before .before .before .before .before .before .before .before .before .before .before .before .before .before .before .before .before .before .before .args .types .now) names in
+    let s = c .before .before .before .before .before .before .before .before .before .before .before .before .before .before .before .before .before .before .before .before .before .before .before .before .before .args .s .now in
+    reads-no (over-no tab (c .before .before .before .before .before .before .before .before .before .before .before .before .before .before .before .before .before .before .before .before .before .before .before .before .before .args .row) (choice-refused (λ q u. readAt (c .before .before .before .before .before .before .before .before .before .before .before .before .before .before .before .before .before .before .before .before .before .before .before .before .before .args .d - 1) tab s q u) (c .before .before .before .before .before .before .before .before .before .before .before .before .before .before .before .before .before .before .before .before .before .before .before .before .before .args .d - 1) tab s (c .before .before .before .before .before .before .before .before .before .before .before .before .before .before .before .before .before .before .before .before .before .before .before .before .before .args .row) (c .before .before .before .before .before .before .before .before .before .before .before .before .before .before .before .before .before .before .before .before .before .before .before .before .before .args .p) (sym (c .before .before .before .before .before .before .before .before .before .before .before .before .before .before .before .before .before .q .given .1) ∙ c .before .before .before .before .before .before .before .before .before .before .before .before .before .before .before .before .before .before .before .one-at .ensures) (found-some _ (sym (c .before .before .before .before .before .before .before .before .before .before .before .before .before .k .given .1) ∙ c .before .before .before .before .before .before .before .before .before .before .before .before .before .before .before .position .ensures)) (failed (at-place (λ q u. readAt (c .before .before .before .before .before .before .before .before .before .before .before .before .before .before .before .before .before .before .before .before .before .before .before .before .before .args .d - 1) tab s q u) (c .before .before .before .before .before .before .before .before .before .before .before .type-at .ensures names) (c .before .before .before .before .before .before .before .before .before .before .value-place .ensures .0) (c .before .before .before .before .before .before .before .value .ensures)) (c .before .e .given .1))))
 
 choice-same-length-3 : (t : ℕ) → choice-lts.Need-same-length-3 (choice-calls t) (choice-at t) choice.Post
 choice-same-length-3 t c = search needs
@@ -606,42 +525,33 @@ choice-same-length-4 t c = search needs
 
 choice-returns-4 : (t : ℕ) → choice-lts.Need-returns-4 (choice-calls t) (choice-at t) choice.Post
 choice-returns-4 t c =
-    let c₅ = c .before .before .before .before .before in
-    let c₁₀ = c₅ .before .before .before .before .before in
-    let c₁₅ = c₁₀ .before .before .before .before .before in
-    let c₂₀ = c₁₅ .before .before .before .before .before in
-    let c₂₅ = c₂₀ .before .before .before .before .before in
-    let c₃₀ = c₂₅ .before .before .before .before .before in
-    let entry = c₃₀ .before in
-    let value-place = c₁₅ .before .value-place in
-    let names = entry .args .names .now in
-    let tab = table (entry .args .types .now) names in
-    let s = entry .args .s .now in
-    let value-said = c₁₀ .before .before .before .value .ensures in
-    let here = at-place (λ q u. readAt (entry .args .d - 1) tab s q u) (c₁₅ .before .before .type-at .ensures names) (value-place .ensures .0) value-said in
-    let next = c₅ .before .before .next .given .1 in
+    let names = c .before .before .before .before .before .before .before .before .before .before .before .before .before .before .before .before .before .before .before .before .before .before .before .before .before .before .before .before .before .before .before .args .names .now in
+    let tab = table (c .before .before .before .before .before .before .before .before .before .before .before .before .before .before .before .before .before .before .before .before .before .before .before .before .before .before .before .before .before .before .before .args .types .now) names in
+    let s = c .before .before .before .before .before .before .before .before .before .before .before .before .before .before .before .before .before .before .before .before .before .before .before .before .before .before .before .before .before .before .before .args .s .now in
+    let next = c .before .before .before .before .before .before .before .next .given .1 in
+    let entry = (c .before .before .before .before .before .before .before .before .before .before .before .before .before .before .before .before .before .before .before .before .before .before .before .before .before .before .before .before .before .before .before) in
+    let value-place = c .before .before .before .before .before .before .before .before .before .before .before .before .before .before .before .before .value-place in
+    let value-said = c .before .before .before .before .before .before .before .before .before .before .before .before .before .value .ensures in
+    let here = at-place (λ q u. readAt (c .before .before .before .before .before .before .before .before .before .before .before .before .before .before .before .before .before .before .before .before .before .before .before .before .before .before .before .before .before .before .before .args .d - 1) tab s q u) (c .before .before .before .before .before .before .before .before .before .before .before .before .before .before .before .before .before .type-at .ensures names) (value-place .ensures .0) value-said in
     let went = passed here next in
-    along (over-ok tab (entry .args .row) (choice-picked (λ q u. readAt (entry .args .d - 1) tab s q u) (entry .args .d - 1) tab s (entry .args .row) (entry .args .p) (sym (c₂₀ .before .before .before .q .given .1) ∙ c₂₅ .one-at .ensures) (found-some _ (sym (c₁₅ .before .before .before .before .k .given .1) ∙ c₂₀ .before .position .ensures)) (went .took .is))) (closed (whole-choice (went .took) (here .stepped) (entry .pre .1 .1 .2)) (omega (arith, space-within s (limit (value-place .result) + (entry .args .d - 1)) (went .took .g .next) (omega (arith, (entry .pre .1 .0) .short)) (omega (arith, went .took .next, passed value-said next .near)), entry .pre .1 .1 .0, entry .pre .1 .1 .1, value-place .ensures .1, (entry .pre .1 .0) .short)) (rw (sym (c .before .before .before .before .advance .ensures ∙ ap (λ (x : ℕ). x + 1) (c₅ .skip-space .ensures ∙ ap (λ (x : ℕ). pastSpace s x) (sym (went .took .next))))) (c .before .before .close .ensures .0)) (c .before .before .close .ensures .1))
+    along (over-ok tab (c .before .before .before .before .before .before .before .before .before .before .before .before .before .before .before .before .before .before .before .before .before .before .before .before .before .before .before .before .before .before .before .args .row) (choice-picked (λ q u. readAt (c .before .before .before .before .before .before .before .before .before .before .before .before .before .before .before .before .before .before .before .before .before .before .before .before .before .before .before .before .before .before .before .args .d - 1) tab s q u) (c .before .before .before .before .before .before .before .before .before .before .before .before .before .before .before .before .before .before .before .before .before .before .before .before .before .before .before .before .before .before .before .args .d - 1) tab s (c .before .before .before .before .before .before .before .before .before .before .before .before .before .before .before .before .before .before .before .before .before .before .before .before .before .before .before .before .before .before .before .args .row) (c .before .before .before .before .before .before .before .before .before .before .before .before .before .before .before .before .before .before .before .before .before .before .before .before .before .before .before .before .before .before .before .args .p) (sym (c .before .before .before .before .before .before .before .before .before .before .before .before .before .before .before .before .before .before .before .before .before .before .before .q .given .1) ∙ c .before .before .before .before .before .before .before .before .before .before .before .before .before .before .before .before .before .before .before .before .before .before .before .before .before .one-at .ensures) (found-some _ (sym (c .before .before .before .before .before .before .before .before .before .before .before .before .before .before .before .before .before .before .before .k .given .1) ∙ c .before .before .before .before .before .before .before .before .before .before .before .before .before .before .before .before .before .before .before .before .before .position .ensures)) (went .took .is))) (closed (whole-choice (went .took) (here .stepped) (c .before .before .before .before .before .before .before .before .before .before .before .before .before .before .before .before .before .before .before .before .before .before .before .before .before .before .before .before .before .before .before .pre .1 .1 .2)) (omega (arith, space-within s (limit (value-place .result) + (c .before .before .before .before .before .before .before .before .before .before .before .before .before .before .before .before .before .before .before .before .before .before .before .before .before .before .before .before .before .before .before .args .d - 1)) (went .took .g .next) (omega (arith, (c .before .before .before .before .before .before .before .before .before .before .before .before .before .before .before .before .before .before .before .before .before .before .before .before .before .before .before .before .before .before .before .pre .1 .0) .short)) (omega (arith, went .took .next, passed value-said next .near)), c .before .before .before .before .before .before .before .before .before .before .before .before .before .before .before .before .before .before .before .before .before .before .before .before .before .before .before .before .before .before .before .pre .1 .1 .0, c .before .before .before .before .before .before .before .before .before .before .before .before .before .before .before .before .before .before .before .before .before .before .before .before .before .before .before .before .before .before .before .pre .1 .1 .1, value-place .ensures .1, (c .before .before .before .before .before .before .before .before .before .before .before .before .before .before .before .before .before .before .before .before .before .before .before .before .before .before .before .before .before .before .before .pre .1 .0) .short)) (rw (sym (c .before .before .before .before .advance .ensures ∙ ap (λ (x : ℕ). x + 1) (c .before .before .before .before .before .skip-space .ensures ∙ ap (λ (x : ℕ). pastSpace s x) (sym (went .took .next))))) (c .before .before .close .ensures .0)) (c .before .before .close .ensures .1))
 
 abbrev each-member-Inv-loop : each-member-lts.InvT-loop
-each-member-Inv-loop types names s rows₀ pool₀ met row p next i o d places count k₀ present₀ n₀ m₀ rows pool k present n m =
-    (count ≡ countOf (table types names) row) × (count ≤ 64) × InOrder (λ q u. readAt (d - 1) (table types names) s q u) (table types names) s row p met places (membersAt (λ q u. readAt (d - 1) (table types names) s q u) (table types names) s row p met places 0 (countOf (table types names) row)) i o n m k present rows rows₀ pool pool₀ × (k ≤ count)
+each-member-Inv-loop types names s rows₀ pool₀ met row p next i o d places count k₀ present₀ n₀ m₀ rows pool k present n m = (count ≡ countOf (table types names) row) × (count ≤ 64) × InOrder (λ q u. readAt (d - 1) (table types names) s q u) (table types names) s row p met places (membersAt (λ q u. readAt (d - 1) (table types names) s q u) (table types names) s row p met places 0 (countOf (table types names) row)) i o n m k present rows rows₀ pool pool₀ × (k ≤ count)
 
 abbrev each-member-μ-loop : each-member-lts.MeasureT-loop
-each-member-μ-loop types names s rows₀ pool₀ met row p next i o d places count k₀ present₀ n₀ m₀ rows pool k present n m =
-    count - k
+each-member-μ-loop types names s rows₀ pool₀ met row p next i o d places count k₀ present₀ n₀ m₀ rows pool k present n m = count - k
 
 each-member-count-of-requires : (t : ℕ) → each-member-lts.Need-count-of-requires (each-member-calls t) (each-member-at t) each-member.Post each-member-Inv-loop each-member-μ-loop
 each-member-count-of-requires t c κs = search needs
 
 each-member-loop-holds : (t : ℕ) → each-member-lts.Need-loop-holds (each-member-calls t) (each-member-at t) each-member.Post each-member-Inv-loop each-member-μ-loop
 each-member-loop-holds t c =
-    let c₅ = c .before .before .before .before .before in
-    let entry = c₅ .before in
-    let names = entry .args .names .now in
-    let tab = table (entry .args .types .now) names in
-    let s = entry .args .s .now in
-    (c .count-of .ensures names, omega (arith, (entry .pre .1 .0) .sane .few (entry .args .row) ((entry .pre .1 .0) .typed), c .count-of .ensures names), order-start (λ q u. readAt (entry .args .d - 1) tab s q u) tab s (entry .args .row) (entry .args .p) (entry .args .met) (entry .args .t6) (entry .args .i) (entry .args .o) (entry .args .rows .now) (entry .args .pool .now), omega arith)
+    let names = c .before .before .before .before .before .before .args .names .now in
+    let tab = table (c .before .before .before .before .before .before .args .types .now) names in
+    let s = c .before .before .before .before .before .before .args .s .now in
+    let entry = (c .before .before .before .before .before .before) in
+    (c .count-of .ensures names, omega (arith, (c .before .before .before .before .before .before .pre .1 .0) .sane .few (c .before .before .before .before .before .before .args .row) ((c .before .before .before .before .before .before .pre .1 .0) .typed), c .count-of .ensures names), order-start (λ q u. readAt (c .before .before .before .before .before .before .args .d - 1) tab s q u) tab s (c .before .before .before .before .before .before .args .row) (c .before .before .before .before .before .before .args .p) (c .before .before .before .before .before .before .args .met) (c .before .before .before .before .before .before .args .t6) (c .before .before .before .before .before .before .args .i) (c .before .before .before .before .before .before .args .o) (c .before .before .before .before .before .before .args .rows .now) (c .before .before .before .before .before .before .args .pool .now), omega arith)
 
 each-member-wide-requires : (t : ℕ) → each-member-lts.Need-wide-requires (each-member-calls t) (each-member-at t) each-member.Post each-member-Inv-loop each-member-μ-loop
 each-member-wide-requires t c κs = search needs
@@ -675,15 +585,11 @@ each-member-same-length-2 t c = search needs
 
 each-member-returns : (t : ℕ) → each-member-lts.Need-returns (each-member-calls t) (each-member-at t) each-member.Post each-member-Inv-loop each-member-μ-loop
 each-member-returns t c =
-    let c₅ = c .before .before .before .before .before in
-    let c₁₀ = c₅ .before .before .before .before .before in
-    let c₁₅ = c₁₀ .before .before .before .before .before in
-    let entry = c₁₅ in
-    let loop = c₅ .before .before .before .loop in
-    let names = entry .args .names .now in
-    let tab = table (entry .args .types .now) names in
-    let s = entry .args .s .now in
-    rw (c .refused .ensures) (reads-no (over-no tab (entry .args .row) (object-no (λ q u. readAt (entry .args .d - 1) tab s q u) tab s (entry .args .row) (entry .args .p) (entry .args .met) (entry .args .t6) (entry .args .next) (order-missing (λ q u. readAt (entry .args .d - 1) tab s q u) tab s (entry .args .row) (entry .args .p) (entry .args .met) (entry .args .t6) (loop .inv .2) (rw (← loop .inv .0) (c₅ .before .before .loop-test .taken)) (sym (c .before .enum-told .given .1) ∙ member-is tab s (entry .args .row) (loop .k) (entry .args .met) (entry .args .t6) (c₅ .before .wide .ensures .0) (c₅ .wide2 .ensures .0) (c .before .before .before .before .bit .ensures) (c .before .before .before .member-found .ensures names))))))
+    let names = c .before .before .before .before .before .before .before .before .before .before .before .before .before .before .before .args .names .now in
+    let tab = table (c .before .before .before .before .before .before .before .before .before .before .before .before .before .before .before .args .types .now) names in
+    let s = c .before .before .before .before .before .before .before .before .before .before .before .before .before .before .before .args .s .now in
+    let loop = c .before .before .before .before .before .before .before .before .loop in
+    rw (c .refused .ensures) (reads-no (over-no tab (c .before .before .before .before .before .before .before .before .before .before .before .before .before .before .before .args .row) (object-no (λ q u. readAt (c .before .before .before .before .before .before .before .before .before .before .before .before .before .before .before .args .d - 1) tab s q u) tab s (c .before .before .before .before .before .before .before .before .before .before .before .before .before .before .before .args .row) (c .before .before .before .before .before .before .before .before .before .before .before .before .before .before .before .args .p) (c .before .before .before .before .before .before .before .before .before .before .before .before .before .before .before .args .met) (c .before .before .before .before .before .before .before .before .before .before .before .before .before .before .before .args .t6) (c .before .before .before .before .before .before .before .before .before .before .before .before .before .before .before .args .next) (order-missing (λ q u. readAt (c .before .before .before .before .before .before .before .before .before .before .before .before .before .before .before .args .d - 1) tab s q u) tab s (c .before .before .before .before .before .before .before .before .before .before .before .before .before .before .before .args .row) (c .before .before .before .before .before .before .before .before .before .before .before .before .before .before .before .args .p) (c .before .before .before .before .before .before .before .before .before .before .before .before .before .before .before .args .met) (c .before .before .before .before .before .before .before .before .before .before .before .before .before .before .before .args .t6) (loop .inv .2) (rw (← loop .inv .0) (c .before .before .before .before .before .before .before .loop-test .taken)) (sym (c .before .enum-told .given .1) ∙ member-is tab s (c .before .before .before .before .before .before .before .before .before .before .before .before .before .before .before .args .row) (loop .k) (c .before .before .before .before .before .before .before .before .before .before .before .before .before .before .before .args .met) (c .before .before .before .before .before .before .before .before .before .before .before .before .before .before .before .args .t6) (c .before .before .before .before .before .before .wide .ensures .0) (c .before .before .before .before .before .wide2 .ensures .0) (c .before .before .before .before .bit .ensures) (c .before .before .before .member-found .ensures names))))))
 
 each-member-enum-told-2 : (t : ℕ) → each-member-lts.Need-enum-told-2 (each-member-calls t) (each-member-at t) each-member.Post each-member-Inv-loop each-member-μ-loop
 each-member-enum-told-2 t c = search needs
@@ -708,17 +614,14 @@ each-member-loop-less t c = search needs
 
 each-member-loop-again : (t : ℕ) → each-member-lts.Need-loop-again (each-member-calls t) (each-member-at t) each-member.Post each-member-Inv-loop each-member-μ-loop
 each-member-loop-again t c =
-    let c₅ = c .before .before .before .before .before in
-    let c₁₀ = c₅ .before .before .before .before .before in
-    let c₁₅ = c₁₀ .before .before .before .before .before in
-    let loop = c₁₀ .before .loop in
-    let entry = c₁₅ .before .before .before in
+    let names = c .before .before .before .before .before .before .before .before .before .before .before .before .before .before .before .before .before .before .args .names .now in
+    let tab = table (c .before .before .before .before .before .before .before .before .before .before .before .before .before .before .before .before .before .before .args .types .now) names in
+    let s = c .before .before .before .before .before .before .before .before .before .before .before .before .before .before .before .before .before .before .args .s .now in
+    let loop = c .before .before .before .before .before .before .before .before .before .before .before .loop in
     let loop-inv = loop .inv .0 in
-    let names = entry .args .names .now in
-    let tab = table (entry .args .types .now) names in
-    let s = entry .args .s .now in
-    let loop-test-yes = c₁₀ .loop-test .taken in
-    (loop-inv, loop .inv .1, order-absent (λ q u. readAt (entry .args .d - 1) tab s q u) tab s (entry .args .row) (entry .args .p) (entry .args .met) (entry .args .t6) (loop .inv .2) (rw (← loop-inv) (c₁₀ .loop-test .taken)) (sym (c .before .before .before .before .enum-told2 .given .1) ∙ member-is tab s (entry .args .row) (loop .k) (entry .args .met) (entry .args .t6) (c₅ .before .before .before .before .wide .ensures .0) (c₅ .before .before .before .wide2 .ensures .0) (c₅ .before .before .bit .ensures) (c₅ .before .member-found .ensures names)) (c .before .before .put-row .ensures) (c .before .before .put-row .kept .0), omega (arith, loop-test-yes))
+    let loop-test-yes = c .before .before .before .before .before .before .before .before .before .before .loop-test .taken in
+    let entry = (c .before .before .before .before .before .before .before .before .before .before .before .before .before .before .before .before .before .before) in
+    (loop-inv, loop .inv .1, order-absent (λ q u. readAt (c .before .before .before .before .before .before .before .before .before .before .before .before .before .before .before .before .before .before .args .d - 1) tab s q u) tab s (c .before .before .before .before .before .before .before .before .before .before .before .before .before .before .before .before .before .before .args .row) (c .before .before .before .before .before .before .before .before .before .before .before .before .before .before .before .before .before .before .args .p) (c .before .before .before .before .before .before .before .before .before .before .before .before .before .before .before .before .before .before .args .met) (c .before .before .before .before .before .before .before .before .before .before .before .before .before .before .before .before .before .before .args .t6) (loop .inv .2) (rw (← loop-inv) (c .before .before .before .before .before .before .before .before .before .before .loop-test .taken)) (sym (c .before .before .before .before .enum-told2 .given .1) ∙ member-is tab s (c .before .before .before .before .before .before .before .before .before .before .before .before .before .before .before .before .before .before .args .row) (loop .k) (c .before .before .before .before .before .before .before .before .before .before .before .before .before .before .before .before .before .before .args .met) (c .before .before .before .before .before .before .before .before .before .before .before .before .before .before .before .before .before .before .args .t6) (c .before .before .before .before .before .before .before .before .before .wide .ensures .0) (c .before .before .before .before .before .before .before .before .wide2 .ensures .0) (c .before .before .before .before .before .before .before .bit .ensures) (c .before .before .before .before .before .before .member-found .ensures names)) (c .before .before .put-row .ensures) (c .before .before .put-row .kept .0), omega (arith, loop-test-yes))
 
 each-member-enum-known-q : (t : ℕ) → each-member-lts.Need-enum-known-q (each-member-calls t) (each-member-at t) each-member.Post each-member-Inv-loop each-member-μ-loop
 each-member-enum-known-q t c = search needs
@@ -740,48 +643,31 @@ each-member-sub-value t c = search needs
 
 each-member-value-requires : (t : ℕ) → each-member-lts.Need-value-requires (each-member-calls t) (each-member-at t) each-member.Post each-member-Inv-loop each-member-μ-loop
 each-member-value-requires t c κs =
-    let c₅ = c .before .before .before .before .before in
-    let c₁₀ = c₅ .before .before .before .before .before in
-    let c₁₅ = c₁₀ .before .before .before .before .before in
-    let entry = c₁₅ .before .before .before in
-    let loop = c₁₀ .before .loop in
-    let wide2 = c₅ .before .before .before .wide2 in
-    let names = entry .args .names .now in
+    let names = c .before .before .before .before .before .before .before .before .before .before .before .before .before .before .before .before .before .before .args .names .now in
+    let loop = c .before .before .before .before .before .before .before .before .before .before .before .loop in
+    let loop-test-yes = c .before .before .before .before .before .before .before .before .before .before .loop-test .taken in
+    let entry = (c .before .before .before .before .before .before .before .before .before .before .before .before .before .before .before .before .before .before) in
+    let wide2 = c .before .before .before .before .before .before .before .before .wide2 in
     let loop-inv = loop .inv .1 in
-    let loop-test-yes = c₁₀ .loop-test .taken in
-    (omega arith, given-part (entry .pre .1 .0) (entry .pre .1 .1 .0) (rw (c .before .before .type-at .ensures names) ((entry .pre .1 .0) .sane .member (entry .args .row) (loop .k) ((entry .pre .1 .0) .typed) (rw (← loop .inv .0) (c₁₀ .loop-test .taken)))) (omega (arith, there-place (table (entry .args .types .now) names) (entry .args .s .now) (entry .args .row) (loop .k) (c₅ .before .before .bit .result) (wide2 .result) (sym (c .before .before .before .before .q .given .1) ∙ c₅ .before .member-found .ensures names), wide2 .ensures .0, wide2 .ensures .1)) (omega (arith, loop .inv .2 .done .sofar .fewRows, loop-inv, loop-test-yes)) (omega (arith, loop .inv .2 .done .sofar .fewBytes, loop-inv, loop-test-yes)))
+    (omega arith, given-part (c .before .before .before .before .before .before .before .before .before .before .before .before .before .before .before .before .before .before .pre .1 .0) (c .before .before .before .before .before .before .before .before .before .before .before .before .before .before .before .before .before .before .pre .1 .1 .0) (rw (c .before .before .type-at .ensures names) ((c .before .before .before .before .before .before .before .before .before .before .before .before .before .before .before .before .before .before .pre .1 .0) .sane .member (c .before .before .before .before .before .before .before .before .before .before .before .before .before .before .before .before .before .before .args .row) (loop .k) ((c .before .before .before .before .before .before .before .before .before .before .before .before .before .before .before .before .before .before .pre .1 .0) .typed) (rw (← loop .inv .0) (c .before .before .before .before .before .before .before .before .before .before .loop-test .taken)))) (omega (arith, there-place (table (c .before .before .before .before .before .before .before .before .before .before .before .before .before .before .before .before .before .before .args .types .now) names) (c .before .before .before .before .before .before .before .before .before .before .before .before .before .before .before .before .before .before .args .s .now) (c .before .before .before .before .before .before .before .before .before .before .before .before .before .before .before .before .before .before .args .row) (loop .k) (c .before .before .before .before .before .before .before .bit .result) (wide2 .result) (sym (c .before .before .before .before .q .given .1) ∙ c .before .before .before .before .before .before .member-found .ensures names), wide2 .ensures .0, wide2 .ensures .1)) (omega (arith, loop .inv .2 .done .sofar .fewRows, loop-inv, loop-test-yes)) (omega (arith, loop .inv .2 .done .sofar .fewBytes, loop-inv, loop-test-yes)))
 
 each-member-enum-known-e : (t : ℕ) → each-member-lts.Need-enum-known-e (each-member-calls t) (each-member-at t) each-member.Post each-member-Inv-loop each-member-μ-loop
 each-member-enum-known-e t c = search needs
 
 each-member-same-length-3 : (t : ℕ) → each-member-lts.Need-same-length-3 (each-member-calls t) (each-member-at t) each-member.Post each-member-Inv-loop each-member-μ-loop
-each-member-same-length-3 t c =
-    let c₅ = c .before .before .before .before .before in
-    let c₁₀ = c₅ .before .before .before .before .before in
-    let c₁₅ = c₁₀ .before .before .before .before .before in
-    c₅ .before .before .value .kept .1 .1 .1 .0 ∙ c₁₅ .before .before .before .before .loop .inv .2 .done .sofar .keptRows
+each-member-same-length-3 t c = c .before .before .before .before .before .before .before .value .kept .1 .1 .1 .0 ∙ c .before .before .before .before .before .before .before .before .before .before .before .before .before .before .before .before .before .before .before .loop .inv .2 .done .sofar .keptRows
 
 each-member-same-length-4 : (t : ℕ) → each-member-lts.Need-same-length-4 (each-member-calls t) (each-member-at t) each-member.Post each-member-Inv-loop each-member-μ-loop
-each-member-same-length-4 t c =
-    let c₅ = c .before .before .before .before .before in
-    let c₁₀ = c₅ .before .before .before .before .before in
-    let c₁₅ = c₁₀ .before .before .before .before .before in
-    c₅ .before .before .value .kept .1 .1 .1 .1 .0 ∙ c₁₅ .before .before .before .before .loop .inv .2 .done .sofar .keptPool
+each-member-same-length-4 t c = c .before .before .before .before .before .before .before .value .kept .1 .1 .1 .1 .0 ∙ c .before .before .before .before .before .before .before .before .before .before .before .before .before .before .before .before .before .before .before .loop .inv .2 .done .sofar .keptPool
 
 each-member-returns-2 : (t : ℕ) → each-member-lts.Need-returns-2 (each-member-calls t) (each-member-at t) each-member.Post each-member-Inv-loop each-member-μ-loop
 each-member-returns-2 t c =
-    let c₅ = c .before .before .before .before .before in
-    let c₁₀ = c₅ .before .before .before .before .before in
-    let c₁₅ = c₁₀ .before .before .before .before .before in
-    let c₂₀ = c₁₅ .before .before .before .before .before in
-    let c₂₅ = c₂₀ .before .before .before .before .before in
-    let entry = c₂₅ .before in
-    let loop = c₁₅ .before .before .before .before .loop in
-    let q₂ = c₁₀ .before .before .q in
-    let names = entry .args .names .now in
-    let tab = table (entry .args .types .now) names in
-    let s = entry .args .s .now in
-    reads-no (over-no tab (entry .args .row) (object-no (λ q u. readAt (entry .args .d - 1) tab s q u) tab s (entry .args .row) (entry .args .p) (entry .args .met) (entry .args .t6) (entry .args .next) (order-refused (λ q u. readAt (entry .args .d - 1) tab s q u) tab s (entry .args .row) (entry .args .p) (entry .args .met) (entry .args .t6) (loop .inv .2) (rw (← loop .inv .0) (c₁₅ .before .before .before .loop-test .taken)) (sym (q₂ .given .1) ∙ member-is tab s (entry .args .row) (loop .k) (entry .args .met) (entry .args .t6) (c₁₅ .before .before .wide .ensures .0) (c₁₅ .before .wide2 .ensures .0) (c₁₅ .bit .ensures) (c₁₀ .before .before .before .before .member-found .ensures names)) (failed (at-row (λ q u. readAt (entry .args .d - 1) tab s q u) (q₂ .given .0 .0) (c₁₀ .type-at .ensures names) (c₅ .before .before .value .ensures)) (c .before .e .given .1)))))
+    let names = c .before .before .before .before .before .before .before .before .before .before .before .before .before .before .before .before .before .before .before .before .before .before .before .before .before .before .args .names .now in
+    let tab = table (c .before .before .before .before .before .before .before .before .before .before .before .before .before .before .before .before .before .before .before .before .before .before .before .before .before .before .args .types .now) names in
+    let s = c .before .before .before .before .before .before .before .before .before .before .before .before .before .before .before .before .before .before .before .before .before .before .before .before .before .before .args .s .now in
+    let loop = c .before .before .before .before .before .before .before .before .before .before .before .before .before .before .before .before .before .before .before .loop in
+    let q₂ = c .before .before .before .before .before .before .before .before .before .before .before .before .q in
+    reads-no (over-no tab (c .before .before .before .before .before .before .before .before .before .before .before .before .before .before .before .before .before .before .before .before .before .before .before .before .before .before .args .row) (object-no (λ q u. readAt (c .before .before .before .before .before .before .before .before .before .before .before .before .before .before .before .before .before .before .before .before .before .before .before .before .before .before .args .d - 1) tab s q u) tab s (c .before .before .before .before .before .before .before .before .before .before .before .before .before .before .before .before .before .before .before .before .before .before .before .before .before .before .args .row) (c .before .before .before .before .before .before .before .before .before .before .before .before .before .before .before .before .before .before .before .before .before .before .before .before .before .before .args .p) (c .before .before .before .before .before .before .before .before .before .before .before .before .before .before .before .before .before .before .before .before .before .before .before .before .before .before .args .met) (c .before .before .before .before .before .before .before .before .before .before .before .before .before .before .before .before .before .before .before .before .before .before .before .before .before .before .args .t6) (c .before .before .before .before .before .before .before .before .before .before .before .before .before .before .before .before .before .before .before .before .before .before .before .before .before .before .args .next) (order-refused (λ q u. readAt (c .before .before .before .before .before .before .before .before .before .before .before .before .before .before .before .before .before .before .before .before .before .before .before .before .before .before .args .d - 1) tab s q u) tab s (c .before .before .before .before .before .before .before .before .before .before .before .before .before .before .before .before .before .before .before .before .before .before .before .before .before .before .args .row) (c .before .before .before .before .before .before .before .before .before .before .before .before .before .before .before .before .before .before .before .before .before .before .before .before .before .before .args .p) (c .before .before .before .before .before .before .before .before .before .before .before .before .before .before .before .before .before .before .before .before .before .before .before .before .before .before .args .met) (c .before .before .before .before .before .before .before .before .before .before .before .before .before .before .before .before .before .before .before .before .before .before .before .before .before .before .args .t6) (loop .inv .2) (rw (← loop .inv .0) (c .before .before .before .before .before .before .before .before .before .before .before .before .before .before .before .before .before .before .loop-test .taken)) (sym (q₂ .given .1) ∙ member-is tab s (c .before .before .before .before .before .before .before .before .before .before .before .before .before .before .before .before .before .before .before .before .before .before .before .before .before .before .args .row) (loop .k) (c .before .before .before .before .before .before .before .before .before .before .before .before .before .before .before .before .before .before .before .before .before .before .before .before .before .before .args .met) (c .before .before .before .before .before .before .before .before .before .before .before .before .before .before .before .before .before .before .before .before .before .before .before .before .before .before .args .t6) (c .before .before .before .before .before .before .before .before .before .before .before .before .before .before .before .before .before .wide .ensures .0) (c .before .before .before .before .before .before .before .before .before .before .before .before .before .before .before .before .wide2 .ensures .0) (c .before .before .before .before .before .before .before .before .before .before .before .before .before .before .before .bit .ensures) (c .before .before .before .before .before .before .before .before .before .before .before .before .before .before .member-found .ensures names)) (failed (at-row (λ q u. readAt (c .before .before .before .before .before .before .before .before .before .before .before .before .before .before .before .before .before .before .before .before .before .before .before .before .before .before .args .d - 1) tab s q u) (q₂ .given .0 .0) (c .before .before .before .before .before .before .before .before .before .before .type-at .ensures names) (c .before .before .before .before .before .before .before .value .ensures)) (c .before .e .given .1)))))
 
 each-member-enum-known-a : (t : ℕ) → each-member-lts.Need-enum-known-a (each-member-calls t) (each-member-at t) each-member.Post each-member-Inv-loop each-member-μ-loop
 each-member-enum-known-a t c = search needs
@@ -791,27 +677,17 @@ each-member-with-requires t c κs = search needs
 
 each-member-add-n-2 : (t : ℕ) → each-member-lts.Need-add-n-2 (each-member-calls t) (each-member-at t) each-member.Post each-member-Inv-loop each-member-μ-loop
 each-member-add-n-2 t c =
-    let c₅ = c .before .before .before .before .before in
-    let c₁₀ = c₅ .before .before .before .before .before in
-    let c₁₅ = c₁₀ .before .before .before .before .before in
-    let c₂₀ = c₁₅ .before .before .before .before .before in
-    let c₂₅ = c₂₀ .before .before .before .before .before in
-    let entry = c₂₅ .before .before in
-    let loop = c₂₀ .loop in
-    let names = entry .args .names .now in
-    omega (arith, (passed (at-row (λ q u. readAt (entry .args .d - 1) (table (entry .args .types .now) names) (entry .args .s .now) q u) (c₁₀ .before .before .before .q .given .0 .0) (c₁₀ .before .type-at .ensures names) (c₅ .before .before .before .value .ensures)) (c .before .before .a .given .1)) .fewRows, loop .inv .2 .done .sofar .fewRows, loop .inv .1, c₁₅ .before .before .before .before .loop-test .taken)
+    let names = c .before .before .before .before .before .before .before .before .before .before .before .before .before .before .before .before .before .before .before .before .before .before .before .before .before .before .before .args .names .now in
+    let loop = c .before .before .before .before .before .before .before .before .before .before .before .before .before .before .before .before .before .before .before .before .loop in
+    let entry = (c .before .before .before .before .before .before .before .before .before .before .before .before .before .before .before .before .before .before .before .before .before .before .before .before .before .before .before) in
+    omega (arith, (passed (at-row (λ q u. readAt (c .before .before .before .before .before .before .before .before .before .before .before .before .before .before .before .before .before .before .before .before .before .before .before .before .before .before .before .args .d - 1) (table (c .before .before .before .before .before .before .before .before .before .before .before .before .before .before .before .before .before .before .before .before .before .before .before .before .before .before .before .args .types .now) names) (c .before .before .before .before .before .before .before .before .before .before .before .before .before .before .before .before .before .before .before .before .before .before .before .before .before .before .before .args .s .now) q u) (c .before .before .before .before .before .before .before .before .before .before .before .before .before .q .given .0 .0) (c .before .before .before .before .before .before .before .before .before .before .before .type-at .ensures names) (c .before .before .before .before .before .before .before .before .value .ensures)) (c .before .before .a .given .1)) .fewRows, loop .inv .2 .done .sofar .fewRows, loop .inv .1, c .before .before .before .before .before .before .before .before .before .before .before .before .before .before .before .before .before .before .before .loop-test .taken)
 
 each-member-add-m : (t : ℕ) → each-member-lts.Need-add-m (each-member-calls t) (each-member-at t) each-member.Post each-member-Inv-loop each-member-μ-loop
 each-member-add-m t c =
-    let c₅ = c .before .before .before .before .before in
-    let c₁₀ = c₅ .before .before .before .before .before in
-    let c₁₅ = c₁₀ .before .before .before .before .before in
-    let c₂₀ = c₁₅ .before .before .before .before .before in
-    let c₂₅ = c₂₀ .before .before .before .before .before in
-    let entry = c₂₅ .before .before in
-    let loop = c₂₀ .loop in
-    let names = entry .args .names .now in
-    omega (arith, (passed (at-row (λ q u. readAt (entry .args .d - 1) (table (entry .args .types .now) names) (entry .args .s .now) q u) (c₁₀ .before .before .before .q .given .0 .0) (c₁₀ .before .type-at .ensures names) (c₅ .before .before .before .value .ensures)) (c .before .before .a .given .1)) .fewBytes, loop .inv .2 .done .sofar .fewBytes, loop .inv .1, c₁₅ .before .before .before .before .loop-test .taken)
+    let names = c .before .before .before .before .before .before .before .before .before .before .before .before .before .before .before .before .before .before .before .before .before .before .before .before .before .before .before .args .names .now in
+    let loop = c .before .before .before .before .before .before .before .before .before .before .before .before .before .before .before .before .before .before .before .before .loop in
+    let entry = (c .before .before .before .before .before .before .before .before .before .before .before .before .before .before .before .before .before .before .before .before .before .before .before .before .before .before .before) in
+    omega (arith, (passed (at-row (λ q u. readAt (c .before .before .before .before .before .before .before .before .before .before .before .before .before .before .before .before .before .before .before .before .before .before .before .before .before .before .before .args .d - 1) (table (c .before .before .before .before .before .before .before .before .before .before .before .before .before .before .before .before .before .before .before .before .before .before .before .before .before .before .before .args .types .now) names) (c .before .before .before .before .before .before .before .before .before .before .before .before .before .before .before .before .before .before .before .before .before .before .before .before .before .before .before .args .s .now) q u) (c .before .before .before .before .before .before .before .before .before .before .before .before .before .q .given .0 .0) (c .before .before .before .before .before .before .before .before .before .before .before .type-at .ensures names) (c .before .before .before .before .before .before .before .before .value .ensures)) (c .before .before .a .given .1)) .fewBytes, loop .inv .2 .done .sofar .fewBytes, loop .inv .1, c .before .before .before .before .before .before .before .before .before .before .before .before .before .before .before .before .before .before .before .loop-test .taken)
 
 each-member-add-k-2 : (t : ℕ) → each-member-lts.Need-add-k-2 (each-member-calls t) (each-member-at t) each-member.Post each-member-Inv-loop each-member-μ-loop
 each-member-add-k-2 t c = search needs
@@ -821,32 +697,26 @@ each-member-loop-less-2 t c = search needs
 
 each-member-loop-again-2 : (t : ℕ) → each-member-lts.Need-loop-again-2 (each-member-calls t) (each-member-at t) each-member.Post each-member-Inv-loop each-member-μ-loop
 each-member-loop-again-2 t c =
-    let c₅ = c .before .before .before .before .before in
-    let c₁₀ = c₅ .before .before .before .before .before in
-    let c₁₅ = c₁₀ .before .before .before .before .before in
-    let c₂₀ = c₁₅ .before .before .before .before .before in
-    let c₂₅ = c₂₀ .before .before .before .before .before in
-    let loop = c₂₀ .loop in
-    let entry = c₂₅ .before .before in
-    let q₂ = c₁₀ .before .before .before .q in
-    let value₂ = c₅ .before .before .before .value in
+    let names = c .before .before .before .before .before .before .before .before .before .before .before .before .before .before .before .before .before .before .before .before .before .before .before .before .before .before .before .args .names .now in
+    let tab = table (c .before .before .before .before .before .before .before .before .before .before .before .before .before .before .before .before .before .before .before .before .before .before .before .before .before .before .before .args .types .now) names in
+    let s = c .before .before .before .before .before .before .before .before .before .before .before .before .before .before .before .before .before .before .before .before .before .before .before .before .before .before .before .args .s .now in
+    let loop = c .before .before .before .before .before .before .before .before .before .before .before .before .before .before .before .before .before .before .before .before .loop in
     let loop-inv = loop .inv .0 in
-    let names = entry .args .names .now in
-    let tab = table (entry .args .types .now) names in
-    let s = entry .args .s .now in
-    let there = at-row (λ q u. readAt (entry .args .d - 1) tab s q u) (q₂ .given .0 .0) (c₁₀ .before .type-at .ensures names) (value₂ .ensures) in
+    let loop-test-yes = c .before .before .before .before .before .before .before .before .before .before .before .before .before .before .before .before .before .before .before .loop-test .taken in
+    let q₂ = c .before .before .before .before .before .before .before .before .before .before .before .before .before .q in
+    let value₂ = c .before .before .before .before .before .before .before .before .value in
+    let entry = (c .before .before .before .before .before .before .before .before .before .before .before .before .before .before .before .before .before .before .before .before .before .before .before .before .before .before .before) in
+    let there = at-row (λ q u. readAt (c .before .before .before .before .before .before .before .before .before .before .before .before .before .before .before .before .before .before .before .before .before .before .before .before .before .before .before .args .d - 1) tab s q u) (q₂ .given .0 .0) (c .before .before .before .before .before .before .before .before .before .before .before .type-at .ensures names) (value₂ .ensures) in
     let went = passed there (c .before .before .a .given .1) in
-    let loop-test-yes = c₁₅ .before .before .before .before .loop-test .taken in
-    (loop-inv, loop .inv .1, order-more (λ q u. readAt (entry .args .d - 1) tab s q u) tab s (entry .args .row) (entry .args .p) (entry .args .met) (entry .args .t6) (loop .inv .2) (rw (← loop-inv) (c₁₅ .before .before .before .before .loop-test .taken)) (sym (q₂ .given .1) ∙ member-is tab s (entry .args .row) (loop .k) (entry .args .met) (entry .args .t6) (c₁₅ .before .before .before .wide .ensures .0) (c₁₅ .before .before .wide2 .ensures .0) (c₁₅ .before .bit .ensures) (c₁₅ .member-found .ensures names)) (went .took) (there .stepped) (went .fewRows) (went .fewBytes) (value₂ .kept .1 .1 .1 .0) (value₂ .kept .1 .1 .1 .1 .0) (c .with .ensures), omega (arith, loop-test-yes))
+    (loop-inv, loop .inv .1, order-more (λ q u. readAt (c .before .before .before .before .before .before .before .before .before .before .before .before .before .before .before .before .before .before .before .before .before .before .before .before .before .before .before .args .d - 1) tab s q u) tab s (c .before .before .before .before .before .before .before .before .before .before .before .before .before .before .before .before .before .before .before .before .before .before .before .before .before .before .before .args .row) (c .before .before .before .before .before .before .before .before .before .before .before .before .before .before .before .before .before .before .before .before .before .before .before .before .before .before .before .args .p) (c .before .before .before .before .before .before .before .before .before .before .before .before .before .before .before .before .before .before .before .before .before .before .before .before .before .before .before .args .met) (c .before .before .before .before .before .before .before .before .before .before .before .before .before .before .before .before .before .before .before .before .before .before .before .before .before .before .before .args .t6) (loop .inv .2) (rw (← loop-inv) (c .before .before .before .before .before .before .before .before .before .before .before .before .before .before .before .before .before .before .before .loop-test .taken)) (sym (q₂ .given .1) ∙ member-is tab s (c .before .before .before .before .before .before .before .before .before .before .before .before .before .before .before .before .before .before .before .before .before .before .before .before .before .before .before .args .row) (loop .k) (c .before .before .before .before .before .before .before .before .before .before .before .before .before .before .before .before .before .before .before .before .before .before .before .before .before .before .before .args .met) (c .before .before .before .before .before .before .before .before .before .before .before .before .before .before .before .before .before .before .before .before .before .before .before .before .before .before .before .args .t6) (c .before .before .before .before .before .before .before .before .before .before .before .before .before .before .before .before .before .before .wide .ensures .0) (c .before .before .before .before .before .before .before .before .before .before .before .before .before .before .before .before .before .wide2 .ensures .0) (c .before .before .before .before .before .before .before .before .before .before .before .before .before .before .before .before .bit .ensures) (c .before .before .before .before .before .before .before .before .before .before .before .before .before .before .before .member-found .ensures names)) (went .took) (there .stepped) (went .fewRows) (went .fewBytes) (value₂ .kept .1 .1 .1 .0) (value₂ .kept .1 .1 .1 .1 .0) (c .with .ensures), omega (arith, loop-test-yes))
 
 each-member-ones-requires : (t : ℕ) → each-member-lts.Need-ones-requires (each-member-calls t) (each-member-at t) each-member.Post each-member-Inv-loop each-member-μ-loop
 each-member-ones-requires t c κs = search needs
 
 each-member-close-requires : (t : ℕ) → each-member-lts.Need-close-requires (each-member-calls t) (each-member-at t) each-member.Post each-member-Inv-loop each-member-μ-loop
 each-member-close-requires t c κs =
-    let c₅ = c .before .before .before .before .before in
-    let c₁₀ = c₅ .before .before .before .before .before in
-    (omega (arith, (c₁₀ .pre .1 .0) .rowRoom), omega (arith, c .before .before .before .loop .inv .2 .done .sofar .fewRows, c .before .before .before .loop .inv .3, c .before .before .before .loop .inv .1))
+    let c₁₀ = (c .before .before .before .before .before .before .before .before .before .before) in
+    (omega (arith, (c .before .before .before .before .before .before .before .before .before .before .pre .1 .0) .rowRoom), omega (arith, c .before .before .before .loop .inv .2 .done .sofar .fewRows, c .before .before .before .loop .inv .3, c .before .before .before .loop .inv .1))
 
 each-member-same-length-5 : (t : ℕ) → each-member-lts.Need-same-length-5 (each-member-calls t) (each-member-at t) each-member.Post each-member-Inv-loop each-member-μ-loop
 each-member-same-length-5 t c = search needs
@@ -856,21 +726,17 @@ each-member-same-length-6 t c = search needs
 
 each-member-returns-3 : (t : ℕ) → each-member-lts.Need-returns-3 (each-member-calls t) (each-member-at t) each-member.Post each-member-Inv-loop each-member-μ-loop
 each-member-returns-3 t c =
-    let c₅ = c .before .before .before .before .before in
-    let c₁₀ = c₅ .before .before .before .before .before in
-    let entry = c₁₀ .before .before .before in
-    let loop = c₅ .before .loop in
-    let tab = table (entry .args .types .now) (entry .args .names .now) in
-    let s = entry .args .s .now in
-    along (over-ok tab (entry .args .row) (object-ok (λ q u. readAt (entry .args .d - 1) tab s q u) tab s (entry .args .row) (entry .args .p) (entry .args .met) (entry .args .t6) (order-end (λ q u. readAt (entry .args .d - 1) tab s q u) tab s (entry .args .row) (entry .args .p) (entry .args .met) (entry .args .t6) (loop .inv .2) (omega (arith, loop .inv .0, c₅ .loop-test .left))))) (closed (whole-seq (loop .inv .2 .done .sofar) (entry .pre .1 .1 .2) (loop .inv .2 .done .members) (c .before .before .before .ones .ensures ∙ loop .inv .2 .done .count)) (entry .pre .1 .1 .1) (c .before .before .close .ensures .0) (c .before .before .close .ensures .1))
+    let s = c .before .before .before .before .before .before .before .before .before .before .before .before .before .args .s .now in
+    let loop = c .before .before .before .before .before .before .loop in
+    let entry = (c .before .before .before .before .before .before .before .before .before .before .before .before .before) in
+    let tab = table (c .before .before .before .before .before .before .before .before .before .before .before .before .before .args .types .now) (c .before .before .before .before .before .before .before .before .before .before .before .before .before .args .names .now) in
+    along (over-ok tab (c .before .before .before .before .before .before .before .before .before .before .before .before .before .args .row) (object-ok (λ q u. readAt (c .before .before .before .before .before .before .before .before .before .before .before .before .before .args .d - 1) tab s q u) tab s (c .before .before .before .before .before .before .before .before .before .before .before .before .before .args .row) (c .before .before .before .before .before .before .before .before .before .before .before .before .before .args .p) (c .before .before .before .before .before .before .before .before .before .before .before .before .before .args .met) (c .before .before .before .before .before .before .before .before .before .before .before .before .before .args .t6) (order-end (λ q u. readAt (c .before .before .before .before .before .before .before .before .before .before .before .before .before .args .d - 1) tab s q u) tab s (c .before .before .before .before .before .before .before .before .before .before .before .before .before .args .row) (c .before .before .before .before .before .before .before .before .before .before .before .before .before .args .p) (c .before .before .before .before .before .before .before .before .before .before .before .before .before .args .met) (c .before .before .before .before .before .before .before .before .before .before .before .before .before .args .t6) (loop .inv .2) (omega (arith, loop .inv .0, c .before .before .before .before .before .loop-test .left))))) (closed (whole-seq (loop .inv .2 .done .sofar) (c .before .before .before .before .before .before .before .before .before .before .before .before .before .pre .1 .1 .2) (loop .inv .2 .done .members) (c .before .before .before .ones .ensures ∙ loop .inv .2 .done .count)) (c .before .before .before .before .before .before .before .before .before .before .before .before .before .pre .1 .1 .1) (c .before .before .close .ensures .0) (c .before .before .close .ensures .1))
 
 abbrev list-Inv-loop : list-lts.InvT-loop
-list-Inv-loop types names s rows₀ pool₀ row p i o d element next₀ count₀ n₀ m₀ rows pool next count n m =
-    (element ≡ elementOf (table types names) row) × Near (65539 + d) next × Loop (λ q. readAt (d - 1) (table types names) s (elementOf (table types names) row) q) s (table types names) (elementOf (table types names) row) (itemsAt (λ q. readAt (d - 1) (table types names) s (elementOf (table types names) row) q) s (length s) (firstPart s 0x5D p)) next i o n m count rows rows₀ pool pool₀
+list-Inv-loop types names s rows₀ pool₀ row p i o d t next₀ count₀ n₀ m₀ rows pool next count n m = (t ≡ elementOf (table types names) row) × Near (65539 + d) next × Loop (λ q. readAt (d - 1) (table types names) s (elementOf (table types names) row) q) s (table types names) (elementOf (table types names) row) (itemsAt (λ q. readAt (d - 1) (table types names) s (elementOf (table types names) row) q) s (length s) (firstPart s 0x5D p)) next i o n m count rows rows₀ pool pool₀
 
 abbrev list-μ-loop : list-lts.MeasureT-loop
-list-μ-loop types names s rows₀ pool₀ row p i o d element next₀ count₀ n₀ m₀ rows pool next count n m =
-    length s - count
+list-μ-loop types names s rows₀ pool₀ row p i o d t next₀ count₀ n₀ m₀ rows pool next count n m = length s - count
 
 list-element-of-requires : (t : ℕ) → list-lts.Need-element-of-requires (list-calls t) (list-at t) list.Post list-Inv-loop list-μ-loop
 list-element-of-requires t c κs = search needs
@@ -880,16 +746,15 @@ list-first-part-requires t c κs = search needs
 
 list-loop-holds : (t : ℕ) → list-lts.Need-loop-holds (list-calls t) (list-at t) list.Post list-Inv-loop list-μ-loop
 list-loop-holds t c =
-    let c₅ = c .before .before .before .before .before in
-    let entry = c₅ .before .before in
-    let names = entry .args .names .now in
-    let tab = table (entry .args .types .now) names in
-    let s = entry .args .s .now in
-    let d = entry .args .d in
+    let names = c .before .before .before .before .before .before .before .args .names .now in
+    let tab = table (c .before .before .before .before .before .before .before .args .types .now) names in
+    let s = c .before .before .before .before .before .before .before .args .s .now in
+    let d = c .before .before .before .before .before .before .before .args .d in
     let first = c .first-part .result in
     let first-part-said = c .first-part .ensures in
-    let elementOf′ = elementOf tab (entry .args .row) in
-    (c .before .element-of .ensures names, near-first s 0x5D (entry .args .p) (65539 + d) first ((entry .pre .1 .0) .short) (entry .pre .1 .1 .0) (omega (arith, entry .pre .1 .1 .1)) first-part-said, loop-start (λ q. readAt (d - 1) tab s elementOf′ q) s tab elementOf′ (firstPart s 0x5D (entry .args .p)) first (entry .args .i) (entry .args .o) (entry .args .rows .now) (entry .args .pool .now) first-part-said)
+    let entry = (c .before .before .before .before .before .before .before) in
+    let elementOf′ = elementOf tab (c .before .before .before .before .before .before .before .args .row) in
+    (c .before .element-of .ensures names, near-first s 0x5D (c .before .before .before .before .before .before .before .args .p) (65539 + d) first ((c .before .before .before .before .before .before .before .pre .1 .0) .short) (c .before .before .before .before .before .before .before .pre .1 .1 .0) (omega (arith, c .before .before .before .before .before .before .before .pre .1 .1 .1)) first-part-said, loop-start (λ q. readAt (d - 1) tab s elementOf′ q) s tab elementOf′ (firstPart s 0x5D (c .before .before .before .before .before .before .before .args .p)) first (c .before .before .before .before .before .before .before .args .i) (c .before .before .before .before .before .before .before .args .o) (c .before .before .before .before .before .before .before .args .rows .now) (c .before .before .before .before .before .before .before .args .pool .now) first-part-said)
 
 list-enum-known-next : (t : ℕ) → list-lts.Need-enum-known-next (list-calls t) (list-at t) list.Post list-Inv-loop list-μ-loop
 list-enum-known-next t c = search needs
@@ -908,16 +773,13 @@ list-same-length-2 t c = search needs
 
 list-returns : (t : ℕ) → list-lts.Need-returns (list-calls t) (list-at t) list.Post list-Inv-loop list-μ-loop
 list-returns t c =
-    let c₅ = c .before .before .before .before .before in
-    let c₁₀ = c₅ .before .before .before .before .before in
-    let c₁₅ = c₁₀ .before .before .before .before .before in
-    let entry = c₁₅ .before in
-    let loop = c₅ .before .before .before .loop in
-    let tab = table (entry .args .types .now) (entry .args .names .now) in
-    let d = entry .args .d in
-    let s = entry .args .s .now in
-    let here = c₅ .before .next .given .1 in
-    along (over-ok tab (entry .args .row) (list-ok (λ q u. readAt (d - 1) tab s q u) tab s (entry .args .row) (entry .args .p) (loop-shut (loop .inv .2) here))) (closed (whole-list (loop .inv .2 .sofar) (entry .pre .1 .1 .2) (loop .inv .2 .items) (c .before .before .before .narrow .ensures (omega (arith, (entry .pre .1 .0) .short, loop .inv .2 .few)))) (omega (arith, entry .pre .1 .1 .0, near-shut (65539 + d) here (loop .inv .1))) (c .before .before .close .ensures .0) (c .before .before .close .ensures .1))
+    let s = c .before .before .before .before .before .before .before .before .before .before .before .before .before .before .before .before .args .s .now in
+    let d = c .before .before .before .before .before .before .before .before .before .before .before .before .before .before .before .before .args .d in
+    let loop = c .before .before .before .before .before .before .before .before .loop in
+    let here = c .before .before .before .before .before .before .next .given .1 in
+    let entry = (c .before .before .before .before .before .before .before .before .before .before .before .before .before .before .before .before) in
+    let tab = table (c .before .before .before .before .before .before .before .before .before .before .before .before .before .before .before .before .args .types .now) (c .before .before .before .before .before .before .before .before .before .before .before .before .before .before .before .before .args .names .now) in
+    along (over-ok tab (c .before .before .before .before .before .before .before .before .before .before .before .before .before .before .before .before .args .row) (list-ok (λ q u. readAt (d - 1) tab s q u) tab s (c .before .before .before .before .before .before .before .before .before .before .before .before .before .before .before .before .args .row) (c .before .before .before .before .before .before .before .before .before .before .before .before .before .before .before .before .args .p) (loop-shut (loop .inv .2) here))) (closed (whole-list (loop .inv .2 .sofar) (c .before .before .before .before .before .before .before .before .before .before .before .before .before .before .before .before .pre .1 .1 .2) (loop .inv .2 .items) (c .before .before .before .narrow .ensures (omega (arith, (c .before .before .before .before .before .before .before .before .before .before .before .before .before .before .before .before .pre .1 .0) .short, loop .inv .2 .few)))) (omega (arith, c .before .before .before .before .before .before .before .before .before .before .before .before .before .before .before .before .pre .1 .1 .0, near-shut (65539 + d) here (loop .inv .1))) (c .before .before .close .ensures .0) (c .before .before .close .ensures .1))
 
 list-enum-known-next-2 : (t : ℕ) → list-lts.Need-enum-known-next-2 (list-calls t) (list-at t) list.Post list-Inv-loop list-μ-loop
 list-enum-known-next-2 t c = search needs
@@ -936,16 +798,13 @@ list-same-length-4 t c = search needs
 
 list-returns-2 : (t : ℕ) → list-lts.Need-returns-2 (list-calls t) (list-at t) list.Post list-Inv-loop list-μ-loop
 list-returns-2 t c =
-    let c₅ = c .before .before .before .before .before in
-    let c₁₀ = c₅ .before .before .before .before .before in
-    let c₁₅ = c₁₀ .before .before .before .before .before in
-    let entry = c₁₅ .before .before in
-    let loop = c₅ .before .before .before .before .loop in
-    let tab = table (entry .args .types .now) (entry .args .names .now) in
-    let d = entry .args .d in
-    let s = entry .args .s .now in
-    let here = c₅ .before .before .next2 .given .1 in
-    along (over-ok tab (entry .args .row) (list-ok (λ q u. readAt (d - 1) tab s q u) tab s (entry .args .row) (entry .args .p) (loop-full (loop .inv .2) here (c₅ .if1 .taken)))) (closed (whole-list (loop .inv .2 .sofar) (entry .pre .1 .1 .2) (loop .inv .2 .items) (c .before .before .before .narrow2 .ensures (omega (arith, (entry .pre .1 .0) .short, loop .inv .2 .few)))) (omega (arith, entry .pre .1 .1 .0, near-part (65539 + d) here (loop .inv .1))) (c .before .before .close2 .ensures .0) (c .before .before .close2 .ensures .1))
+    let s = c .before .before .before .before .before .before .before .before .before .before .before .before .before .before .before .before .before .args .s .now in
+    let d = c .before .before .before .before .before .before .before .before .before .before .before .before .before .before .before .before .before .args .d in
+    let loop = c .before .before .before .before .before .before .before .before .before .loop in
+    let here = c .before .before .before .before .before .before .before .next2 .given .1 in
+    let entry = (c .before .before .before .before .before .before .before .before .before .before .before .before .before .before .before .before .before) in
+    let tab = table (c .before .before .before .before .before .before .before .before .before .before .before .before .before .before .before .before .before .args .types .now) (c .before .before .before .before .before .before .before .before .before .before .before .before .before .before .before .before .before .args .names .now) in
+    along (over-ok tab (c .before .before .before .before .before .before .before .before .before .before .before .before .before .before .before .before .before .args .row) (list-ok (λ q u. readAt (d - 1) tab s q u) tab s (c .before .before .before .before .before .before .before .before .before .before .before .before .before .before .before .before .before .args .row) (c .before .before .before .before .before .before .before .before .before .before .before .before .before .before .before .before .before .args .p) (loop-full (loop .inv .2) here (c .before .before .before .before .before .if1 .taken)))) (closed (whole-list (loop .inv .2 .sofar) (c .before .before .before .before .before .before .before .before .before .before .before .before .before .before .before .before .before .pre .1 .1 .2) (loop .inv .2 .items) (c .before .before .before .narrow2 .ensures (omega (arith, (c .before .before .before .before .before .before .before .before .before .before .before .before .before .before .before .before .before .pre .1 .0) .short, loop .inv .2 .few)))) (omega (arith, c .before .before .before .before .before .before .before .before .before .before .before .before .before .before .before .before .before .pre .1 .1 .0, near-part (65539 + d) here (loop .inv .1))) (c .before .before .close2 .ensures .0) (c .before .before .close2 .ensures .1))
 
 list-add-value : (t : ℕ) → list-lts.Need-add-value (list-calls t) (list-at t) list.Post list-Inv-loop list-μ-loop
 list-add-value t c = search needs
@@ -961,12 +820,10 @@ list-sub-value t c = search needs
 
 list-value-requires : (t : ℕ) → list-lts.Need-value-requires (list-calls t) (list-at t) list.Post list-Inv-loop list-μ-loop
 list-value-requires t c κs =
-    let c₅ = c .before .before .before .before .before in
-    let c₁₀ = c₅ .before .before .before .before .before in
-    let entry = c₁₀ .before .before .before .before in
-    let loop = c₅ .before .loop in
+    let loop = c .before .before .before .before .before .before .loop in
+    let entry = (c .before .before .before .before .before .before .before .before .before .before .before .before .before .before) in
     let if1-no = c .before .before .if1 .left in
-    (omega arith, given-part (entry .pre .1 .0) (entry .pre .1 .1 .1) (rw (loop .inv .0) ((entry .pre .1 .0) .sane .element (entry .args .row) (entry .pre .1 .1 .2))) (omega (arith, near-part (65539 + entry .args .d) (c .before .before .before .before .next2 .given .1) (loop .inv .1))) (omega (arith, loop .inv .2 .sofar .fewRows, if1-no, (entry .pre .1 .0) .short)) (omega (arith, loop .inv .2 .sofar .fewBytes, if1-no, (entry .pre .1 .0) .short)))
+    (omega arith, given-part (c .before .before .before .before .before .before .before .before .before .before .before .before .before .before .pre .1 .0) (c .before .before .before .before .before .before .before .before .before .before .before .before .before .before .pre .1 .1 .1) (rw (loop .inv .0) ((c .before .before .before .before .before .before .before .before .before .before .before .before .before .before .pre .1 .0) .sane .element (c .before .before .before .before .before .before .before .before .before .before .before .before .before .before .args .row) (c .before .before .before .before .before .before .before .before .before .before .before .before .before .before .pre .1 .1 .2))) (omega (arith, near-part (65539 + c .before .before .before .before .before .before .before .before .before .before .before .before .before .before .args .d) (c .before .before .before .before .next2 .given .1) (loop .inv .1))) (omega (arith, loop .inv .2 .sofar .fewRows, if1-no, (c .before .before .before .before .before .before .before .before .before .before .before .before .before .before .pre .1 .0) .short)) (omega (arith, loop .inv .2 .sofar .fewBytes, if1-no, (c .before .before .before .before .before .before .before .before .before .before .before .before .before .before .pre .1 .0) .short)))
 
 list-enum-known-e : (t : ℕ) → list-lts.Need-enum-known-e (list-calls t) (list-at t) list.Post list-Inv-loop list-μ-loop
 list-enum-known-e t c = search needs
@@ -979,84 +836,53 @@ list-same-length-6 t c = search needs
 
 list-returns-3 : (t : ℕ) → list-lts.Need-returns-3 (list-calls t) (list-at t) list.Post list-Inv-loop list-μ-loop
 list-returns-3 t c =
-    let c₅ = c .before .before .before .before .before in
-    let c₁₀ = c₅ .before .before .before .before .before in
-    let c₁₅ = c₁₀ .before .before .before .before .before in
-    let c₂₀ = c₁₅ .before .before .before .before .before in
-    let entry = c₂₀ .before .before in
-    let loop = c₁₀ .before .before .before .before .loop in
-    let next2 = c₁₀ .before .before .next2 in
-    let tab = table (entry .args .types .now) (entry .args .names .now) in
-    let s = entry .args .s .now in
-    reads-no (over-no tab (entry .args .row) (list-no (λ q u. readAt (entry .args .d - 1) tab s q u) tab s (entry .args .row) (entry .args .p) (loop-refused (loop .inv .2) (next2 .given .1) (c₁₀ .if1 .left) (failed (at-row (λ q u. readAt (entry .args .d - 1) tab s q u) (next2 .given .0 .0) (loop .inv .0) (c₅ .before .before .value .ensures)) (c .before .e .given .1)))))
+    let s = c .before .before .before .before .before .before .before .before .before .before .before .before .before .before .before .before .before .before .before .before .before .before .args .s .now in
+    let loop = c .before .before .before .before .before .before .before .before .before .before .before .before .before .before .loop in
+    let next2 = c .before .before .before .before .before .before .before .before .before .before .before .before .next2 in
+    let tab = table (c .before .before .before .before .before .before .before .before .before .before .before .before .before .before .before .before .before .before .before .before .before .before .args .types .now) (c .before .before .before .before .before .before .before .before .before .before .before .before .before .before .before .before .before .before .before .before .before .before .args .names .now) in
+    reads-no (over-no tab (c .before .before .before .before .before .before .before .before .before .before .before .before .before .before .before .before .before .before .before .before .before .before .args .row) (list-no (λ q u. readAt (c .before .before .before .before .before .before .before .before .before .before .before .before .before .before .before .before .before .before .before .before .before .before .args .d - 1) tab s q u) tab s (c .before .before .before .before .before .before .before .before .before .before .before .before .before .before .before .before .before .before .before .before .before .before .args .row) (c .before .before .before .before .before .before .before .before .before .before .before .before .before .before .before .before .before .before .before .before .before .before .args .p) (loop-refused (loop .inv .2) (next2 .given .1) (c .before .before .before .before .before .before .before .before .before .before .if1 .left) (failed (at-row (λ q u. readAt (c .before .before .before .before .before .before .before .before .before .before .before .before .before .before .before .before .before .before .before .before .before .before .args .d - 1) tab s q u) (next2 .given .0 .0) (loop .inv .0) (c .before .before .before .before .before .before .before .value .ensures)) (c .before .e .given .1)))))
 
 list-enum-known-end : (t : ℕ) → list-lts.Need-enum-known-end (list-calls t) (list-at t) list.Post list-Inv-loop list-μ-loop
 list-enum-known-end t c = search needs
 
 list-after-part-requires : (t : ℕ) → list-lts.Need-after-part-requires (list-calls t) (list-at t) list.Post list-Inv-loop list-μ-loop
 list-after-part-requires t c κs =
-    let c₅ = c .before .before .before .before .before in
-    let c₁₀ = c₅ .before .before .before .before .before in
-    let c₁₅ = c₁₀ .before .before .before .before .before in
-    let c₂₀ = c₁₅ .before .before .before .before .before in
-    let entry = c₂₀ .before .before in
-    ((entry .pre .1 .0) .short, omega (arith, passed (c₅ .before .before .value .ensures) (c .before .end .given .1) .near, near-part (65539 + entry .args .d) (c₁₀ .before .before .next2 .given .1) (c₁₀ .before .before .before .before .loop .inv .1), (entry .pre .1 .0) .rowRoom))
+    let entry = (c .before .before .before .before .before .before .before .before .before .before .before .before .before .before .before .before .before .before .before .before .before .before) in
+    ((c .before .before .before .before .before .before .before .before .before .before .before .before .before .before .before .before .before .before .before .before .before .before .pre .1 .0) .short, omega (arith, passed (c .before .before .before .before .before .before .before .value .ensures) (c .before .end .given .1) .near, near-part (65539 + c .before .before .before .before .before .before .before .before .before .before .before .before .before .before .before .before .before .before .before .before .before .before .args .d) (c .before .before .before .before .before .before .before .before .before .before .before .before .next2 .given .1) (c .before .before .before .before .before .before .before .before .before .before .before .before .before .before .loop .inv .1), (c .before .before .before .before .before .before .before .before .before .before .before .before .before .before .before .before .before .before .before .before .before .before .pre .1 .0) .rowRoom))
 
 list-add-count : (t : ℕ) → list-lts.Need-add-count (list-calls t) (list-at t) list.Post list-Inv-loop list-μ-loop
-list-add-count t c =
-    let c₅ = c .before .before .before .before .before in
-    let c₁₀ = c₅ .before .before .before .before .before in
-    let c₁₅ = c₁₀ .before .before .before .before .before in
-    let c₂₀ = c₁₅ .before .before .before .before .before in
-    omega (arith, c₁₀ .before .if1 .left, (c₂₀ .before .before .before .pre .1 .0) .short)
+list-add-count t c = omega (arith, c .before .before .before .before .before .before .before .before .before .before .before .if1 .left, (c .before .before .before .before .before .before .before .before .before .before .before .before .before .before .before .before .before .before .before .before .before .before .before .pre .1 .0) .short)
 
 list-add-n : (t : ℕ) → list-lts.Need-add-n (list-calls t) (list-at t) list.Post list-Inv-loop list-μ-loop
-list-add-n t c =
-    let c₅ = c .before .before .before .before .before in
-    let c₁₀ = c₅ .before .before .before .before .before in
-    let c₁₅ = c₁₀ .before .before .before .before .before in
-    let c₂₀ = c₁₅ .before .before .before .before .before in
-    omega (arith, passed (c₅ .before .before .before .value .ensures) (c .before .before .end .given .1) .fewRows, c₁₅ .loop .inv .2 .sofar .fewRows, c₁₀ .before .if1 .left, (c₂₀ .before .before .before .pre .1 .0) .short)
+list-add-n t c = omega (arith, passed (c .before .before .before .before .before .before .before .before .value .ensures) (c .before .before .end .given .1) .fewRows, c .before .before .before .before .before .before .before .before .before .before .before .before .before .before .before .loop .inv .2 .sofar .fewRows, c .before .before .before .before .before .before .before .before .before .before .before .if1 .left, (c .before .before .before .before .before .before .before .before .before .before .before .before .before .before .before .before .before .before .before .before .before .before .before .pre .1 .0) .short)
 
 list-add-m : (t : ℕ) → list-lts.Need-add-m (list-calls t) (list-at t) list.Post list-Inv-loop list-μ-loop
-list-add-m t c =
-    let c₅ = c .before .before .before .before .before in
-    let c₁₀ = c₅ .before .before .before .before .before in
-    let c₁₅ = c₁₀ .before .before .before .before .before in
-    let c₂₀ = c₁₅ .before .before .before .before .before in
-    omega (arith, passed (c₅ .before .before .before .value .ensures) (c .before .before .end .given .1) .fewBytes, c₁₅ .loop .inv .2 .sofar .fewBytes, c₁₀ .before .if1 .left, (c₂₀ .before .before .before .pre .1 .0) .short)
+list-add-m t c = omega (arith, passed (c .before .before .before .before .before .before .before .before .value .ensures) (c .before .before .end .given .1) .fewBytes, c .before .before .before .before .before .before .before .before .before .before .before .before .before .before .before .loop .inv .2 .sofar .fewBytes, c .before .before .before .before .before .before .before .before .before .before .before .if1 .left, (c .before .before .before .before .before .before .before .before .before .before .before .before .before .before .before .before .before .before .before .before .before .before .before .pre .1 .0) .short)
 
 list-loop-less : (t : ℕ) → list-lts.Need-loop-less (list-calls t) (list-at t) list.Post list-Inv-loop list-μ-loop
 list-loop-less t c = search needs
 
 list-loop-again : (t : ℕ) → list-lts.Need-loop-again (list-calls t) (list-at t) list.Post list-Inv-loop list-μ-loop
 list-loop-again t c =
-    let c₅ = c .before .before .before .before .before in
-    let c₁₀ = c₅ .before .before .before .before .before in
-    let c₁₅ = c₁₀ .before .before .before .before .before in
-    let c₂₀ = c₁₅ .before .before .before .before .before in
-    let loop = c₁₅ .loop in
-    let entry = c₂₀ .before .before .before in
-    let value₂ = c₅ .before .before .before .value in
-    let next2 = c₁₀ .before .before .before .next2 in
+    let s = c .before .before .before .before .before .before .before .before .before .before .before .before .before .before .before .before .before .before .before .before .before .before .before .args .s .now in
+    let d = c .before .before .before .before .before .before .before .before .before .before .before .before .before .before .before .before .before .before .before .before .before .before .before .args .d in
+    let loop = c .before .before .before .before .before .before .before .before .before .before .before .before .before .before .before .loop in
     let loop-inv = loop .inv .0 in
-    let s = entry .args .s .now in
-    let d = entry .args .d in
+    let value₂ = c .before .before .before .before .before .before .before .before .value in
     let it = 65539 + d in
+    let after-part-said = c .after-part .ensures in
+    let next2 = c .before .before .before .before .before .before .before .before .before .before .before .before .before .next2 in
+    let entry = (c .before .before .before .before .before .before .before .before .before .before .before .before .before .before .before .before .before .before .before .before .before .before .before) in
     let end = c .before .before .end .given .1 in
     let here = next2 .given .1 in
-    let after-part-said = c .after-part .ensures in
-    let there = at-row (λ q u. readAt (d - 1) (table (entry .args .types .now) (entry .args .names .now)) s q u) (next2 .given .0 .0) loop-inv (value₂ .ensures) in
-    (loop-inv, near-after s (c .before .before .end .given .0 .0) it (c .after-part .result) ((entry .pre .1 .0) .short) (omega (arith, passed (value₂ .ensures) end .near, near-part it here (loop .inv .1), entry .pre .1 .1 .1)) (omega arith) after-part-said, loop-more (loop .inv .2) here (c₁₀ .before .if1 .left) (passed there end .took) (there .stepped) (passed (value₂ .ensures) end .fewRows) (passed (value₂ .ensures) end .fewBytes) (value₂ .kept .1 .1 .1 .0) (value₂ .kept .1 .1 .1 .1 .0) after-part-said)
+    let there = at-row (λ q u. readAt (d - 1) (table (c .before .before .before .before .before .before .before .before .before .before .before .before .before .before .before .before .before .before .before .before .before .before .before .args .types .now) (c .before .before .before .before .before .before .before .before .before .before .before .before .before .before .before .before .before .before .before .before .before .before .before .args .names .now)) s q u) (next2 .given .0 .0) loop-inv (value₂ .ensures) in
+    (loop-inv, near-after s (c .before .before .end .given .0 .0) it (c .after-part .result) ((c .before .before .before .before .before .before .before .before .before .before .before .before .before .before .before .before .before .before .before .before .before .before .before .pre .1 .0) .short) (omega (arith, passed (value₂ .ensures) end .near, near-part it here (loop .inv .1), c .before .before .before .before .before .before .before .before .before .before .before .before .before .before .before .before .before .before .before .before .before .before .before .pre .1 .1 .1)) (omega arith) after-part-said, loop-more (loop .inv .2) here (c .before .before .before .before .before .before .before .before .before .before .before .if1 .left) (passed there end .took) (there .stepped) (passed (value₂ .ensures) end .fewRows) (passed (value₂ .ensures) end .fewBytes) (value₂ .kept .1 .1 .1 .0) (value₂ .kept .1 .1 .1 .1 .0) after-part-said)
 
 object-sub-scan : (t : ℕ) → object-lts.Need-sub-scan (object-calls t) (object-at t) object.Post
 object-sub-scan t c = search needs
 
 object-scan-requires : (t : ℕ) → object-lts.Need-scan-requires (object-calls t) (object-at t) object.Post
-object-scan-requires t c κs =
-    let c₅ = c .before .before .before .before .before in
-    let entry = c₅ in
-    ((entry .pre .1 .0) .short, entry .pre .1 .1 .0, (entry .pre .1 .0) .sane .few (entry .args .row) ((entry .pre .1 .0) .typed))
+object-scan-requires t c κs = ((c .before .before .before .before .before .pre .1 .0) .short, c .before .before .before .before .before .pre .1 .1 .0, (c .before .before .before .before .before .pre .1 .0) .sane .few (c .before .before .before .before .before .args .row) ((c .before .before .before .before .before .pre .1 .0) .typed))
 
 object-enum-known-end : (t : ℕ) → object-lts.Need-enum-known-end (object-calls t) (object-at t) object.Post
 object-enum-known-end t c = search needs
@@ -1066,26 +892,21 @@ object-enum-known-end-2 t c = search needs
 
 object-each-member-requires : (t : ℕ) → object-lts.Need-each-member-requires (object-calls t) (object-at t) object.Post
 object-each-member-requires t c κs =
-    let c₅ = c .before .before .before .before .before in
-    let c₁₀ = c₅ .before .before .before .before .before in
-    let entry = c₁₀ .before .before in
-    let scan = c₅ .before .scan in
-    let pre = entry .pre .1 .1 .1 in
-    let s = entry .args .s .now in
-    let it = (entry .pre .1 .0) .short in
-    let firstPart′ = firstPart s 0x7D (entry .args .p) in
-    let pre₂ = entry .pre .1 .1 .0 in
-    (omega arith, ((entry .pre .1 .0), (pre, omega (arith, scan-near (entry .args .d - 1) (table (entry .args .types .now) (entry .args .names .now)) s (entry .args .row) 65540 it (omega arith) (length s) firstPart′ 0 noPlaces (near-first s 0x7D (entry .args .p) 65540 firstPart′ it (entry .pre .1 .1 .0) (omega arith) refl) (c .before .before .before .end2 .given .0 .0) (sym (c .before .before .before .end2 .given .1) ∙ ap (λ (x : Scanned). x .end) (scan .ensures)), pre, pre₂, (entry .pre .1 .0) .short), entry .pre .1 .1 .2)))
+    let s = c .before .before .before .before .before .before .before .before .before .before .before .before .args .s .now in
+    let scan = c .before .before .before .before .before .before .scan in
+    let entry = (c .before .before .before .before .before .before .before .before .before .before .before .before) in
+    let pre = c .before .before .before .before .before .before .before .before .before .before .before .before .pre .1 .1 .1 in
+    let it = (c .before .before .before .before .before .before .before .before .before .before .before .before .pre .1 .0) .short in
+    let firstPart′ = firstPart s 0x7D (c .before .before .before .before .before .before .before .before .before .before .before .before .args .p) in
+    let pre₂ = c .before .before .before .before .before .before .before .before .before .before .before .before .pre .1 .1 .0 in
+    (omega arith, ((c .before .before .before .before .before .before .before .before .before .before .before .before .pre .1 .0), (pre, omega (arith, scan-near (c .before .before .before .before .before .before .before .before .before .before .before .before .args .d - 1) (table (c .before .before .before .before .before .before .before .before .before .before .before .before .args .types .now) (c .before .before .before .before .before .before .before .before .before .before .before .before .args .names .now)) s (c .before .before .before .before .before .before .before .before .before .before .before .before .args .row) 65540 it (omega arith) (length s) firstPart′ 0 noPlaces (near-first s 0x7D (c .before .before .before .before .before .before .before .before .before .before .before .before .args .p) 65540 firstPart′ it (c .before .before .before .before .before .before .before .before .before .before .before .before .pre .1 .1 .0) (omega arith) refl) (c .before .before .before .end2 .given .0 .0) (sym (c .before .before .before .end2 .given .1) ∙ ap (λ (x : Scanned). x .end) (scan .ensures)), pre, pre₂, (c .before .before .before .before .before .before .before .before .before .before .before .before .pre .1 .0) .short), c .before .before .before .before .before .before .before .before .before .before .before .before .pre .1 .1 .2)))
 
 object-returns : (t : ℕ) → object-lts.Need-returns (object-calls t) (object-at t) object.Post
 object-returns t c =
-    let c₅ = c .before .before .before .before .before in
-    let c₁₀ = c₅ .before .before .before .before .before in
-    let entry = c₁₀ in
+    let s = c .before .before .before .before .before .before .before .before .before .before .args .s .now in
     let scan = c .before .before .before .before .scan in
-    let tab = table (entry .args .types .now) (entry .args .names .now) in
-    let s = entry .args .s .now in
-    reads-no (over-no tab (entry .args .row) (object-stopped (λ q u. readAt (entry .args .d - 1) tab s q u) (entry .args .d - 1) tab s (entry .args .row) (entry .args .p) (c .before .end .given .1) (scan .ensures)))
+    let tab = table (c .before .before .before .before .before .before .before .before .before .before .args .types .now) (c .before .before .before .before .before .before .before .before .before .before .args .names .now) in
+    reads-no (over-no tab (c .before .before .before .before .before .before .before .before .before .before .args .row) (object-stopped (λ q u. readAt (c .before .before .before .before .before .before .before .before .before .before .args .d - 1) tab s q u) (c .before .before .before .before .before .before .before .before .before .before .args .d - 1) tab s (c .before .before .before .before .before .before .before .before .before .before .args .row) (c .before .before .before .before .before .before .before .before .before .before .args .p) (c .before .end .given .1) (scan .ensures)))
 
 object-same-length : (t : ℕ) → object-lts.Need-same-length (object-calls t) (object-at t) object.Post
 object-same-length t c = search needs
@@ -1095,20 +916,15 @@ object-same-length-2 t c = search needs
 
 object-returns-2 : (t : ℕ) → object-lts.Need-returns-2 (object-calls t) (object-at t) object.Post
 object-returns-2 t c =
-    let c₅ = c .before .before .before .before .before in
-    let c₁₀ = c₅ .before .before .before .before .before in
-    let c₁₅ = c₁₀ .before .before .before .before .before in
-    let entry = c₁₅ .before .before in
-    let scan = c₁₀ .before .scan in
-    let tab = table (entry .args .types .now) (entry .args .names .now) in
-    let s = entry .args .s .now in
-    along (ap (λ (x : Res (Got Val)). bind x (within tab (entry .args .row))) (object-scanned (λ q u. readAt (entry .args .d - 1) tab s q u) (entry .args .d - 1) tab s (entry .args .row) (entry .args .p) (c₅ .before .before .before .end2 .given .1) (scan .ensures))) (c .before .before .before .before .each-member .ensures)
+    let s = c .before .before .before .before .before .before .before .before .before .before .before .before .before .before .before .before .before .args .s .now in
+    let scan = c .before .before .before .before .before .before .before .before .before .before .before .scan in
+    let tab = table (c .before .before .before .before .before .before .before .before .before .before .before .before .before .before .before .before .before .args .types .now) (c .before .before .before .before .before .before .before .before .before .before .before .before .before .before .before .before .before .args .names .now) in
+    along (ap (λ (x : Res (Got Val)). bind x (within tab (c .before .before .before .before .before .before .before .before .before .before .before .before .before .before .before .before .before .args .row))) (object-scanned (λ q u. readAt (c .before .before .before .before .before .before .before .before .before .before .before .before .before .before .before .before .before .args .d - 1) tab s q u) (c .before .before .before .before .before .before .before .before .before .before .before .before .before .before .before .before .before .args .d - 1) tab s (c .before .before .before .before .before .before .before .before .before .before .before .before .before .before .before .before .before .args .row) (c .before .before .before .before .before .before .before .before .before .before .before .before .before .before .before .before .before .args .p) (c .before .before .before .before .before .before .before .before .end2 .given .1) (scan .ensures))) (c .before .before .before .before .each-member .ensures)
 
 plain-leaf-requires : (t : ℕ) → plain-lts.Need-leaf-requires (plain-calls t) (plain-at t) plain.Post
 plain-leaf-requires t c κs =
-    let c₅ = c .before .before .before .before .before in
-    let entry = c₅ .before .before .before in
-    ((entry .pre .1 .0) .short, λ h. omega (arith, string-code (entry .args .s .now) (entry .args .p) (entry .pre .1 .1) h, (entry .pre .1 .0) .short), omega (arith, (entry .pre .1 .0) .rowRoom))
+    let entry = (c .before .before .before .before .before .before .before .before) in
+    ((c .before .before .before .before .before .before .before .before .pre .1 .0) .short, λ h. omega (arith, string-code (c .before .before .before .before .before .before .before .before .args .s .now) (c .before .before .before .before .before .before .before .before .args .p) (c .before .before .before .before .before .before .before .before .pre .1 .1) h, (c .before .before .before .before .before .before .before .before .pre .1 .0) .short), omega (arith, (c .before .before .before .before .before .before .before .before .pre .1 .0) .rowRoom))
 
 plain-bounded-requires : (t : ℕ) → plain-lts.Need-bounded-requires (plain-calls t) (plain-at t) plain.Post
 plain-bounded-requires t c κs = search needs
@@ -1121,35 +937,28 @@ plain-same-length-2 t c = search needs
 
 plain-returns : (t : ℕ) → plain-lts.Need-returns (plain-calls t) (plain-at t) plain.Post
 plain-returns t c =
-    let c₅ = c .before .before .before .before .before in
-    let c₁₀ = c₅ .before .before .before .before .before in
-    let entry = c₁₀ .before .before .before .before in
-    let tab = table (entry .args .types .now) (entry .args .names .now) in
-    let s = entry .args .s .now in
-    let tokenAt′ = tokenAt s (entry .args .p) in
-    let pre = entry .pre .1 .1 in
-    along (ap (λ (x : Res (Got Val)). bind x (within tab (entry .args .row))) (plain-leaf tab s (entry .args .row) (entry .args .p) (entry .args .d) tokenAt′ (rw (← pre) (c₅ .before .before .before .if1 .taken)))) (bounded-near (entry .args .p) (entry .args .d) (bounded-reads (leafAt tab s tokenAt′ (entry .args .row) (entry .args .p)) (c₅ .leaf .ensures tokenAt′ pre) (c .bounded .ensures) (λ g e. leaf-near tab s (entry .args .row) (entry .args .p) ((entry .pre .1 .0) .short) tokenAt′ (λ h. token-inside s (entry .args .p) (string-not s (entry .args .p) h)) e)))
+    let s = c .before .before .before .before .before .before .before .before .before .before .before .before .before .before .args .s .now in
+    let pre = c .before .before .before .before .before .before .before .before .before .before .before .before .before .before .pre .1 .1 in
+    let tokenAt′ = tokenAt s (c .before .before .before .before .before .before .before .before .before .before .before .before .before .before .args .p) in
+    let tab = table (c .before .before .before .before .before .before .before .before .before .before .before .before .before .before .args .types .now) (c .before .before .before .before .before .before .before .before .before .before .before .before .before .before .args .names .now) in
+    along (ap (λ (x : Res (Got Val)). bind x (within tab (c .before .before .before .before .before .before .before .before .before .before .before .before .before .before .args .row))) (plain-leaf tab s (c .before .before .before .before .before .before .before .before .before .before .before .before .before .before .args .row) (c .before .before .before .before .before .before .before .before .before .before .before .before .before .before .args .p) (c .before .before .before .before .before .before .before .before .before .before .before .before .before .before .args .d) tokenAt′ (rw (← pre) (c .before .before .before .before .before .before .before .before .if1 .taken)))) (bounded-near (c .before .before .before .before .before .before .before .before .before .before .before .before .before .before .args .p) (c .before .before .before .before .before .before .before .before .before .before .before .before .before .before .args .d) (bounded-reads (leafAt tab s tokenAt′ (c .before .before .before .before .before .before .before .before .before .before .before .before .before .before .args .row) (c .before .before .before .before .before .before .before .before .before .before .before .before .before .before .args .p)) (c .before .before .before .before .before .leaf .ensures tokenAt′ pre) (c .bounded .ensures) (λ g e. leaf-near tab s (c .before .before .before .before .before .before .before .before .before .before .before .before .before .before .args .row) (c .before .before .before .before .before .before .before .before .before .before .before .before .before .before .args .p) ((c .before .before .before .before .before .before .before .before .before .before .before .before .before .before .pre .1 .0) .short) tokenAt′ (λ h. token-inside s (c .before .before .before .before .before .before .before .before .before .before .before .before .before .before .args .p) (string-not s (c .before .before .before .before .before .before .before .before .before .before .before .before .before .before .args .p) h)) e)))
 
 plain-refused-requires : (t : ℕ) → plain-lts.Need-refused-requires (plain-calls t) (plain-at t) plain.Post
 plain-refused-requires t c κs = search needs
 
 plain-returns-2 : (t : ℕ) → plain-lts.Need-returns-2 (plain-calls t) (plain-at t) plain.Post
 plain-returns-2 t c =
-    let c₅ = c .before .before .before .before .before in
-    let entry = c₅ .before .before .before in
-    let tab = table (entry .args .types .now) (entry .args .names .now) in
-    let s = entry .args .s .now in
-    rw (c .refused .ensures) (reads-no (over-no tab (entry .args .row) (plain-deep tab s (entry .args .row) (entry .args .p) (entry .args .d) (tokenAt s (entry .args .p)) (rw (← entry .pre .1 .1) (c .before .before .if1 .left)) (c .before .if2 .taken))))
+    let s = c .before .before .before .before .before .before .before .before .args .s .now in
+    let tab = table (c .before .before .before .before .before .before .before .before .args .types .now) (c .before .before .before .before .before .before .before .before .args .names .now) in
+    rw (c .refused .ensures) (reads-no (over-no tab (c .before .before .before .before .before .before .before .before .args .row) (plain-deep tab s (c .before .before .before .before .before .before .before .before .args .row) (c .before .before .before .before .before .before .before .before .args .p) (c .before .before .before .before .before .before .before .before .args .d) (tokenAt s (c .before .before .before .before .before .before .before .before .args .p)) (rw (← c .before .before .before .before .before .before .before .before .pre .1 .1) (c .before .before .if1 .left)) (c .before .if2 .taken))))
 
 plain-at-requires : (t : ℕ) → plain-lts.Need-at-requires (plain-calls t) (plain-at t) plain.Post
 plain-at-requires t c κs = search needs
 
 plain-list-requires : (t : ℕ) → plain-lts.Need-list-requires (plain-calls t) (plain-at t) plain.Post
 plain-list-requires t c κs =
-    let c₅ = c .before .before .before .before .before in
-    let c₁₀ = c₅ .before .before .before .before .before in
-    let entry = c₁₀ .before .before .before in
-    (omega arith, ((entry .pre .1 .0), (token-inside (entry .args .s .now) (entry .args .p) (λ e. omega (arith, entry .pre .1 .1, c₅ .before .before .if1 .left, e)), positive (entry .args .d) (c₅ .before .if2 .left), ap (λ (w : Row). w .kind) (sym (c₅ .at .ensures (entry .args .names .now))) ∙ c .before .before .if4 .taken)))
+    let entry = (c .before .before .before .before .before .before .before .before .before .before .before .before .before) in
+    (omega arith, ((c .before .before .before .before .before .before .before .before .before .before .before .before .before .pre .1 .0), (token-inside (c .before .before .before .before .before .before .before .before .before .before .before .before .before .args .s .now) (c .before .before .before .before .before .before .before .before .before .before .before .before .before .args .p) (λ e. omega (arith, c .before .before .before .before .before .before .before .before .before .before .before .before .before .pre .1 .1, c .before .before .before .before .before .before .before .if1 .left, e)), positive (c .before .before .before .before .before .before .before .before .before .before .before .before .before .args .d) (c .before .before .before .before .before .before .if2 .left), ap (λ (w : Row). w .kind) (sym (c .before .before .before .before .before .at .ensures (c .before .before .before .before .before .before .before .before .before .before .before .before .before .args .names .now))) ∙ c .before .before .if4 .taken)))
 
 plain-same-length-3 : (t : ℕ) → plain-lts.Need-same-length-3 (plain-calls t) (plain-at t) plain.Post
 plain-same-length-3 t c = search needs
@@ -1159,26 +968,19 @@ plain-same-length-4 t c = search needs
 
 plain-returns-3 : (t : ℕ) → plain-lts.Need-returns-3 (plain-calls t) (plain-at t) plain.Post
 plain-returns-3 t c =
-    let c₅ = c .before .before .before .before .before in
-    let c₁₀ = c₅ .before .before .before .before .before in
-    let c₁₅ = c₁₀ .before .before .before .before .before in
-    let entry = c₁₅ .before .before .before in
-    let names = entry .args .names .now in
-    let tab = table (entry .args .types .now) names in
-    let s = entry .args .s .now in
-    along (ap (λ (x : Res (Got Val)). bind x (within tab (entry .args .row))) (plain-list tab s (entry .args .row) (entry .args .p) (entry .args .d) (c₁₀ .before .if2 .left) (token-array (tokenAt s (entry .args .p)) (sym (entry .pre .1 .1) ∙ c₅ .before .before .before .before .if3 .taken)) (ap (λ (w : Row). w .kind) (sym (c₁₀ .at .ensures names)) ∙ c₅ .before .before .if4 .taken))) (c .before .before .before .before .list .ensures)
+    let names = c .before .before .before .before .before .before .before .before .before .before .before .before .before .before .before .before .before .before .args .names .now in
+    let tab = table (c .before .before .before .before .before .before .before .before .before .before .before .before .before .before .before .before .before .before .args .types .now) names in
+    let s = c .before .before .before .before .before .before .before .before .before .before .before .before .before .before .before .before .before .before .args .s .now in
+    along (ap (λ (x : Res (Got Val)). bind x (within tab (c .before .before .before .before .before .before .before .before .before .before .before .before .before .before .before .before .before .before .args .row))) (plain-list tab s (c .before .before .before .before .before .before .before .before .before .before .before .before .before .before .before .before .before .before .args .row) (c .before .before .before .before .before .before .before .before .before .before .before .before .before .before .before .before .before .before .args .p) (c .before .before .before .before .before .before .before .before .before .before .before .before .before .before .before .before .before .before .args .d) (c .before .before .before .before .before .before .before .before .before .before .before .if2 .left) (token-array (tokenAt s (c .before .before .before .before .before .before .before .before .before .before .before .before .before .before .before .before .before .before .args .p)) (sym (c .before .before .before .before .before .before .before .before .before .before .before .before .before .before .before .before .before .before .pre .1 .1) ∙ c .before .before .before .before .before .before .before .before .before .if3 .taken)) (ap (λ (w : Row). w .kind) (sym (c .before .before .before .before .before .before .before .before .before .before .at .ensures names)) ∙ c .before .before .before .before .before .before .before .if4 .taken))) (c .before .before .before .before .list .ensures)
 
 plain-is-array-requires : (t : ℕ) → plain-lts.Need-is-array-requires (plain-calls t) (plain-at t) plain.Post
 plain-is-array-requires t c κs = search needs
 
 plain-array-requires : (t : ℕ) → plain-lts.Need-array-requires (plain-calls t) (plain-at t) plain.Post
 plain-array-requires t c κs =
-    let c₅ = c .before .before .before .before .before in
-    let c₁₀ = c₅ .before .before .before .before .before in
-    let c₁₅ = c₁₀ .before .before .before .before .before in
-    let entry = c₁₅ in
-    let names = entry .args .names .now in
-    (omega arith, ((entry .pre .1 .0), (token-inside (entry .args .s .now) (entry .args .p) (λ e. omega (arith, entry .pre .1 .1, c₅ .before .before .before .before .if1 .left, e)), positive (entry .args .d) (c₅ .before .before .before .if2 .left), array-kind (table (entry .args .types .now) names) (entry .args .row) (sym (c .before .before .before .is-array .ensures _ _ (c₅ .before .before .at .ensures names)) ∙ c .before .before .if5 .taken))))
+    let names = c .before .before .before .before .before .before .before .before .before .before .before .before .before .before .before .args .names .now in
+    let c₁₅ = (c .before .before .before .before .before .before .before .before .before .before .before .before .before .before .before) in
+    (omega arith, ((c .before .before .before .before .before .before .before .before .before .before .before .before .before .before .before .pre .1 .0), (token-inside (c .before .before .before .before .before .before .before .before .before .before .before .before .before .before .before .args .s .now) (c .before .before .before .before .before .before .before .before .before .before .before .before .before .before .before .args .p) (λ e. omega (arith, c .before .before .before .before .before .before .before .before .before .before .before .before .before .before .before .pre .1 .1, c .before .before .before .before .before .before .before .before .before .if1 .left, e)), positive (c .before .before .before .before .before .before .before .before .before .before .before .before .before .before .before .args .d) (c .before .before .before .before .before .before .before .before .if2 .left), array-kind (table (c .before .before .before .before .before .before .before .before .before .before .before .before .before .before .before .args .types .now) names) (c .before .before .before .before .before .before .before .before .before .before .before .before .before .before .before .args .row) (sym (c .before .before .before .is-array .ensures _ _ (c .before .before .before .before .before .before .before .at .ensures names)) ∙ c .before .before .if5 .taken))))
 
 plain-same-length-5 : (t : ℕ) → plain-lts.Need-same-length-5 (plain-calls t) (plain-at t) plain.Post
 plain-same-length-5 t c = search needs
@@ -1188,35 +990,25 @@ plain-same-length-6 t c = search needs
 
 plain-returns-4 : (t : ℕ) → plain-lts.Need-returns-4 (plain-calls t) (plain-at t) plain.Post
 plain-returns-4 t c =
-    let c₅ = c .before .before .before .before .before in
-    let c₁₀ = c₅ .before .before .before .before .before in
-    let c₁₅ = c₁₀ .before .before .before .before .before in
-    let c₂₀ = c₁₅ .before .before .before .before .before in
-    let entry = c₂₀ in
-    let names = entry .args .names .now in
-    let tab = table (entry .args .types .now) names in
-    let s = entry .args .s .now in
-    along (ap (λ (x : Res (Got Val)). bind x (within tab (entry .args .row))) (plain-array tab s (entry .args .row) (entry .args .p) (entry .args .d) (c₁₀ .before .before .before .if2 .left) (token-array (tokenAt s (entry .args .p)) (sym (entry .pre .1 .1) ∙ c₁₀ .before .if3 .taken)) (λ h. c₅ .before .before .before .before .if4 .left (sym (ap (λ (w : Row). w .kind) (sym (c₁₀ .before .before .at .ensures names))) ∙ h)) (sym (c₅ .before .before .before .is-array .ensures _ _ (c₁₀ .before .before .at .ensures names)) ∙ c₅ .before .before .if5 .taken))) (c .before .before .before .before .array .ensures)
+    let names = c .before .before .before .before .before .before .before .before .before .before .before .before .before .before .before .before .before .before .before .before .args .names .now in
+    let tab = table (c .before .before .before .before .before .before .before .before .before .before .before .before .before .before .before .before .before .before .before .before .args .types .now) names in
+    let s = c .before .before .before .before .before .before .before .before .before .before .before .before .before .before .before .before .before .before .before .before .args .s .now in
+    along (ap (λ (x : Res (Got Val)). bind x (within tab (c .before .before .before .before .before .before .before .before .before .before .before .before .before .before .before .before .before .before .before .before .args .row))) (plain-array tab s (c .before .before .before .before .before .before .before .before .before .before .before .before .before .before .before .before .before .before .before .before .args .row) (c .before .before .before .before .before .before .before .before .before .before .before .before .before .before .before .before .before .before .before .before .args .p) (c .before .before .before .before .before .before .before .before .before .before .before .before .before .before .before .before .before .before .before .before .args .d) (c .before .before .before .before .before .before .before .before .before .before .before .before .before .if2 .left) (token-array (tokenAt s (c .before .before .before .before .before .before .before .before .before .before .before .before .before .before .before .before .before .before .before .before .args .p)) (sym (c .before .before .before .before .before .before .before .before .before .before .before .before .before .before .before .before .before .before .before .before .pre .1 .1) ∙ c .before .before .before .before .before .before .before .before .before .before .before .if3 .taken)) (λ h. c .before .before .before .before .before .before .before .before .before .if4 .left (sym (ap (λ (w : Row). w .kind) (sym (c .before .before .before .before .before .before .before .before .before .before .before .before .at .ensures names))) ∙ h)) (sym (c .before .before .before .before .before .before .before .before .is-array .ensures _ _ (c .before .before .before .before .before .before .before .before .before .before .before .before .at .ensures names)) ∙ c .before .before .before .before .before .before .before .if5 .taken))) (c .before .before .before .before .array .ensures)
 
 plain-refused-requires-2 : (t : ℕ) → plain-lts.Need-refused-requires-2 (plain-calls t) (plain-at t) plain.Post
 plain-refused-requires-2 t c κs = search needs
 
 plain-returns-5 : (t : ℕ) → plain-lts.Need-returns-5 (plain-calls t) (plain-at t) plain.Post
 plain-returns-5 t c =
-    let c₅ = c .before .before .before .before .before in
-    let c₁₀ = c₅ .before .before .before .before .before in
-    let entry = c₁₀ .before .before .before .before in
-    let names = entry .args .names .now in
-    let tab = table (entry .args .types .now) names in
-    let s = entry .args .s .now in
-    rw (c .refused2 .ensures) (reads-no (over-no tab (entry .args .row) (plain-no-array tab s (entry .args .row) (entry .args .p) (entry .args .d) (c₅ .before .before .if2 .left) (token-array (tokenAt s (entry .args .p)) (sym (entry .pre .1 .1) ∙ c₅ .if3 .taken)) (λ h. c .before .before .before .if4 .left (sym (ap (λ (w : Row). w .kind) (sym (c₅ .before .at .ensures names))) ∙ h)) (sym (c .before .before .is-array .ensures _ _ (c₅ .before .at .ensures names)) ∙ c .before .if5 .left))))
+    let names = c .before .before .before .before .before .before .before .before .before .before .before .before .before .before .args .names .now in
+    let tab = table (c .before .before .before .before .before .before .before .before .before .before .before .before .before .before .args .types .now) names in
+    let s = c .before .before .before .before .before .before .before .before .before .before .before .before .before .before .args .s .now in
+    rw (c .refused2 .ensures) (reads-no (over-no tab (c .before .before .before .before .before .before .before .before .before .before .before .before .before .before .args .row) (plain-no-array tab s (c .before .before .before .before .before .before .before .before .before .before .before .before .before .before .args .row) (c .before .before .before .before .before .before .before .before .before .before .before .before .before .before .args .p) (c .before .before .before .before .before .before .before .before .before .before .before .before .before .before .args .d) (c .before .before .before .before .before .before .before .if2 .left) (token-array (tokenAt s (c .before .before .before .before .before .before .before .before .before .before .before .before .before .before .args .p)) (sym (c .before .before .before .before .before .before .before .before .before .before .before .before .before .before .pre .1 .1) ∙ c .before .before .before .before .before .if3 .taken)) (λ h. c .before .before .before .if4 .left (sym (ap (λ (w : Row). w .kind) (sym (c .before .before .before .before .before .before .at .ensures names))) ∙ h)) (sym (c .before .before .is-array .ensures _ _ (c .before .before .before .before .before .before .at .ensures names)) ∙ c .before .if5 .left))))
 
 plain-choice-requires : (t : ℕ) → plain-lts.Need-choice-requires (plain-calls t) (plain-at t) plain.Post
 plain-choice-requires t c κs =
-    let c₅ = c .before .before .before .before .before in
-    let c₁₀ = c₅ .before .before .before .before .before in
-    let entry = c₁₀ .before .before .before in
-    (omega arith, ((entry .pre .1 .0), (token-inside (entry .args .s .now) (entry .args .p) (λ e. omega (arith, entry .pre .1 .1, c₅ .before .before .if1 .left, e)), positive (entry .args .d) (c₅ .before .if2 .left), ap (λ (w : Row). w .kind) (sym (c₅ .at .ensures (entry .args .names .now))) ∙ c .before .before .if6 .taken)))
+    let entry = (c .before .before .before .before .before .before .before .before .before .before .before .before .before) in
+    (omega arith, ((c .before .before .before .before .before .before .before .before .before .before .before .before .before .pre .1 .0), (token-inside (c .before .before .before .before .before .before .before .before .before .before .before .before .before .args .s .now) (c .before .before .before .before .before .before .before .before .before .before .before .before .before .args .p) (λ e. omega (arith, c .before .before .before .before .before .before .before .before .before .before .before .before .before .pre .1 .1, c .before .before .before .before .before .before .before .if1 .left, e)), positive (c .before .before .before .before .before .before .before .before .before .before .before .before .before .args .d) (c .before .before .before .before .before .before .if2 .left), ap (λ (w : Row). w .kind) (sym (c .before .before .before .before .before .at .ensures (c .before .before .before .before .before .before .before .before .before .before .before .before .before .args .names .now))) ∙ c .before .before .if6 .taken)))
 
 plain-same-length-7 : (t : ℕ) → plain-lts.Need-same-length-7 (plain-calls t) (plain-at t) plain.Post
 plain-same-length-7 t c = search needs
@@ -1226,28 +1018,21 @@ plain-same-length-8 t c = search needs
 
 plain-returns-6 : (t : ℕ) → plain-lts.Need-returns-6 (plain-calls t) (plain-at t) plain.Post
 plain-returns-6 t c =
-    let c₅ = c .before .before .before .before .before in
-    let c₁₀ = c₅ .before .before .before .before .before in
-    let c₁₅ = c₁₀ .before .before .before .before .before in
-    let entry = c₁₅ .before .before .before in
-    let names = entry .args .names .now in
-    let tab = table (entry .args .types .now) names in
-    let s = entry .args .s .now in
-    let pre = entry .pre .1 .1 in
-    along (ap (λ (x : Res (Got Val)). bind x (within tab (entry .args .row))) (plain-choice tab s (entry .args .row) (entry .args .p) (entry .args .d) (c₁₀ .before .if2 .left) (token-object (tokenAt s (entry .args .p)) (rw (← pre) (c₁₀ .before .before .if1 .left)) (λ h. c₅ .before .before .before .before .if3 .left (pre ∙ h))) (ap (λ (w : Row). w .kind) (sym (c₁₀ .at .ensures names)) ∙ c₅ .before .before .if6 .taken))) (c .before .before .before .before .choice .ensures)
+    let names = c .before .before .before .before .before .before .before .before .before .before .before .before .before .before .before .before .before .before .args .names .now in
+    let tab = table (c .before .before .before .before .before .before .before .before .before .before .before .before .before .before .before .before .before .before .args .types .now) names in
+    let s = c .before .before .before .before .before .before .before .before .before .before .before .before .before .before .before .before .before .before .args .s .now in
+    let pre = c .before .before .before .before .before .before .before .before .before .before .before .before .before .before .before .before .before .before .pre .1 .1 in
+    along (ap (λ (x : Res (Got Val)). bind x (within tab (c .before .before .before .before .before .before .before .before .before .before .before .before .before .before .before .before .before .before .args .row))) (plain-choice tab s (c .before .before .before .before .before .before .before .before .before .before .before .before .before .before .before .before .before .before .args .row) (c .before .before .before .before .before .before .before .before .before .before .before .before .before .before .before .before .before .before .args .p) (c .before .before .before .before .before .before .before .before .before .before .before .before .before .before .before .before .before .before .args .d) (c .before .before .before .before .before .before .before .before .before .before .before .if2 .left) (token-object (tokenAt s (c .before .before .before .before .before .before .before .before .before .before .before .before .before .before .before .before .before .before .args .p)) (rw (← pre) (c .before .before .before .before .before .before .before .before .before .before .before .before .if1 .left)) (λ h. c .before .before .before .before .before .before .before .before .before .if3 .left (pre ∙ h))) (ap (λ (w : Row). w .kind) (sym (c .before .before .before .before .before .before .before .before .before .before .at .ensures names)) ∙ c .before .before .before .before .before .before .before .if6 .taken))) (c .before .before .before .before .choice .ensures)
 
 plain-is-array-requires-2 : (t : ℕ) → plain-lts.Need-is-array-requires-2 (plain-calls t) (plain-at t) plain.Post
 plain-is-array-requires-2 t c κs = search needs
 
 plain-object-requires : (t : ℕ) → plain-lts.Need-object-requires (plain-calls t) (plain-at t) plain.Post
 plain-object-requires t c κs =
-    let c₅ = c .before .before .before .before .before in
-    let c₁₀ = c₅ .before .before .before .before .before in
-    let c₁₅ = c₁₀ .before .before .before .before .before in
-    let entry = c₁₅ .before in
-    let names = entry .args .names .now in
-    let tab = table (entry .args .types .now) names in
-    (omega arith, ((entry .pre .1 .0), (token-inside (entry .args .s .now) (entry .args .p) (λ e. omega (arith, entry .pre .1 .1, c₁₀ .if1 .left, e)), positive (entry .args .d) (c₅ .before .before .before .before .if2 .left), object-kind tab (entry .args .row) (sequence-is tab (entry .args .row) (c₅ .before .before .before .at .ensures names) (c .before .before .before .is-array2 .ensures _ _ (c₅ .before .before .before .at .ensures names)) ∙ c .before .before .if7 .taken))))
+    let names = c .before .before .before .before .before .before .before .before .before .before .before .before .before .before .before .before .args .names .now in
+    let tab = table (c .before .before .before .before .before .before .before .before .before .before .before .before .before .before .before .before .args .types .now) names in
+    let entry = (c .before .before .before .before .before .before .before .before .before .before .before .before .before .before .before .before) in
+    (omega arith, ((c .before .before .before .before .before .before .before .before .before .before .before .before .before .before .before .before .pre .1 .0), (token-inside (c .before .before .before .before .before .before .before .before .before .before .before .before .before .before .before .before .args .s .now) (c .before .before .before .before .before .before .before .before .before .before .before .before .before .before .before .before .args .p) (λ e. omega (arith, c .before .before .before .before .before .before .before .before .before .before .before .before .before .before .before .before .pre .1 .1, c .before .before .before .before .before .before .before .before .before .before .if1 .left, e)), positive (c .before .before .before .before .before .before .before .before .before .before .before .before .before .before .before .before .args .d) (c .before .before .before .before .before .before .before .before .before .if2 .left), object-kind tab (c .before .before .before .before .before .before .before .before .before .before .before .before .before .before .before .before .args .row) (sequence-is tab (c .before .before .before .before .before .before .before .before .before .before .before .before .before .before .before .before .args .row) (c .before .before .before .before .before .before .before .before .at .ensures names) (c .before .before .before .is-array2 .ensures _ _ (c .before .before .before .before .before .before .before .before .at .ensures names)) ∙ c .before .before .if7 .taken))))
 
 plain-same-length-9 : (t : ℕ) → plain-lts.Need-same-length-9 (plain-calls t) (plain-at t) plain.Post
 plain-same-length-9 t c = search needs
@@ -1257,31 +1042,22 @@ plain-same-length-10 t c = search needs
 
 plain-returns-7 : (t : ℕ) → plain-lts.Need-returns-7 (plain-calls t) (plain-at t) plain.Post
 plain-returns-7 t c =
-    let c₅ = c .before .before .before .before .before in
-    let c₁₀ = c₅ .before .before .before .before .before in
-    let c₁₅ = c₁₀ .before .before .before .before .before in
-    let c₂₀ = c₁₅ .before .before .before .before .before in
-    let entry = c₂₀ .before in
-    let names = entry .args .names .now in
-    let tab = table (entry .args .types .now) names in
-    let s = entry .args .s .now in
-    let pre = entry .pre .1 .1 in
-    along (ap (λ (x : Res (Got Val)). bind x (within tab (entry .args .row))) (plain-object tab s (entry .args .row) (entry .args .p) (entry .args .d) (c₁₀ .before .before .before .before .if2 .left) (token-object (tokenAt s (entry .args .p)) (rw (← pre) (c₁₅ .if1 .left)) (λ h. c₁₀ .before .before .if3 .left (pre ∙ h))) (λ h. c₁₀ .if6 .left (sym (ap (λ (w : Row). w .kind) (sym (c₁₀ .before .before .before .at .ensures names))) ∙ h)) (sequence-is tab (entry .args .row) (c₁₀ .before .before .before .at .ensures names) (c₅ .before .before .before .is-array2 .ensures _ _ (c₁₀ .before .before .before .at .ensures names)) ∙ c₅ .before .before .if7 .taken))) (c .before .before .before .before .object .ensures)
+    let names = c .before .before .before .before .before .before .before .before .before .before .before .before .before .before .before .before .before .before .before .before .before .args .names .now in
+    let tab = table (c .before .before .before .before .before .before .before .before .before .before .before .before .before .before .before .before .before .before .before .before .before .args .types .now) names in
+    let s = c .before .before .before .before .before .before .before .before .before .before .before .before .before .before .before .before .before .before .before .before .before .args .s .now in
+    let pre = c .before .before .before .before .before .before .before .before .before .before .before .before .before .before .before .before .before .before .before .before .before .pre .1 .1 in
+    along (ap (λ (x : Res (Got Val)). bind x (within tab (c .before .before .before .before .before .before .before .before .before .before .before .before .before .before .before .before .before .before .before .before .before .args .row))) (plain-object tab s (c .before .before .before .before .before .before .before .before .before .before .before .before .before .before .before .before .before .before .before .before .before .args .row) (c .before .before .before .before .before .before .before .before .before .before .before .before .before .before .before .before .before .before .before .before .before .args .p) (c .before .before .before .before .before .before .before .before .before .before .before .before .before .before .before .before .before .before .before .before .before .args .d) (c .before .before .before .before .before .before .before .before .before .before .before .before .before .before .if2 .left) (token-object (tokenAt s (c .before .before .before .before .before .before .before .before .before .before .before .before .before .before .before .before .before .before .before .before .before .args .p)) (rw (← pre) (c .before .before .before .before .before .before .before .before .before .before .before .before .before .before .before .if1 .left)) (λ h. c .before .before .before .before .before .before .before .before .before .before .before .before .if3 .left (pre ∙ h))) (λ h. c .before .before .before .before .before .before .before .before .before .before .if6 .left (sym (ap (λ (w : Row). w .kind) (sym (c .before .before .before .before .before .before .before .before .before .before .before .before .before .at .ensures names))) ∙ h)) (sequence-is tab (c .before .before .before .before .before .before .before .before .before .before .before .before .before .before .before .before .before .before .before .before .before .args .row) (c .before .before .before .before .before .before .before .before .before .before .before .before .before .at .ensures names) (c .before .before .before .before .before .before .before .before .is-array2 .ensures _ _ (c .before .before .before .before .before .before .before .before .before .before .before .before .before .at .ensures names)) ∙ c .before .before .before .before .before .before .before .if7 .taken))) (c .before .before .before .before .object .ensures)
 
 plain-refused-requires-3 : (t : ℕ) → plain-lts.Need-refused-requires-3 (plain-calls t) (plain-at t) plain.Post
 plain-refused-requires-3 t c κs = search needs
 
 plain-returns-8 : (t : ℕ) → plain-lts.Need-returns-8 (plain-calls t) (plain-at t) plain.Post
 plain-returns-8 t c =
-    let c₅ = c .before .before .before .before .before in
-    let c₁₀ = c₅ .before .before .before .before .before in
-    let c₁₅ = c₁₀ .before .before .before .before .before in
-    let entry = c₁₅ in
-    let names = entry .args .names .now in
-    let tab = table (entry .args .types .now) names in
-    let s = entry .args .s .now in
-    let pre = entry .pre .1 .1 in
-    rw (c .refused3 .ensures) (reads-no (over-no tab (entry .args .row) (plain-no-object tab s (entry .args .row) (entry .args .p) (entry .args .d) (c₅ .before .before .before .if2 .left) (token-object (tokenAt s (entry .args .p)) (rw (← pre) (c₅ .before .before .before .before .if1 .left)) (λ h. c₅ .before .if3 .left (pre ∙ h))) (λ h. c .before .before .before .before .if6 .left (sym (ap (λ (w : Row). w .kind) (sym (c₅ .before .before .at .ensures names))) ∙ h)) (sequence-is tab (entry .args .row) (c₅ .before .before .at .ensures names) (c .before .before .is-array2 .ensures _ _ (c₅ .before .before .at .ensures names)) ∙ c .before .if7 .left))))
+    let names = c .before .before .before .before .before .before .before .before .before .before .before .before .before .before .before .args .names .now in
+    let tab = table (c .before .before .before .before .before .before .before .before .before .before .before .before .before .before .before .args .types .now) names in
+    let s = c .before .before .before .before .before .before .before .before .before .before .before .before .before .before .before .args .s .now in
+    let pre = c .before .before .before .before .before .before .before .before .before .before .before .before .before .before .before .pre .1 .1 in
+    rw (c .refused3 .ensures) (reads-no (over-no tab (c .before .before .before .before .before .before .before .before .before .before .before .before .before .before .before .args .row) (plain-no-object tab s (c .before .before .before .before .before .before .before .before .before .before .before .before .before .before .before .args .row) (c .before .before .before .before .before .before .before .before .before .before .before .before .before .before .before .args .p) (c .before .before .before .before .before .before .before .before .before .before .before .before .before .before .before .args .d) (c .before .before .before .before .before .before .before .before .if2 .left) (token-object (tokenAt s (c .before .before .before .before .before .before .before .before .before .before .before .before .before .before .before .args .p)) (rw (← pre) (c .before .before .before .before .before .before .before .before .before .if1 .left)) (λ h. c .before .before .before .before .before .before .if3 .left (pre ∙ h))) (λ h. c .before .before .before .before .if6 .left (sym (ap (λ (w : Row). w .kind) (sym (c .before .before .before .before .before .before .before .at .ensures names))) ∙ h)) (sequence-is tab (c .before .before .before .before .before .before .before .before .before .before .before .before .before .before .before .args .row) (c .before .before .before .before .before .before .before .at .ensures names) (c .before .before .is-array2 .ensures _ _ (c .before .before .before .before .before .before .before .at .ensures names)) ∙ c .before .if7 .left))))
 
 value-token-at-requires : (t : ℕ) → value-lts.Need-token-at-requires (value-calls t) (value-at t) value.Post
 value-token-at-requires t c κs = search needs
@@ -1293,10 +1069,7 @@ value-is-unwrapped-requires : (t : ℕ) → value-lts.Need-is-unwrapped-requires
 value-is-unwrapped-requires t c κs = search needs
 
 value-plain-requires : (t : ℕ) → value-lts.Need-plain-requires (value-calls t) (value-at t) value.Post
-value-plain-requires t c κs =
-    let c₅ = c .before .before .before .before .before in
-    let c₁₀ = c₅ .before .before .before .before .before in
-    (omega arith, (given-below (c₁₀ .before .pre .1), c₅ .token-at .ensures))
+value-plain-requires t c κs = (omega arith, (given-below (c .before .before .before .before .before .before .before .before .before .before .before .pre .1), c .before .before .before .before .before .token-at .ensures))
 
 value-same-length : (t : ℕ) → value-lts.Need-same-length (value-calls t) (value-at t) value.Post
 value-same-length t c = search needs
@@ -1306,12 +1079,8 @@ value-same-length-2 t c = search needs
 
 value-returns : (t : ℕ) → value-lts.Need-returns (value-calls t) (value-at t) value.Post
 value-returns t c =
-    let c₅ = c .before .before .before .before .before in
-    let c₁₀ = c₅ .before .before .before .before .before in
-    let c₁₅ = c₁₀ .before .before .before .before .before in
-    let entry = c₁₅ .before in
-    let names = entry .args .names .now in
-    along (value-plain (entry .args .d) (table (entry .args .types .now) names) (entry .args .s .now) (entry .args .row) (entry .args .p) (sym (c₅ .before .before .before .is-unwrapped .ensures _ _ (c₅ .before .before .before .before .at .ensures names)) ∙ not-true _ (c₅ .before .before .if1 .taken))) (c .before .before .before .before .plain .ensures)
+    let names = c .before .before .before .before .before .before .before .before .before .before .before .before .before .before .before .before .args .names .now in
+    along (value-plain (c .before .before .before .before .before .before .before .before .before .before .before .before .before .before .before .before .args .d) (table (c .before .before .before .before .before .before .before .before .before .before .before .before .before .before .before .before .args .types .now) names) (c .before .before .before .before .before .before .before .before .before .before .before .before .before .before .before .before .args .s .now) (c .before .before .before .before .before .before .before .before .before .before .before .before .before .before .before .before .args .row) (c .before .before .before .before .before .before .before .before .before .before .before .before .before .before .before .before .args .p) (sym (c .before .before .before .before .before .before .before .before .is-unwrapped .ensures _ _ (c .before .before .before .before .before .before .before .before .before .at .ensures names)) ∙ not-true _ (c .before .before .before .before .before .before .before .if1 .taken))) (c .before .before .before .before .plain .ensures)
 
 value-alternative-requires : (t : ℕ) → value-lts.Need-alternative-requires (value-calls t) (value-at t) value.Post
 value-alternative-requires t c κs = search needs
@@ -1333,15 +1102,12 @@ value-add-plain t c = search needs
 
 value-plain-requires-2 : (t : ℕ) → value-lts.Need-plain-requires-2 (value-calls t) (value-at t) value.Post
 value-plain-requires-2 t c κs =
-    let c₅ = c .before .before .before .before .before in
-    let c₁₀ = c₅ .before .before .before .before .before in
-    let c₁₅ = c₁₀ .before .before .before .before .before in
-    let entry = c₁₅ .before in
+    let names = c .before .before .before .before .before .before .before .before .before .before .before .before .before .before .before .before .args .names .now in
     let k = c .before .before .before .before .k in
-    let names = entry .args .names .now in
-    let tokenAt′ = tokenAt (entry .args .s .now) (entry .args .p) in
-    let token-at-said = c₁₀ .token-at .ensures in
-    (omega arith, (given-type (entry .pre .1) (rw (c .before .before .type-at .ensures names) ((entry .pre .1) .sane .member (entry .args .row) (k .given .0 .0) ((entry .pre .1) .typed) (alternative-found (table (entry .args .types .now) names) (entry .args .row) tokenAt′ (k .given .0 .0) (found-some _ (sym (k .given .1) ∙ c₅ .before .alternative .ensures names tokenAt′ (c₁₀ .token-at .ensures)))))), token-at-said))
+    let entry = (c .before .before .before .before .before .before .before .before .before .before .before .before .before .before .before .before) in
+    let tokenAt′ = tokenAt (c .before .before .before .before .before .before .before .before .before .before .before .before .before .before .before .before .args .s .now) (c .before .before .before .before .before .before .before .before .before .before .before .before .before .before .before .before .args .p) in
+    let token-at-said = c .before .before .before .before .before .before .before .before .before .before .token-at .ensures in
+    (omega arith, (given-type (c .before .before .before .before .before .before .before .before .before .before .before .before .before .before .before .before .pre .1) (rw (c .before .before .type-at .ensures names) ((c .before .before .before .before .before .before .before .before .before .before .before .before .before .before .before .before .pre .1) .sane .member (c .before .before .before .before .before .before .before .before .before .before .before .before .before .before .before .before .args .row) (k .given .0 .0) ((c .before .before .before .before .before .before .before .before .before .before .before .before .before .before .before .before .pre .1) .typed) (alternative-found (table (c .before .before .before .before .before .before .before .before .before .before .before .before .before .before .before .before .args .types .now) names) (c .before .before .before .before .before .before .before .before .before .before .before .before .before .before .before .before .args .row) tokenAt′ (k .given .0 .0) (found-some _ (sym (k .given .1) ∙ c .before .before .before .before .before .before .alternative .ensures names tokenAt′ (c .before .before .before .before .before .before .before .before .before .before .token-at .ensures)))))), token-at-said))
 
 value-enum-known-e : (t : ℕ) → value-lts.Need-enum-known-e (value-calls t) (value-at t) value.Post
 value-enum-known-e t c = search needs
@@ -1351,21 +1117,14 @@ value-enum-known-next t c = search needs
 
 value-close-requires : (t : ℕ) → value-lts.Need-close-requires (value-calls t) (value-at t) value.Post
 value-close-requires t c κs =
-    let c₅ = c .before .before .before .before .before in
-    let c₁₀ = c₅ .before .before .before .before .before in
-    let c₁₅ = c₁₀ .before .before .before .before .before in
-    let c₂₀ = c₁₅ .before .before .before .before .before in
-    let c₂₅ = c₂₀ .before .before .before .before .before in
-    (omega (arith, (c₂₅ .pre .1) .rowRoom), omega (arith, passed (c₅ .before .before .before .plain2 .ensures) (c .before .before .next .given .1) .fewRows))
+    let c₂₅ = (c .before .before .before .before .before .before .before .before .before .before .before .before .before .before .before .before .before .before .before .before .before .before .before .before .before) in
+    (omega (arith, (c .before .before .before .before .before .before .before .before .before .before .before .before .before .before .before .before .before .before .before .before .before .before .before .before .before .pre .1) .rowRoom), omega (arith, passed (c .before .before .before .before .before .before .before .before .plain2 .ensures) (c .before .before .next .given .1) .fewRows))
 
 value-returns-2 : (t : ℕ) → value-lts.Need-returns-2 (value-calls t) (value-at t) value.Post
 value-returns-2 t c =
-    let c₅ = c .before .before .before .before .before in
-    let c₁₀ = c₅ .before .before .before .before .before in
-    let entry = c₁₀ .before .before .before in
-    let names = entry .args .names .now in
-    let tab = table (entry .args .types .now) names in
-    unknown-reads OtherKind (entry .args .p) (entry .args .p) (extensible tab (entry .args .row)) (c .unknown .ensures names) (value-none (entry .args .d) tab (entry .args .s .now) (entry .args .row) (entry .args .p) (sym (c₅ .is-unwrapped .ensures _ _ (c₅ .before .at .ensures names)) ∙ not-false _ (c .before .before .before .before .if1 .left)) (found-none _ (sym (c .before .enum-told .given .1) ∙ c .before .before .before .alternative .ensures names _ (c₅ .before .before .token-at .ensures))))
+    let names = c .before .before .before .before .before .before .before .before .before .before .before .before .before .args .names .now in
+    let tab = table (c .before .before .before .before .before .before .before .before .before .before .before .before .before .args .types .now) names in
+    unknown-reads OtherKind (c .before .before .before .before .before .before .before .before .before .before .before .before .before .args .p) (c .before .before .before .before .before .before .before .before .before .before .before .before .before .args .p) (extensible tab (c .before .before .before .before .before .before .before .before .before .before .before .before .before .args .row)) (c .unknown .ensures names) (value-none (c .before .before .before .before .before .before .before .before .before .before .before .before .before .args .d) tab (c .before .before .before .before .before .before .before .before .before .before .before .before .before .args .s .now) (c .before .before .before .before .before .before .before .before .before .before .before .before .before .args .row) (c .before .before .before .before .before .before .before .before .before .before .before .before .before .args .p) (sym (c .before .before .before .before .before .is-unwrapped .ensures _ _ (c .before .before .before .before .before .before .at .ensures names)) ∙ not-false _ (c .before .before .before .before .if1 .left)) (found-none _ (sym (c .before .enum-told .given .1) ∙ c .before .before .before .alternative .ensures names _ (c .before .before .before .before .before .before .before .token-at .ensures))))
 
 value-same-length-3 : (t : ℕ) → value-lts.Need-same-length-3 (value-calls t) (value-at t) value.Post
 value-same-length-3 t c = search needs
@@ -1375,16 +1134,11 @@ value-same-length-4 t c = search needs
 
 value-returns-3 : (t : ℕ) → value-lts.Need-returns-3 (value-calls t) (value-at t) value.Post
 value-returns-3 t c =
-    let c₅ = c .before .before .before .before .before in
-    let c₁₀ = c₅ .before .before .before .before .before in
-    let c₁₅ = c₁₀ .before .before .before .before .before in
-    let c₂₀ = c₁₅ .before .before .before .before .before in
-    let entry = c₂₀ .before .before .before .before in
-    let names = entry .args .names .now in
-    let tab = table (entry .args .types .now) names in
-    let s = entry .args .s .now in
-    let tokenAt′ = tokenAt s (entry .args .p) in
-    reads-no (value-refused (entry .args .d) tab s (entry .args .row) (entry .args .p) (sym (c₁₅ .before .is-unwrapped .ensures _ _ (c₁₅ .before .before .at .ensures names)) ∙ not-false _ (c₁₅ .if1 .left)) (found-some _ (sym (c₁₀ .before .before .k .given .1) ∙ c₁₀ .before .before .before .before .alternative .ensures names tokenAt′ (c₁₅ .before .before .before .token-at .ensures))) (failed (at-row (λ r u. bind (plainAt (entry .args .d) tab s tokenAt′ r u) (within tab r)) (entry .args .p) (c₁₀ .type-at .ensures names) (c₅ .before .before .plain2 .ensures)) (c .before .e .given .1)))
+    let names = c .before .before .before .before .before .before .before .before .before .before .before .before .before .before .before .before .before .before .before .before .before .before .before .before .args .names .now in
+    let tab = table (c .before .before .before .before .before .before .before .before .before .before .before .before .before .before .before .before .before .before .before .before .before .before .before .before .args .types .now) names in
+    let s = c .before .before .before .before .before .before .before .before .before .before .before .before .before .before .before .before .before .before .before .before .before .before .before .before .args .s .now in
+    let tokenAt′ = tokenAt s (c .before .before .before .before .before .before .before .before .before .before .before .before .before .before .before .before .before .before .before .before .before .before .before .before .args .p) in
+    reads-no (value-refused (c .before .before .before .before .before .before .before .before .before .before .before .before .before .before .before .before .before .before .before .before .before .before .before .before .args .d) tab s (c .before .before .before .before .before .before .before .before .before .before .before .before .before .before .before .before .before .before .before .before .before .before .before .before .args .row) (c .before .before .before .before .before .before .before .before .before .before .before .before .before .before .before .before .before .before .before .before .before .before .before .before .args .p) (sym (c .before .before .before .before .before .before .before .before .before .before .before .before .before .before .before .before .is-unwrapped .ensures _ _ (c .before .before .before .before .before .before .before .before .before .before .before .before .before .before .before .before .before .at .ensures names)) ∙ not-false _ (c .before .before .before .before .before .before .before .before .before .before .before .before .before .before .before .if1 .left)) (found-some _ (sym (c .before .before .before .before .before .before .before .before .before .before .before .before .k .given .1) ∙ c .before .before .before .before .before .before .before .before .before .before .before .before .before .before .alternative .ensures names tokenAt′ (c .before .before .before .before .before .before .before .before .before .before .before .before .before .before .before .before .before .before .token-at .ensures))) (failed (at-row (λ r u. bind (plainAt (c .before .before .before .before .before .before .before .before .before .before .before .before .before .before .before .before .before .before .before .before .before .before .before .before .args .d) tab s tokenAt′ r u) (within tab r)) (c .before .before .before .before .before .before .before .before .before .before .before .before .before .before .before .before .before .before .before .before .before .before .before .before .args .p) (c .before .before .before .before .before .before .before .before .before .before .type-at .ensures names) (c .before .before .before .before .before .before .before .plain2 .ensures)) (c .before .e .given .1)))
 
 value-same-length-5 : (t : ℕ) → value-lts.Need-same-length-5 (value-calls t) (value-at t) value.Post
 value-same-length-5 t c = search needs
@@ -1394,24 +1148,20 @@ value-same-length-6 t c = search needs
 
 value-returns-4 : (t : ℕ) → value-lts.Need-returns-4 (value-calls t) (value-at t) value.Post
 value-returns-4 t c =
-    let c₅ = c .before .before .before .before .before in
-    let c₁₀ = c₅ .before .before .before .before .before in
-    let c₁₅ = c₁₀ .before .before .before .before .before in
-    let c₂₀ = c₁₅ .before .before .before .before .before in
-    let c₂₅ = c₂₀ .before .before .before .before .before in
-    let entry = c₂₅ .before .before .before in
-    let names = entry .args .names .now in
-    let tab = table (entry .args .types .now) names in
-    let s = entry .args .s .now in
-    let back = sym (c₂₀ .is-unwrapped .ensures _ _ (c₂₀ .before .at .ensures names)) ∙ not-false _ (c₁₅ .before .before .before .before .if1 .left) in
-    let tokenAt′ = tokenAt s (entry .args .p) in
-    let there = at-row (λ r u. bind (plainAt (entry .args .d) tab s tokenAt′ r u) (within tab r)) (entry .args .p) (c₁₀ .before .before .before .before .type-at .ensures names) (c₁₀ .before .plain2 .ensures) in
-    let next = c₅ .next .given .1 in
-    along (value-picked (entry .args .d) tab s (entry .args .row) (entry .args .p) back (found-some _ (sym (c₁₅ .before .k .given .1) ∙ c₁₅ .before .before .before .alternative .ensures names tokenAt′ (c₂₀ .before .before .token-at .ensures))) (passed there next .took .is)) (closed (whole-choice (passed there next .took) (there .stepped) (unwrapped-kind tab (entry .args .row) back)) (omega (arith, passed there next .near, passed there next .took .next)) (rw (passed there next .took .next) (c .before .before .close .ensures .0)) (c .before .before .close .ensures .1))
+    let names = c .before .before .before .before .before .before .before .before .before .before .before .before .before .before .before .before .before .before .before .before .before .before .before .before .before .before .before .before .args .names .now in
+    let tab = table (c .before .before .before .before .before .before .before .before .before .before .before .before .before .before .before .before .before .before .before .before .before .before .before .before .before .before .before .before .args .types .now) names in
+    let s = c .before .before .before .before .before .before .before .before .before .before .before .before .before .before .before .before .before .before .before .before .before .before .before .before .before .before .before .before .args .s .now in
+    let next = c .before .before .before .before .before .next .given .1 in
+    let tokenAt′ = tokenAt s (c .before .before .before .before .before .before .before .before .before .before .before .before .before .before .before .before .before .before .before .before .before .before .before .before .before .before .before .before .args .p) in
+    let entry = (c .before .before .before .before .before .before .before .before .before .before .before .before .before .before .before .before .before .before .before .before .before .before .before .before .before .before .before .before) in
+    let back = sym (c .before .before .before .before .before .before .before .before .before .before .before .before .before .before .before .before .before .before .before .before .is-unwrapped .ensures _ _ (c .before .before .before .before .before .before .before .before .before .before .before .before .before .before .before .before .before .before .before .before .before .at .ensures names)) ∙ not-false _ (c .before .before .before .before .before .before .before .before .before .before .before .before .before .before .before .before .before .before .before .if1 .left) in
+    let there = at-row (λ r u. bind (plainAt (c .before .before .before .before .before .before .before .before .before .before .before .before .before .before .before .before .before .before .before .before .before .before .before .before .before .before .before .before .args .d) tab s tokenAt′ r u) (within tab r)) (c .before .before .before .before .before .before .before .before .before .before .before .before .before .before .before .before .before .before .before .before .before .before .before .before .before .before .before .before .args .p) (c .before .before .before .before .before .before .before .before .before .before .before .before .before .before .type-at .ensures names) (c .before .before .before .before .before .before .before .before .before .before .before .plain2 .ensures) in
+    along (value-picked (c .before .before .before .before .before .before .before .before .before .before .before .before .before .before .before .before .before .before .before .before .before .before .before .before .before .before .before .before .args .d) tab s (c .before .before .before .before .before .before .before .before .before .before .before .before .before .before .before .before .before .before .before .before .before .before .before .before .before .before .before .before .args .row) (c .before .before .before .before .before .before .before .before .before .before .before .before .before .before .before .before .before .before .before .before .before .before .before .before .before .before .before .before .args .p) back (found-some _ (sym (c .before .before .before .before .before .before .before .before .before .before .before .before .before .before .before .before .k .given .1) ∙ c .before .before .before .before .before .before .before .before .before .before .before .before .before .before .before .before .before .before .alternative .ensures names tokenAt′ (c .before .before .before .before .before .before .before .before .before .before .before .before .before .before .before .before .before .before .before .before .before .before .token-at .ensures))) (passed there next .took .is)) (closed (whole-choice (passed there next .took) (there .stepped) (unwrapped-kind tab (c .before .before .before .before .before .before .before .before .before .before .before .before .before .before .before .before .before .before .before .before .before .before .before .before .before .before .before .before .args .row) back)) (omega (arith, passed there next .near, passed there next .took .next)) (rw (passed there next .took .next) (c .before .before .close .ensures .0)) (c .before .before .close .ensures .1))
 
 pub +array+choice+each-member+list+object+plain+value-spec : {M : Type 1} → statement M
 +array+choice+each-member+list+object+plain+value-spec =
-    close μ-array μ-choice μ-each-member μ-list μ-object μ-plain μ-value (λ t. array-lts.spec (array-calls t) (array-at t) array.Post
+    close μ-array μ-choice μ-each-member μ-list μ-object μ-plain μ-value
+    (λ t. array-lts.spec (array-calls t) (array-at t) array.Post
     array-Inv-loop
     array-μ-loop
     (array-count-of-requires t)
@@ -1493,8 +1243,7 @@ pub +array+choice+each-member+list+object+plain+value-spec : {M : Type 1} → st
     (choice-same-length-3 t)
     (choice-same-length-4 t)
     (choice-returns-4 t))
-    (λ t. each-member-lts.spec (each-member-calls t) (each-member-at t)
-    each-member.Post
+    (λ t. each-member-lts.spec (each-member-calls t) (each-member-at t) each-member.Post
     each-member-Inv-loop
     each-member-μ-loop
     (each-member-count-of-requires t)

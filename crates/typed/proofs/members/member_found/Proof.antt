@@ -1,3 +1,4 @@
+-- Made by tools/answers.py from answers/members/member_found.ans: edit that. 5eac2c15573c55f6
 use Rattle.typed.proofs.FoundLaws.{member-absent, member-missing, member-null, member-there}
 use Rattle.jer.specs.Table.{table}
 use borrow.Author.Tests.{not-true, not-false}
@@ -9,16 +10,10 @@ may-miss-requires : tie.Need-may-miss-requires
 may-miss-requires c κs = search needs
 
 returns : tie.Need-returns
-returns c =
-    let c₅ = c .before .before .before .before .before in
-    let entry = c₅ in
-    λ ns. member-absent (table (entry .args .types .now) ns) (entry .args .s .now) (entry .args .row) (entry .args .k) (entry .args .q) (not-true _ (c .before .before .if1 .taken)) (c .before .may-miss .ensures ns) (c .if2 .taken)
+returns c = λ ns. member-absent (table (c .before .before .before .before .before .args .types .now) ns) (c .before .before .before .before .before .args .s .now) (c .before .before .before .before .before .args .row) (c .before .before .before .before .before .args .k) (c .before .before .before .before .before .args .q) (not-true _ (c .before .before .if1 .taken)) (c .before .may-miss .ensures ns) (c .if2 .taken)
 
 returns-2 : tie.Need-returns-2
-returns-2 c =
-    let c₅ = c .before .before .before .before .before in
-    let entry = c₅ in
-    λ ns. member-missing (table (entry .args .types .now) ns) (entry .args .s .now) (entry .args .row) (entry .args .k) (entry .args .q) (not-true _ (c .before .before .if1 .taken)) (c .before .may-miss .ensures ns) (c .if2 .left)
+returns-2 c = λ ns. member-missing (table (c .before .before .before .before .before .args .types .now) ns) (c .before .before .before .before .before .args .s .now) (c .before .before .before .before .before .args .row) (c .before .before .before .before .before .args .k) (c .before .before .before .before .before .args .q) (not-true _ (c .before .before .if1 .taken)) (c .before .may-miss .ensures ns) (c .if2 .left)
 
 null-at-requires : tie.Need-null-at-requires
 null-at-requires c κs = search needs
@@ -27,16 +22,10 @@ null-absent-requires : tie.Need-null-absent-requires
 null-absent-requires c κs = search needs
 
 returns-3 : tie.Need-returns-3
-returns-3 c =
-    let c₅ = c .before .before .before .before .before in
-    let entry = c₅ .before in
-    λ ns. member-null (table (entry .args .types .now) ns) (entry .args .s .now) (entry .args .row) (entry .args .k) (entry .args .q) (not-false _ (c .before .before .before .if1 .left)) (c .before .before .null-at .ensures) (c .before .null-absent .ensures ns) (c .if3 .taken)
+returns-3 c = λ ns. member-null (table (c .before .before .before .before .before .before .args .types .now) ns) (c .before .before .before .before .before .before .args .s .now) (c .before .before .before .before .before .before .args .row) (c .before .before .before .before .before .before .args .k) (c .before .before .before .before .before .before .args .q) (not-false _ (c .before .before .before .if1 .left)) (c .before .before .null-at .ensures) (c .before .null-absent .ensures ns) (c .if3 .taken)
 
 returns-4 : tie.Need-returns-4
-returns-4 c =
-    let c₅ = c .before .before .before .before .before in
-    let entry = c₅ .before in
-    λ ns. member-there (table (entry .args .types .now) ns) (entry .args .s .now) (entry .args .row) (entry .args .k) (entry .args .q) (not-false _ (c .before .before .before .if1 .left)) (c .before .before .null-at .ensures) (c .before .null-absent .ensures ns) (c .if3 .left)
+returns-4 c = λ ns. member-there (table (c .before .before .before .before .before .before .args .types .now) ns) (c .before .before .before .before .before .before .args .s .now) (c .before .before .before .before .before .before .args .row) (c .before .before .before .before .before .before .args .k) (c .before .before .before .before .before .before .args .q) (not-false _ (c .before .before .before .if1 .left)) (c .before .before .null-at .ensures) (c .before .null-absent .ensures ns) (c .if3 .left)
 
 pub member-found-spec : {M : Type 1} → statement M
 member-found-spec =

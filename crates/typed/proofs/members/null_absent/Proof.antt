@@ -1,3 +1,4 @@
+-- Made by tools/answers.py from answers/members/null_absent.ans: edit that. 61370e9d6d97d778
 use Rattle.jer.specs.Table.{table}
 use Rattle.typed.proofs.FoundLaws.{null-told}
 use borrow.Author.Needs.{needs}
@@ -24,4 +25,9 @@ returns c =
 pub null-absent-spec : {M : Type 1} → statement M
 null-absent-spec =
     tie.close
-    (tie.spec member-at-requires optional-requires type-at-requires null-taken-requires returns)
+    (tie.spec
+    member-at-requires
+    optional-requires
+    type-at-requires
+    null-taken-requires
+    returns)

@@ -1,3 +1,4 @@
+-- Made by tools/answers.py from answers/members/one_at.ans: edit that. bea1a71dbacbc24a
 use Rattle.typed.proofs.FoundLaws.{one-none, one-more, one-there}
 use Rattle.scan.proofs.PartLaws.{first-inside}
 use native.Mathlib.Omega.{arith}
@@ -17,10 +18,9 @@ enum-known-q c = search needs
 
 value-place-requires : tie.Need-value-place-requires
 value-place-requires c κs =
-    let c₅ = c .before .before .before .before .before in
-    let entry = c₅ in
-    let pre = entry .pre .0 in
-    (pre, omega (arith, pre, first-inside (entry .args .s .now) 0x7D (entry .args .p) (c .before .q .given .0 .0) (entry .pre .1) (sym (c .before .before .before .first-part .ensures) ∙ c .before .q .given .1)))
+    let c₅ = (c .before .before .before .before .before) in
+    let pre = c .before .before .before .before .before .pre .0 in
+    (pre, omega (arith, pre, first-inside (c .before .before .before .before .before .args .s .now) 0x7D (c .before .before .before .before .before .args .p) (c .before .q .given .0 .0) (c .before .before .before .before .before .pre .1) (sym (c .before .before .before .first-part .ensures) ∙ c .before .q .given .1)))
 
 skip-value-requires : tie.Need-skip-value-requires
 skip-value-requires c κs = search needs
@@ -32,23 +32,13 @@ byte-at-requires : tie.Need-byte-at-requires
 byte-at-requires c κs = search needs
 
 returns : tie.Need-returns
-returns c =
-    let c₅ = c .before .before .before .before .before in
-    let c₁₀ = c₅ .before .before .before .before .before in
-    let entry = c₁₀ in
-    one-more (entry .args .depth) (entry .args .s .now) (sym (c₅ .before .before .before .first-part .ensures) ∙ c₅ .before .q .given .1) (c .before .before .before .before .value-place .ensures .0) (c .before .before .before .skip-value .ensures) (c .before .before .skip-space .ensures) (c .before .byte-at .ensures .0) (c .if1 .taken)
+returns c = one-more (c .before .before .before .before .before .before .before .before .before .before .args .depth) (c .before .before .before .before .before .before .before .before .before .before .args .s .now) (sym (c .before .before .before .before .before .before .before .before .first-part .ensures) ∙ c .before .before .before .before .before .before .q .given .1) (c .before .before .before .before .value-place .ensures .0) (c .before .before .before .skip-value .ensures) (c .before .before .skip-space .ensures) (c .before .byte-at .ensures .0) (c .if1 .taken)
 
 returns-2 : tie.Need-returns-2
-returns-2 c =
-    let entry = c .before .before .before .before in
-    one-none (entry .args .depth) (entry .args .s .now) (sym (c .before .before .first-part .ensures) ∙ c .enum-told .given .1)
+returns-2 c = one-none (c .before .before .before .before .args .depth) (c .before .before .before .before .args .s .now) (sym (c .before .before .first-part .ensures) ∙ c .enum-told .given .1)
 
 returns-3 : tie.Need-returns-3
-returns-3 c =
-    let c₅ = c .before .before .before .before .before in
-    let c₁₀ = c₅ .before .before .before .before .before in
-    let entry = c₁₀ in
-    one-there (entry .args .depth) (entry .args .s .now) (sym (c₅ .before .before .before .first-part .ensures) ∙ c₅ .before .q .given .1) (c .before .before .before .before .value-place .ensures .0) (c .before .before .before .skip-value .ensures) (c .before .before .skip-space .ensures) (c .before .byte-at .ensures .0) (c .if1 .left)
+returns-3 c = one-there (c .before .before .before .before .before .before .before .before .before .before .args .depth) (c .before .before .before .before .before .before .before .before .before .before .args .s .now) (sym (c .before .before .before .before .before .before .before .before .first-part .ensures) ∙ c .before .before .before .before .before .before .q .given .1) (c .before .before .before .before .value-place .ensures .0) (c .before .before .before .skip-value .ensures) (c .before .before .skip-space .ensures) (c .before .byte-at .ensures .0) (c .if1 .left)
 
 pub one-at-spec : {M : Type 1} → statement M
 one-at-spec =

@@ -1,3 +1,4 @@
+-- Made by tools/answers.py from answers/members/unknown.ans: edit that. d02b2da548c922ed
 use mathlib.Core.Path.{sym, _∙_}
 use borrow.Author.Needs.{needs}
 use Rattle.typed.proofs.members.unknown.Statement.{statement}

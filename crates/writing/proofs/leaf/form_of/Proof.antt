@@ -1,3 +1,4 @@
+-- Made by tools/answers.py from answers/leaf/form_of.ans: edit that. fc26b2a7ba0af377
 use mathlib.Core.Path.{ap}
 use Rattle.jer.specs.Table.{table}
 use Rattle.types.specs.declared.row.Row.{Row}
@@ -6,27 +7,25 @@ use borrow.Author.Needs.{needs}
 use Rattle.writing.proofs.leaf.form_of.Statement.{statement}
 use Rattle.writing.proofs.leaf.form_of.Tie as tie
 
--- src/leaf.rt:34:9
 at-requires : tie.Need-at-requires
 at-requires c κs = search needs
 
--- src/leaf.rt:36:9
 returns : tie.Need-returns
-returns c = let a = c .before .before .before .before .args in
+returns c =
+    let a = c .before .before .before .before .args in
     λ ns. form-text (table (a .types .now) ns) (a .r) (ap (λ (w : Row). w .kind) (c .before .before .at .ensures ns)) (c .if1 .taken)
 
--- src/leaf.rt:38:8
 is-base64-requires : tie.Need-is-base64-requires
 is-base64-requires c κs = search needs
 
--- src/leaf.rt:39:9
 returns-2 : tie.Need-returns-2
-returns-2 c = let a = c .before .before .before .before .before .before .args in
+returns-2 c =
+    let a = c .before .before .before .before .before .before .args in
     λ ns. form-base64 (table (a .types .now) ns) (a .r) (ap (λ (w : Row). w .kind) (c .before .before .before .before .at .ensures ns)) (c .before .before .if1 .left) (c .before .is-base64 .ensures _ _ (c .before .before .before .before .at .ensures ns)) (c .if2 .taken)
 
--- src/leaf.rt:31:1
 returns-3 : tie.Need-returns-3
-returns-3 c = let a = c .before .before .before .before .before .before .args in
+returns-3 c =
+    let a = c .before .before .before .before .before .before .args in
     λ ns. form-hex (table (a .types .now) ns) (a .r) (ap (λ (w : Row). w .kind) (c .before .before .before .before .at .ensures ns)) (c .before .before .if1 .left) (c .before .is-base64 .ensures _ _ (c .before .before .before .before .at .ensures ns)) (c .if2 .left)
 
 pub form-of-spec : {M : Type 1} → statement M

@@ -1,118 +1,97 @@
+-- Made by tools/answers.py from answers/leaf/leaf.ans: edit that. 03a319bacd24f962
 use Rattle.jer.specs.Table.{table}
 use Rattle.writing.proofs.LeafLaws.{bool-ends, int-ends, enum-ends, null-ends}
 use borrow.Author.Needs.{needs}
 use Rattle.writing.proofs.leaf.leaf.Statement.{statement}
 use Rattle.writing.proofs.leaf.leaf.Tie as tie
 
--- src/leaf.rt:65:17
 put-bool-requires : tie.Need-put-bool-requires
 put-bool-requires c κs = search needs
 
--- src/leaf.rt:66:54
 add-ended : tie.Need-add-ended
 add-ended c = search needs
 
--- src/leaf.rt:66:13
 ended-requires : tie.Need-ended-requires
 ended-requires c κs = search needs
 
--- src/leaf.rt:69:17
 put-integer-requires : tie.Need-put-integer-requires
 put-integer-requires c κs = search needs
 
--- src/leaf.rt:70:36
 add-ended-2 : tie.Need-add-ended-2
 add-ended-2 c = search needs
 
--- src/leaf.rt:70:13
 ended-requires-2 : tie.Need-ended-requires-2
 ended-requires-2 c κs = search needs
 
--- src/leaf.rt:73:46
 member-row-requires : tie.Need-member-row-requires
 member-row-requires c κs = search needs
 
--- src/leaf.rt:73:17
 name-in-requires : tie.Need-name-in-requires
 name-in-requires c κs = search needs
 
--- src/leaf.rt:74:17
 put-string-requires : tie.Need-put-string-requires
 put-string-requires c κs = search needs
 
--- src/leaf.rt:75:26
 count-of-requires : tie.Need-count-of-requires
 count-of-requires c κs = search needs
 
--- src/leaf.rt:75:71
 add-ended-3 : tie.Need-add-ended-3
 add-ended-3 c = search needs
 
--- src/leaf.rt:75:13
 ended-requires-3 : tie.Need-ended-requires-3
 ended-requires-3 c κs = search needs
 
--- src/leaf.rt:78:17
 put-null-requires : tie.Need-put-null-requires
 put-null-requires c κs = search needs
 
--- src/leaf.rt:79:55
 add-ended-4 : tie.Need-add-ended-4
 add-ended-4 c = search needs
 
--- src/leaf.rt:79:13
 ended-requires-4 : tie.Need-ended-requires-4
 ended-requires-4 c κs = search needs
 
--- src/leaf.rt:81:14
 string-requires : tie.Need-string-requires
 string-requires c κs = search needs
 
--- src/leaf.rt:58:1
 same-length : tie.Need-same-length
 same-length c = search needs
 
--- src/leaf.rt:58:1
 returns : tie.Need-returns
-returns c = let a = c .before .before .before .before .before .before .before .before .before .before .before .before .before .args in
+returns c =
+    let a = c .before .before .before .before .before .before .before .before .before .before .before .before .before .args in
     let w = a .w in
     λ i ws. bool-ends i (table (a .types .now) (a .names .now)) (a .pool .now) (a .r) (w .a) (w .b) (w .size) ws (a .q) (a .o) (c .before .before .before .before .before .before .before .before .before .before .before .before .before .pre .0) (c .before .before .before .before .before .before .before .before .match .keys1) (c .before .before .before .before .before .put-bool .ensures) (c .ended .ensures)
 
--- src/leaf.rt:58:1
 same-length-2 : tie.Need-same-length-2
 same-length-2 c = search needs
 
--- src/leaf.rt:58:1
 returns-2 : tie.Need-returns-2
-returns-2 c = let a = c .before .before .before .before .before .before .before .before .before .before .args in
+returns-2 c =
+    let a = c .before .before .before .before .before .before .before .before .before .before .args in
     let w = a .w in
     λ i ws. int-ends i (table (a .types .now) (a .names .now)) (a .pool .now) (a .r) (w .a) (w .b) (w .size) ws (a .q) (a .o) (c .before .before .before .before .before .before .before .before .before .before .pre .0) (c .before .before .before .before .before .match .keys2) (c .before .before .before .put-integer .ensures) (c .ended2 .ensures)
 
--- src/leaf.rt:58:1
 same-length-3 : tie.Need-same-length-3
 same-length-3 c = search needs
 
--- src/leaf.rt:58:1
 returns-3 : tie.Need-returns-3
-returns-3 c = let a = c .before .before .before .before .before .before .before .before .before .before .before .before .before .before .before .args in
+returns-3 c =
+    let a = c .before .before .before .before .before .before .before .before .before .before .before .before .before .before .before .args in
     let w = a .w in
     λ i ws. enum-ends i (table (a .types .now) (a .names .now)) (a .pool .now) (a .r) (w .a) (w .b) (w .size) ws (a .q) (a .o) (c .before .before .before .before .before .before .before .before .before .before .before .before .before .before .before .pre .0) (c .before .before .before .before .before .before .before .before .before .before .match .keys3) (c .before .before .before .count-of .ensures (a .names .now)) (c .before .before .before .before .before .before .before .before .before .member-row .ensures (a .names .now)) (c .before .before .before .before .before .before .before .before .name-in .ensures) (c .before .before .before .before .before .before .put-string .ensures) (c .ended3 .ensures)
 
--- src/leaf.rt:58:1
 same-length-4 : tie.Need-same-length-4
 same-length-4 c = search needs
 
--- src/leaf.rt:58:1
 returns-4 : tie.Need-returns-4
-returns-4 c = let a = c .before .before .before .before .before .before .before .before .before .before .before .before .args in
+returns-4 c =
+    let a = c .before .before .before .before .before .before .before .before .before .before .before .before .args in
     let w = a .w in
     λ i ws. null-ends i (table (a .types .now) (a .names .now)) (a .pool .now) (a .r) (w .a) (w .b) (w .size) ws (a .q) (a .o) (c .before .before .before .before .before .before .before .before .before .before .before .before .pre .0) (c .before .before .before .before .before .before .before .match .keys4) (c .before .before .before .before .before .put-null .ensures) (c .ended4 .ensures)
 
--- src/leaf.rt:58:1
 same-length-5 : tie.Need-same-length-5
 same-length-5 c = search needs
 
--- src/leaf.rt:58:1
 returns-5 : tie.Need-returns-5
 returns-5 c = c .before .before .string .ensures
 

@@ -1,7 +1,8 @@
-use borrow.Author.Needs.{needs}
+-- Made by tools/answers.py from answers/put/end_of.ans: edit that. 8320826d00e0c3c2
 use lib.ListN.{length}
 use Rattle.writing.specs.Text.{spelled}
 use Rattle.writing.proofs.PutLaws.{measured}
+use borrow.Author.Needs.{needs}
 use Rattle.writing.proofs.put.end_of.Statement.{statement}
 use Rattle.writing.proofs.put.end_of.Tie as tie
 
@@ -12,7 +13,8 @@ add-requires : tie.Need-add-requires
 add-requires c κs = search needs
 
 returns : tie.Need-returns
-returns c = let a = c .before .before .before .args in
+returns c =
+    let a = c .before .before .before .args in
     measured (a .k) (length (spelled (a .form) (a .s .now))) (c .before .spelled-len .ensures) (c .add .ensures)
 
 pub end-of-spec : {M : Type 1} → statement M

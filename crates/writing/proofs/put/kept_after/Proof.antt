@@ -1,23 +1,20 @@
+-- Made by tools/answers.py from answers/put/kept_after.ans: edit that. 5b7e098c0210aa45
 use native.Mathlib.Numerals.{add-one}
 use Rattle.writing.specs.Text.{keptAfter}
 use borrow.Author.Needs.{needs}
 use Rattle.writing.proofs.put.kept_after.Statement.{statement}
 use Rattle.writing.proofs.put.kept_after.Tie as tie
 
--- src/put.rt:110:16
 add-result : tie.Need-add-result
 add-result c = search needs
 
--- src/put.rt:110:31
 add-result-2 : tie.Need-add-result-2
 add-result-2 c = search needs
 
--- src/put.rt:106:1
 returns : tie.Need-returns
 unfolding keptAfter
 returns c = rw (c .if1 .taken) (add-one (c .before .args .i))
 
--- src/put.rt:106:1
 returns-2 : tie.Need-returns-2
 unfolding keptAfter
 returns-2 c = rw (c .if1 .left) (add-one (c .before .args .n))

@@ -1,38 +1,31 @@
+-- Made by tools/answers.py from answers/put/put_bool.ans: edit that. 4154114af21168df
 use Rattle.jer.specs.Write.{boolText}
 use borrow.Author.Needs.{needs}
 use Rattle.writing.proofs.put.put_bool.Statement.{statement}
 use Rattle.writing.proofs.put.put_bool.Tie as tie
 
--- src/put.rt:82:35
 slice-aggregate-put-bytes : tie.Need-slice-aggregate-put-bytes
 slice-aggregate-put-bytes c = search needs
 
--- src/put.rt:82:9
 put-bytes-requires : tie.Need-put-bytes-requires
 put-bytes-requires c κs = search needs
 
--- src/put.rt:82:9
 same-length : tie.Need-same-length
 same-length c = search needs
 
--- src/put.rt:82:9
 returns : tie.Need-returns
 unfolding boolText
 returns c = rw (c .before .before .before .before .before .if1 .taken) (c .before .before .put-bytes .ensures)
 
--- src/put.rt:84:24
 slice-aggregate-put-bytes-2 : tie.Need-slice-aggregate-put-bytes-2
 slice-aggregate-put-bytes-2 c = search needs
 
--- src/put.rt:84:5
 put-bytes-requires-2 : tie.Need-put-bytes-requires-2
 put-bytes-requires-2 c κs = search needs
 
--- src/put.rt:78:1
 same-length-2 : tie.Need-same-length-2
 same-length-2 c = search needs
 
--- src/put.rt:78:1
 returns-2 : tie.Need-returns-2
 unfolding boolText
 returns-2 c = rw (c .before .before .before .before .before .if1 .left) (c .before .before .put-bytes2 .ensures)

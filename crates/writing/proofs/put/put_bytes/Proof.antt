@@ -1,3 +1,4 @@
+-- Made by tools/answers.py from answers/put/put_bytes.ans: edit that. 88f9eceb5076f545
 use mathlib.Core.Path.{refl}
 use native.Mathlib.Omega.{arith}
 use Rattle.writing.proofs.PutLaws.{puts-none, puts-next, puts-all}
@@ -15,37 +16,29 @@ Inv-loop text₀ k s p₀ j₀ text p j = (j ≤ length s) × (length text ≡ l
 abbrev μ-loop : tie.MeasureT-loop
 μ-loop text₀ k s p₀ j₀ text p j = length s - j
 
--- src/put.rt:32:5
 loop-holds : tie.Need-loop-holds Inv-loop μ-loop
 loop-holds c = (omega arith, refl, puts-none _ _ (omega arith))
 
--- src/put.rt:33:31
 shared-slice-read-put-byte : tie.Need-shared-slice-read-put-byte Inv-loop μ-loop
 shared-slice-read-put-byte c = search needs
 
--- src/put.rt:33:9
 put-byte-requires : tie.Need-put-byte-requires Inv-loop μ-loop
 put-byte-requires c κs = search needs
 
--- src/put.rt:34:9
 add-j : tie.Need-add-j Inv-loop μ-loop
 add-j c = search needs
 
--- src/put.rt:32:5
 loop-less : tie.Need-loop-less Inv-loop μ-loop
 loop-less c = search needs
 
--- src/put.rt:32:5
 loop-again : tie.Need-loop-again Inv-loop μ-loop
 loop-again c =
     let inv = c .before .before .before .before .before .before .loop .inv in
     (omega arith, search needs, puts-next _ (c .before .before .before .before .before .before .loop .j) (omega arith) (inv .2) (c .before .before .put-byte .ensures))
 
--- src/put.rt:27:1
 same-length : tie.Need-same-length Inv-loop μ-loop
 same-length c = search needs
 
--- src/put.rt:27:1
 returns : tie.Need-returns Inv-loop μ-loop
 returns c = puts-all _ (c .before .loop .j) (omega arith) (c .before .loop .inv .2)
 

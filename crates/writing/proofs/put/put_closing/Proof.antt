@@ -1,30 +1,25 @@
+-- Made by tools/answers.py from answers/put/put_closing.ans: edit that. fe6102690a023fa6
 use Rattle.writing.specs.Text.{closing}
 use borrow.Author.Needs.{needs}
 use Rattle.writing.proofs.put.put_closing.Statement.{statement}
 use Rattle.writing.proofs.put.put_closing.Tie as tie
 
--- src/put.rt:100:9
 put-byte-requires : tie.Need-put-byte-requires
 put-byte-requires c κs = search needs
 
--- src/put.rt:100:9
 same-length : tie.Need-same-length
 same-length c = search needs
 
--- src/put.rt:100:9
 returns : tie.Need-returns
 unfolding closing
 returns c = rw (c .before .before .before .before .if1 .taken) (c .before .before .put-byte .ensures)
 
--- src/put.rt:102:5
 put-byte-requires-2 : tie.Need-put-byte-requires-2
 put-byte-requires-2 c κs = search needs
 
--- src/put.rt:96:1
 same-length-2 : tie.Need-same-length-2
 same-length-2 c = search needs
 
--- src/put.rt:96:1
 returns-2 : tie.Need-returns-2
 unfolding closing
 returns-2 c = rw (c .before .before .before .before .if1 .left) (c .before .before .put-byte2 .ensures)
@@ -32,4 +27,10 @@ returns-2 c = rw (c .before .before .before .before .if1 .left) (c .before .befo
 pub put-closing-spec : {M : Type 1} → statement M
 put-closing-spec =
     tie.close
-    (tie.spec put-byte-requires same-length returns put-byte-requires-2 same-length-2 returns-2)
+    (tie.spec
+    put-byte-requires
+    same-length
+    returns
+    put-byte-requires-2
+    same-length-2
+    returns-2)

@@ -1,46 +1,36 @@
+-- Made by tools/answers.py from answers/put/put_lead.ans: edit that. 852b812012515651
 use Rattle.writing.proofs.PutLaws.{leads-array, leads-object}
 use borrow.Author.Needs.{needs}
 use Rattle.writing.proofs.put.put_lead.Statement.{statement}
 use Rattle.writing.proofs.put.put_lead.Tie as tie
 
--- src/put.rt:85:13
 put-nulls-requires : tie.Need-put-nulls-requires
 put-nulls-requires c κs = search needs
 
--- src/put.rt:86:9
 put-comma-requires : tie.Need-put-comma-requires
 put-comma-requires c κs = search needs
 
--- src/put.rt:86:9
 same-length : tie.Need-same-length
 same-length c = search needs
 
--- src/put.rt:86:9
 returns : tie.Need-returns
-returns c =
-    leads-array _ _ _ _ (c .before .before .before .before .before .before .before .before .if1 .taken) (c .before .before .before .before .before .before .put-nulls .ensures) (c .before .before .put-comma .ensures)
+returns c = leads-array _ _ _ _ (c .before .before .before .before .before .before .before .before .if1 .taken) (c .before .before .before .before .before .before .put-nulls .ensures) (c .before .before .put-comma .ensures)
 
--- src/put.rt:88:9
 put-comma-requires-2 : tie.Need-put-comma-requires-2
 put-comma-requires-2 c κs = search needs
 
--- src/put.rt:89:49
 member-row-requires : tie.Need-member-row-requires
 member-row-requires c κs = search needs
 
--- src/put.rt:89:27
 name-in-requires : tie.Need-name-in-requires
 name-in-requires c κs = search needs
 
--- src/put.rt:89:5
 put-name-requires : tie.Need-put-name-requires
 put-name-requires c κs = search needs
 
--- src/put.rt:81:1
 same-length-2 : tie.Need-same-length-2
 same-length-2 c = search needs
 
--- src/put.rt:81:1
 returns-2 : tie.Need-returns-2
 returns-2 c =
     let a = c .before .before .before .before .before .before .before .before .before .before .before .before .before .before .args in

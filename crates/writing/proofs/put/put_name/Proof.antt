@@ -1,3 +1,4 @@
+-- Made by tools/answers.py from answers/put/put_name.ans: edit that. bd44a18c9da8b661
 use Rattle.jer.specs.Write.{stringText}
 use Rattle.writing.specs.Text.{spelled, nameText}
 use Rattle.writing.proofs.PutLaws.{puts-append}
@@ -5,19 +6,15 @@ use borrow.Author.Needs.{needs}
 use Rattle.writing.proofs.put.put_name.Statement.{statement}
 use Rattle.writing.proofs.put.put_name.Tie as tie
 
--- src/put.rt:151:9
 put-string-requires : tie.Need-put-string-requires
 put-string-requires c κs = search needs
 
--- src/put.rt:152:5
 put-byte-requires : tie.Need-put-byte-requires
 put-byte-requires c κs = search needs
 
--- src/put.rt:148:1
 same-length : tie.Need-same-length
 same-length c = search needs
 
--- src/put.rt:148:1
 returns : tie.Need-returns
 unfolding nameText stringText spelled
 returns c = puts-append (c .before .before .before .before .before .before .put-string .ensures) (c .before .before .put-byte .ensures)

@@ -1,3 +1,4 @@
+-- Made by tools/answers.py from answers/put/put_nulls.ans: edit that. 4173058a9f211bd7
 use mathlib.Core.Path.{refl}
 use native.Mathlib.Omega.{arith}
 use Rattle.writing.proofs.PutLaws.{puts-nulls-none, puts-null, puts-nulls}
@@ -15,38 +16,30 @@ Inv-loop text₀ k n i p₀ j₀ text p j = (length text ≡ length text₀) × 
 abbrev μ-loop : tie.MeasureT-loop
 μ-loop text₀ k n i p₀ j₀ text p j = i - j
 
--- src/put.rt:65:5
 loop-holds : tie.Need-loop-holds Inv-loop μ-loop
 loop-holds c = (refl, omega arith, omega arith, puts-nulls-none _ _ _ (omega arith))
 
--- src/put.rt:66:13
 put-comma-requires : tie.Need-put-comma-requires Inv-loop μ-loop
 put-comma-requires c κs = search needs
 
--- src/put.rt:67:9
 put-null-requires : tie.Need-put-null-requires Inv-loop μ-loop
 put-null-requires c κs = search needs
 
--- src/put.rt:68:9
 add-j : tie.Need-add-j Inv-loop μ-loop
 add-j c = search needs
 
--- src/put.rt:65:5
 loop-less : tie.Need-loop-less Inv-loop μ-loop
 loop-less c = search needs
 
--- src/put.rt:65:5
 loop-again : tie.Need-loop-again Inv-loop μ-loop
 loop-again c =
     let inv = c .before .before .before .before .before .before .before .before .before .loop .inv in
     let j = c .before .before .before .before .before .before .before .before .before .loop .j in
     (search needs, omega arith, omega arith, puts-null _ j (inv .1) (inv .3) (c .before .before .before .before .before .before .put-comma .ensures) (c .before .before .put-null .ensures))
 
--- src/put.rt:60:1
 same-length : tie.Need-same-length Inv-loop μ-loop
 same-length c = search needs
 
--- src/put.rt:60:1
 returns : tie.Need-returns Inv-loop μ-loop
 returns c = puts-nulls _ (c .before .loop .j) _ (omega arith) (c .before .loop .inv .3)
 

@@ -1,7 +1,8 @@
-use borrow.Author.Needs.{needs}
+-- Made by tools/answers.py from answers/put/put_spelled.ans: edit that. 52f93204fccbddaf
 use native.Mathlib.Omega.{arith}
 use Rattle.writing.specs.Text.{spelled}
 use Rattle.writing.proofs.PutLaws.{counted, puts-stored, puts-nowhere, puts-past, spelled-few}
+use borrow.Author.Needs.{needs}
 use Rattle.writing.proofs.put.put_spelled.Statement.{statement}
 use Rattle.writing.proofs.put.put_spelled.Tie as tie
 
@@ -21,7 +22,8 @@ end-of-requires-3 : tie.Need-end-of-requires-3
 end-of-requires-3 c κs = search needs
 
 returns-3 : tie.Need-returns-3
-returns-3 c = let a = c .before .before .before .before .before .before .args in
+returns-3 c =
+    let a = c .before .before .before .before .before .before .args in
     puts-past (c .end-of3 .ensures) (omega (arith, spelled-few (a .form) (a .s .now)))
 
 store-requires : tie.Need-store-requires
@@ -34,7 +36,8 @@ same-length : tie.Need-same-length
 same-length c = search needs
 
 returns-4 : tie.Need-returns-4
-returns-4 c = let a = c .before .before .before .before .before .before .before .before .before .before .args in
+returns-4 c =
+    let a = c .before .before .before .before .before .before .before .before .before .before .args in
     puts-stored (counted (spelled (a .form) (a .s .now)) (a .k) (c .before .before .before .store .ensures .0) (c .add .ensures)) (c .before .before .before .store .ensures .1)
 
 pub put-spelled-spec : {M : Type 1} → statement M

@@ -1,26 +1,22 @@
+-- Made by tools/answers.py from answers/put/put_string.ans: edit that. 4bdaf4aaefe88b10
 use Rattle.jer.specs.Write.{quotes}
 use Rattle.writing.proofs.PutLaws.{puts-append}
 use borrow.Author.Needs.{needs}
 use Rattle.writing.proofs.put.put_string.Statement.{statement}
 use Rattle.writing.proofs.put.put_string.Tie as tie
 
--- src/put.rt:142:9
 put-byte-requires : tie.Need-put-byte-requires
 put-byte-requires c κs = search needs
 
--- src/put.rt:143:9
 put-spelled-requires : tie.Need-put-spelled-requires
 put-spelled-requires c κs = search needs
 
--- src/put.rt:144:5
 put-byte-requires-2 : tie.Need-put-byte-requires-2
 put-byte-requires-2 c κs = search needs
 
--- src/put.rt:139:1
 same-length : tie.Need-same-length
 same-length c = search needs
 
--- src/put.rt:139:1
 returns : tie.Need-returns
 unfolding quotes
 returns c = puts-append (c .before .before .before .before .before .before .before .before .before .before .put-byte .ensures) (puts-append (c .before .before .before .before .before .before .put-spelled .ensures) (c .before .before .put-byte2 .ensures))
@@ -28,4 +24,9 @@ returns c = puts-append (c .before .before .before .before .before .before .befo
 pub put-string-spec : {M : Type 1} → statement M
 put-string-spec =
     tie.close
-    (tie.spec put-byte-requires put-spelled-requires put-byte-requires-2 same-length returns)
+    (tie.spec
+    put-byte-requires
+    put-spelled-requires
+    put-byte-requires-2
+    same-length
+    returns)

@@ -1,43 +1,35 @@
+-- Made by tools/answers.py from answers/put/spelled_len.ans: edit that. 9c77aecc59e9d70f
 use Rattle.writing.specs.Text.{spelled}
 use borrow.Author.Needs.{needs}
 use Rattle.writing.proofs.put.spelled_len.Statement.{statement}
 use Rattle.writing.proofs.put.spelled_len.Tie as tie
 
--- src/put.rt:110:26
 enum-told : tie.Need-enum-told
 enum-told c = search needs
 
--- src/put.rt:110:26
 escapes-len-requires : tie.Need-escapes-len-requires
 escapes-len-requires c κs = search needs
 
--- src/put.rt:111:30
 enum-told-2 : tie.Need-enum-told-2
 enum-told-2 c = search needs
 
--- src/put.rt:111:30
 hex-len-requires : tie.Need-hex-len-requires
 hex-len-requires c κs = search needs
 
--- src/put.rt:112:25
 enum-told-3 : tie.Need-enum-told-3
 enum-told-3 c = search needs
 
--- src/put.rt:112:25
 base64-len-requires : tie.Need-base64-len-requires
 base64-len-requires c κs = search needs
 
--- src/put.rt:106:1
 returns : tie.Need-returns
 unfolding spelled
 returns c = rw (c .before .enum-told .given .1) (c .escapes-len .ensures)
 
--- src/put.rt:106:1
 returns-2 : tie.Need-returns-2
 unfolding spelled
 returns-2 c = rw (c .before .enum-told2 .given .1) (c .hex-len .ensures)
 
--- src/put.rt:106:1
 returns-3 : tie.Need-returns-3
 unfolding spelled
 returns-3 c = rw (c .before .enum-told3 .given .1) (c .base64-len .ensures)

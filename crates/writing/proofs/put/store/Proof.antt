@@ -1,3 +1,4 @@
+-- Made by tools/answers.py from answers/put/store.ans: edit that. 5939092496e7bf03
 use native.Mathlib.Omega.{arith}
 use Rattle.writing.specs.Text.{spelled}
 use Rattle.writing.proofs.PutLaws.{spelled-few}

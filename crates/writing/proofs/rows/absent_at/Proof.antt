@@ -1,37 +1,31 @@
+-- Made by tools/answers.py from answers/rows/absent_at.ans: edit that. 83495115902b1d54
 use Rattle.jer.specs.Table.{table}
 use Rattle.writing.proofs.RowLaws.{never, absent-row, absent-none}
 use borrow.Author.Needs.{needs}
 use Rattle.writing.proofs.rows.absent_at.Statement.{statement}
 use Rattle.writing.proofs.rows.absent_at.Tie as tie
 
--- src/rows.rt:57:11
 row-at-requires : tie.Need-row-at-requires
 row-at-requires c κs = search needs
 
--- src/rows.rt:58:20
 enum-known-w : tie.Need-enum-known-w
 enum-known-w c = search needs
 
--- src/rows.rt:58:26
 may-be-absent-requires : tie.Need-may-be-absent-requires
 may-be-absent-requires c κs = search needs
 
--- src/rows.rt:58:50
 is-absent-requires : tie.Need-is-absent-requires
 is-absent-requires c κs = search needs
 
--- src/rows.rt:59:23
 enum-told : tie.Need-enum-told
 enum-told c = search needs
 
--- src/rows.rt:53:1
 returns : tie.Need-returns
 returns c =
     let a = c .before .before .before .before .before .before .before .before .args in
     let found = rw (c .before .before .before .w .given .1) at (c .before .before .before .before .before .row-at .ensures) in
     ((λ ns. absent-row (table (a .types .now) ns) (a .r) (a .i) (found .0) (c .before .may-be-absent .ensures ns) (c .is-absent .ensures)), λ _. found .1)
 
--- src/rows.rt:53:1
 returns-2 : tie.Need-returns-2
 returns-2 c =
     let a = c .before .before .before .before .before .args in

@@ -1,3 +1,4 @@
+-- Made by tools/answers.py from answers/rows/null_at.ans: edit that. 23a3c66d181c2fa2
 use mathlib.Core.Path.{ap}
 use Rattle.jer.specs.Table.{table}
 use Rattle.types.specs.declared.row.Row.{Row}
@@ -6,35 +7,27 @@ use borrow.Author.Needs.{needs}
 use Rattle.writing.proofs.rows.null_at.Statement.{statement}
 use Rattle.writing.proofs.rows.null_at.Tie as tie
 
--- src/rows.rt:67:11
 row-at-requires : tie.Need-row-at-requires
 row-at-requires c κs = search needs
 
--- src/rows.rt:68:20
 enum-known-w : tie.Need-enum-known-w
 enum-known-w c = search needs
 
--- src/rows.rt:69:17
 at-requires : tie.Need-at-requires
 at-requires c κs = search needs
 
--- src/rows.rt:70:39
 type-at-requires : tie.Need-type-at-requires
 type-at-requires c κs = search needs
 
--- src/rows.rt:70:17
 kind-of-requires : tie.Need-kind-of-requires
 kind-of-requires c κs = search needs
 
--- src/rows.rt:71:40
 is-unwrapped-requires : tie.Need-is-unwrapped-requires
 is-unwrapped-requires c κs = search needs
 
--- src/rows.rt:73:23
 enum-told : tie.Need-enum-told
 enum-told c = search needs
 
--- src/rows.rt:64:1
 returns : tie.Need-returns
 returns c =
     let a = c .before .before .before .before .before .before .before .before .before .before .before .args in
@@ -42,7 +35,6 @@ returns c =
     let type = c .before .before .before .before .at .ensures in
     λ ns. null-row (table (a .types .now) ns) (a .r) (found .0) (ap (λ (w : Row). w .kind) (type ns)) (c .is-unwrapped .ensures _ _ (type ns)) (c .before .before .kind-of .ensures ns) (c .before .before .before .type-at .ensures ns)
 
--- src/rows.rt:64:1
 returns-2 : tie.Need-returns-2
 returns-2 c =
     let a = c .before .before .before .before .before .args in

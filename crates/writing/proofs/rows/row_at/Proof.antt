@@ -1,62 +1,49 @@
+-- Made by tools/answers.py from answers/rows/row_at.ans: edit that. de6232c10411fa77
 use native.Mathlib.Omega.{arith}
 use Rattle.writing.proofs.RowLaws.{rows-past, rows-at}
 use borrow.Author.Needs.{needs}
 use Rattle.writing.proofs.rows.row_at.Statement.{statement}
 use Rattle.writing.proofs.rows.row_at.Tie as tie
 
--- src/rows.rt:32:9
 returns : tie.Need-returns
 returns c = rows-past (c .before .args .values .now) (c .before .args .q) (c .if1 .taken)
 
--- src/rows.rt:34:13
 mul-k : tie.Need-mul-k
 mul-k c = search needs
 
--- src/rows.rt:36:15
 mul-t4 : tie.Need-mul-t4
 mul-t4 c = search needs
 
--- src/rows.rt:36:15
 shared-slice-read-t8 : tie.Need-shared-slice-read-t8
 shared-slice-read-t8 c = search needs
 
--- src/rows.rt:37:19
 add-t5 : tie.Need-add-t5
 add-t5 c = search needs
 
--- src/rows.rt:37:12
 mul-t9 : tie.Need-mul-t9
 mul-t9 c = search needs
 
--- src/rows.rt:37:12
 shared-slice-read-t11 : tie.Need-shared-slice-read-t11
 shared-slice-read-t11 c = search needs
 
--- src/rows.rt:38:19
 add-t12 : tie.Need-add-t12
 add-t12 c = search needs
 
--- src/rows.rt:38:12
 mul-t13 : tie.Need-mul-t13
 mul-t13 c = search needs
 
--- src/rows.rt:38:12
 shared-slice-read-t15 : tie.Need-shared-slice-read-t15
 shared-slice-read-t15 c = search needs
 
--- src/rows.rt:39:22
 add-t16 : tie.Need-add-t16
 add-t16 c = search needs
 
--- src/rows.rt:39:15
 mul-t17 : tie.Need-mul-t17
 mul-t17 c = search needs
 
--- src/rows.rt:39:15
 shared-slice-read-t19 : tie.Need-shared-slice-read-t19
 shared-slice-read-t19 c = search needs
 
--- src/rows.rt:28:1
 returns-2 : tie.Need-returns-2
 returns-2 c = (rows-at (c .before .before .before .before .before .args .values .now) (c .before .before .before .before .before .args .q) (omega arith), omega arith, omega arith)
 

@@ -1,23 +1,20 @@
+-- Made by tools/answers.py from answers/taken/ended.ans: edit that. 87245010ee4a53ba
 use Rattle.writing.proofs.TextLaws.{ended-right, ended-wrong}
 use borrow.Author.Needs.{needs}
 use Rattle.writing.proofs.taken.ended.Statement.{statement}
 use Rattle.writing.proofs.taken.ended.Tie as tie
 
--- src/taken.rt:30:16
 wide-requires : tie.Need-wide-requires
 wide-requires c κs = search needs
 
--- src/taken.rt:30:30
 rows-between-requires : tie.Need-rows-between-requires
 rows-between-requires c κs = search needs
 
--- src/taken.rt:31:9
 returns : tie.Need-returns
 returns c =
     let a = c .before .before .before .args in
     ended-right (a .good) (c .before .before .wide .ensures .0) (c .before .rows-between .ensures) (a .q) (a .next) (a .used) (a .end) (c .if1 .taken)
 
--- src/taken.rt:27:1
 returns-2 : tie.Need-returns-2
 returns-2 c =
     let a = c .before .before .before .args in

@@ -1,3 +1,4 @@
+-- Made by tools/answers.py from answers/value/+choice+judged+list+plain+sequence+value.ans: edit that. a7a808d208207141
 use Prim.Native.Nat.{ℕ, _<_, _+_, _-_, _*_}
 use mathlib.Core.Path.{_≡_, refl, sym, ap, _∙_}
 use native.Mathlib.Omega.{arith}
@@ -101,8 +102,7 @@ abbrev sequence-at : ℕ → In 5 sequence-kinds.ps
 sequence-at t = and 5 sequence-kinds.ps (is 5 sequence-kinds.ps μ-sequence t) sequence.Pre
 
 abbrev sequence-below : ℕ → In 5 sequence-kinds.ps
-sequence-below t =
-    and 5 sequence-kinds.ps (falls 5 sequence-kinds.ps _<_ μ-sequence t) sequence.Pre
+sequence-below t = and 5 sequence-kinds.ps (falls 5 sequence-kinds.ps _<_ μ-sequence t) sequence.Pre
 
 abbrev value-at : ℕ → In 5 value-kinds.ps
 value-at t = and 5 value-kinds.ps (is 5 value-kinds.ps μ-value t) value.Pre
@@ -128,323 +128,279 @@ sequence-calls t = (at-reads.Asked, at-reads.Learnt, is-array-reads.Asked, is-ar
 abbrev value-calls : ℕ → value-lts.Claims
 value-calls t = (at-reads.Asked, at-reads.Learnt, is-unwrapped-reads.Asked, is-unwrapped-reads.Learnt, plain-below t, plain.Post, row-at-reads.Asked, row-at-reads.Learnt, count-of-reads.Asked, count-of-reads.Learnt, type-at-reads.Asked, type-at-reads.Learnt, ended-reads.Asked, ended-reads.Learnt)
 
--- src/value.rt:244:9
 choice-put-byte-requires : (t : ℕ) → choice-lts.Need-put-byte-requires (choice-calls t) (choice-at t) choice.Post
 choice-put-byte-requires t c κs = search needs
 
--- src/value.rt:245:57
 choice-member-row-requires : (t : ℕ) → choice-lts.Need-member-row-requires (choice-calls t) (choice-at t) choice.Post
 choice-member-row-requires t c κs = search needs
 
--- src/value.rt:245:35
 choice-name-in-requires : (t : ℕ) → choice-lts.Need-name-in-requires (choice-calls t) (choice-at t) choice.Post
 choice-name-in-requires t c κs = search needs
 
--- src/value.rt:245:9
 choice-put-name-requires : (t : ℕ) → choice-lts.Need-put-name-requires (choice-calls t) (choice-at t) choice.Post
 choice-put-name-requires t c κs = search needs
 
--- src/value.rt:246:9
 choice-type-at-requires : (t : ℕ) → choice-lts.Need-type-at-requires (choice-calls t) (choice-at t) choice.Post
 choice-type-at-requires t c κs = search needs
 
--- src/value.rt:247:54
 choice-add-value : (t : ℕ) → choice-lts.Need-add-value (choice-calls t) (choice-at t) choice.Post
 choice-add-value t c = search needs
 
--- src/value.rt:247:11
 choice-value-requires : (t : ℕ) → choice-lts.Need-value-requires (choice-calls t) (choice-at t) choice.Post
 choice-value-requires t c κs = search needs
 
--- src/value.rt:248:22
 choice-enum-known-b : (t : ℕ) → choice-lts.Need-enum-known-b (choice-calls t) (choice-at t) choice.Post
 choice-enum-known-b t c = search needs
 
--- src/value.rt:249:23
 choice-enum-known-row : (t : ℕ) → choice-lts.Need-enum-known-row (choice-calls t) (choice-at t) choice.Post
 choice-enum-known-row t c = search needs
 
--- src/value.rt:250:17
 choice-put-byte-requires-2 : (t : ℕ) → choice-lts.Need-put-byte-requires-2 (choice-calls t) (choice-at t) choice.Post
 choice-put-byte-requires-2 t c κs = search needs
 
--- src/value.rt:251:13
 choice-ended-requires : (t : ℕ) → choice-lts.Need-ended-requires (choice-calls t) (choice-at t) choice.Post
 choice-ended-requires t c κs = search needs
 
--- src/value.rt:228:1
 choice-same-length : (t : ℕ) → choice-lts.Need-same-length (choice-calls t) (choice-at t) choice.Post
 choice-same-length t c = search needs
 
--- src/value.rt:228:1
 choice-returns : (t : ℕ) → choice-lts.Need-returns (choice-calls t) (choice-at t) choice.Post
-choice-returns t c = let a = c .before .before .before .before .before .before .before .before .before .before .before .before .before .before .before .before .before .before .before .before .before .before .before .args in
+choice-returns t c =
+    let a = c .before .before .before .before .before .before .before .before .before .before .before .before .before .before .before .before .before .before .before .before .before .before .before .args in
     let rows = rowsIn (a .values .now) in
     gives-wrong (choice-wrong _ _ _ rows _ (a .q) _ (valueRow (a .w)) (value-wrong rows (c .before .before .before .before .before .before .before .type-at .ensures (a .names .now)) (a .q + 1) (c .before .before .before .before .before .value .ensures) (c .before .b .given .1)))
 
--- src/value.rt:228:1
 choice-same-length-2 : (t : ℕ) → choice-lts.Need-same-length-2 (choice-calls t) (choice-at t) choice.Post
 choice-same-length-2 t c = omega (arith, c .before .before .before .put-byte2 .kept .0, c .before .before .before .before .before .before .before .before .before .before .value .kept .1 .1 .1 .1 .0, c .before .before .before .before .before .before .before .before .before .before .before .before .before .before .before .put-name .kept .0, c .before .before .before .before .before .before .before .before .before .before .before .before .before .before .before .before .before .before .before .before .before .put-byte .kept .0)
 
--- src/value.rt:228:1
 choice-returns-2 : (t : ℕ) → choice-lts.Need-returns-2 (choice-calls t) (choice-at t) choice.Post
-choice-returns-2 t c = let a = c .before .before .before .before .before .before .before .before .before .before .before .before .before .before .before .before .before .before .before .before .before .before .before .before .before .before .before .before .args in
+choice-returns-2 t c =
+    let a = c .before .before .before .before .before .before .before .before .before .before .before .before .before .before .before .before .before .before .before .before .before .before .before .before .before .before .before .before .args in
     let rows = rowsIn (a .values .now) in
     let v = value-got rows (c .before .before .before .before .before .before .before .before .before .before .before .before .type-at .ensures (a .names .now)) (a .q + 1) (c .before .before .before .before .before .before .before .before .before .before .value .ensures) (c .before .before .before .before .before .before .row .given .1) in
     writes-is (c .ended .ensures) (choice-ends _ _ _ rows _ (a .q) _ (valueRow (a .w)) (c .before .before .before .before .before .before .before .before .before .before .before .before .before .before .before .before .before .before .before .before .before .before .before .before .before .before .before .before .pre .1 .2) (c .before .before .before .before .before .before .before .before .before .before .before .before .before .before .before .before .before .before .before .before .before .put-byte .ensures) (c .before .before .before .before .before .before .before .before .before .before .before .before .before .before .before .before .before .member-row .ensures (a .names .now)) (c .before .before .before .before .before .before .before .before .before .before .before .before .before .before .before .before .name-in .ensures) (c .before .before .before .before .before .before .before .before .before .before .before .before .before .before .before .put-name .ensures) v (c .before .before .before .put-byte2 .ensures))
 
--- src/value.rt:224:39
 judged-slice-aggregate-value : (t : ℕ) → judged-lts.Need-slice-aggregate-value (judged-calls t) (judged-at t) judged.Post
 judged-slice-aggregate-value t c = search needs
 
--- src/value.rt:224:5
-judged-value-requires :
-    (t : ℕ) → judged-lts.Need-value-requires (judged-calls t) (judged-at t) judged.Post
+judged-value-requires : (t : ℕ) → judged-lts.Need-value-requires (judged-calls t) (judged-at t) judged.Post
 judged-value-requires t c κs = (omega arith, c .before .before .before .before .before .pre .1)
 
--- src/value.rt:210:1
-judged-returns :
-    (t : ℕ) → judged-lts.Need-returns (judged-calls t) (judged-at t) judged.Post
+judged-returns : (t : ℕ) → judged-lts.Need-returns (judged-calls t) (judged-at t) judged.Post
 judged-returns t c = writes-none (c .before .value .ensures)
 
 abbrev list-Inv-loop : list-lts.InvT-loop
-list-Inv-loop types names values pool text₀ w r q o k depth e i₀ next₀ used₀ p₀ text i next used p =
-    (e ≡ elementOf (table types names) r) × (length text ≡ length text₀) × Items depth (table types names) pool (rowsIn values) (valueRow w) r q o p₀ text₀ text i next used p
+list-Inv-loop types names values pool text₀ w r q o k depth e i₀ next₀ used₀ p₀ text i next used p = (e ≡ elementOf (table types names) r) × (length text ≡ length text₀) × Items depth (table types names) pool (rowsIn values) (valueRow w) r q o p₀ text₀ text i next used p
 
 abbrev list-μ-loop : list-lts.MeasureT-loop
 list-μ-loop types names values pool text₀ w r q o k depth e i₀ next₀ used₀ p₀ text i next used p = w .a - i
 
--- src/value.rt:131:18
 list-element-of-requires : (t : ℕ) → list-lts.Need-element-of-requires (list-calls t) (list-at t) list.Post list-Inv-loop list-μ-loop
 list-element-of-requires t c κs = search needs
 
--- src/value.rt:133:20
 list-add-next : (t : ℕ) → list-lts.Need-add-next (list-calls t) (list-at t) list.Post list-Inv-loop list-μ-loop
 list-add-next t c = search needs
 
--- src/value.rt:135:9
 list-put-byte-requires : (t : ℕ) → list-lts.Need-put-byte-requires (list-calls t) (list-at t) list.Post list-Inv-loop list-μ-loop
 list-put-byte-requires t c κs = search needs
 
--- src/value.rt:136:5
 list-loop-holds : (t : ℕ) → list-lts.Need-loop-holds (list-calls t) (list-at t) list.Post list-Inv-loop list-μ-loop
-list-loop-holds t c = let a = c .before .before .before .before .before .before .before .before .before .before .args in
+list-loop-holds t c =
+    let a = c .before .before .before .before .before .before .before .before .before .before .args in
     (c .before .before .before .before .element-of .ensures (a .names .now), refl, items-start (omega arith))
 
--- src/value.rt:137:13
 list-put-comma-requires : (t : ℕ) → list-lts.Need-put-comma-requires (list-calls t) (list-at t) list.Post list-Inv-loop list-μ-loop
 list-put-comma-requires t c κs = search needs
 
--- src/value.rt:138:15
 list-value-requires : (t : ℕ) → list-lts.Need-value-requires (list-calls t) (list-at t) list.Post list-Inv-loop list-μ-loop
 list-value-requires t c κs = search needs
 
--- src/value.rt:139:26
 list-enum-known-b : (t : ℕ) → list-lts.Need-enum-known-b (list-calls t) (list-at t) list.Post list-Inv-loop list-μ-loop
 list-enum-known-b t c = search needs
 
--- src/value.rt:139:32
 list-same-length : (t : ℕ) → list-lts.Need-same-length (list-calls t) (list-at t) list.Post list-Inv-loop list-μ-loop
 list-same-length t c = search needs
 
--- src/value.rt:139:32
 list-returns : (t : ℕ) → list-lts.Need-returns (list-calls t) (list-at t) list.Post list-Inv-loop list-μ-loop
-list-returns t c = let a = c .before .before .before .before .before .before .before .before .before .before .before .before .before .before .before .before .before .before .before .before .before .before .before .before .args in
+list-returns t c =
+    let a = c .before .before .before .before .before .before .before .before .before .before .before .before .before .before .before .before .before .before .before .before .before .before .before .before .args in
     let inv = c .before .before .before .before .before .before .before .before .before .before .before .before .before .loop .inv in
     gives-wrong (items-wrong (inv .2) (c .before .before .before .before .before .before .before .before .before .before .before .if1 .taken) (value-wrong (rowsIn (a .values .now)) (inv .0) (c .before .before .before .before .before .before .before .before .before .before .before .before .before .loop .next) (c .before .before .before .before .before .value .ensures) (c .before .b .given .1)))
 
--- src/value.rt:140:27
 list-enum-known-row : (t : ℕ) → list-lts.Need-enum-known-row (list-calls t) (list-at t) list.Post list-Inv-loop list-μ-loop
 list-enum-known-row t c = search needs
 
--- src/value.rt:144:17
 list-add-i : (t : ℕ) → list-lts.Need-add-i (list-calls t) (list-at t) list.Post list-Inv-loop list-μ-loop
 list-add-i t c = omega (arith, c .before .before .before .before .before .before .before .before .before .before .before .if1 .taken)
 
--- src/value.rt:136:5
 list-loop-less : (t : ℕ) → list-lts.Need-loop-less (list-calls t) (list-at t) list.Post list-Inv-loop list-μ-loop
 list-loop-less t c = search needs
 
--- src/value.rt:136:5
 list-loop-again : (t : ℕ) → list-lts.Need-loop-again (list-calls t) (list-at t) list.Post list-Inv-loop list-μ-loop
-list-loop-again t c = let a = c .before .before .before .before .before .before .before .before .before .before .before .before .before .before .before .before .before .before .before .before .before .before .before .before .args in
+list-loop-again t c =
+    let a = c .before .before .before .before .before .before .before .before .before .before .before .before .before .before .before .before .before .before .before .before .before .before .before .before .args in
     let inv = c .before .before .before .before .before .before .before .before .before .before .before .before .before .loop .inv in
     let v = value-got (rowsIn (a .values .now)) (inv .0) (c .before .before .before .before .before .before .before .before .before .before .before .before .before .loop .next) (c .before .before .before .before .before .value .ensures) (c .before .row .given .1) in
     (inv .0, search needs, items-next (inv .2) (c .before .before .before .before .before .before .before .before .before .before .before .if1 .taken) (c .before .before .before .before .before .before .before .before .before .put-comma .ensures) v)
 
--- src/value.rt:148:9
 list-put-byte-requires-2 : (t : ℕ) → list-lts.Need-put-byte-requires-2 (list-calls t) (list-at t) list.Post list-Inv-loop list-μ-loop
 list-put-byte-requires-2 t c κs = search needs
 
--- src/value.rt:149:5
 list-ended-requires : (t : ℕ) → list-lts.Need-ended-requires (list-calls t) (list-at t) list.Post list-Inv-loop list-μ-loop
 list-ended-requires t c κs = search needs
 
--- src/value.rt:115:1
 list-same-length-2 : (t : ℕ) → list-lts.Need-same-length-2 (list-calls t) (list-at t) list.Post list-Inv-loop list-μ-loop
 list-same-length-2 t c = search needs
 
--- src/value.rt:115:1
 list-returns-2 : (t : ℕ) → list-lts.Need-returns-2 (list-calls t) (list-at t) list.Post list-Inv-loop list-μ-loop
-list-returns-2 t c = let inv = c .before .before .before .before .before .before .before .loop .inv in
+list-returns-2 t c =
+    let inv = c .before .before .before .before .before .before .before .loop .inv in
     writes-is (c .ended .ensures) (items-end (inv .2) (c .before .before .before .before .before .if1 .left) (c .before .before .before .before .before .before .before .before .before .before .put-byte .ensures) (c .before .before .before .put-byte2 .ensures))
 
--- src/value.rt:83:25
 plain-row-at-requires : (t : ℕ) → plain-lts.Need-row-at-requires (plain-calls t) (plain-at t) plain.Post
 plain-row-at-requires t c κs = search needs
 
--- src/value.rt:83:20
 plain-enum-known-w : (t : ℕ) → plain-lts.Need-enum-known-w (plain-calls t) (plain-at t) plain.Post
 plain-enum-known-w t c = search needs
 
--- src/value.rt:84:9
 plain-enum-told : (t : ℕ) → plain-lts.Need-enum-told (plain-calls t) (plain-at t) plain.Post
 plain-enum-told t c = search needs
 
--- src/value.rt:84:9
 plain-returns : (t : ℕ) → plain-lts.Need-returns (plain-calls t) (plain-at t) plain.Post
-plain-returns t c = let a = c .before .before .before .before .before .before .before .before .args in
+plain-returns t c =
+    let a = c .before .before .before .before .before .before .before .before .args in
     gives-wrong (text-none _ _ _ _ (a .q) _ (rw (c .enum-told .given .1) at (c .before .before .row-at .ensures)))
 
--- src/value.rt:87:16
 plain-kind-of-requires : (t : ℕ) → plain-lts.Need-kind-of-requires (plain-calls t) (plain-at t) plain.Post
 plain-kind-of-requires t c κs = search needs
 
--- src/value.rt:88:9
 plain-returns-2 : (t : ℕ) → plain-lts.Need-returns-2 (plain-calls t) (plain-at t) plain.Post
-plain-returns-2 t c = let a = c .before .before .before .before .before .before .before .before .before .before .before .args in
+plain-returns-2 t c =
+    let a = c .before .before .before .before .before .before .before .before .before .before .before .args in
     let t = table (a .types .now) (a .names .now) in
     let w = c .before .before .before .w .given .0 .0 in
     let found = rw (c .before .before .before .w .given .1) at (c .before .before .before .before .before .row-at .ensures) in
     let kind = (c .before .kind-of .ensures (a .names .now)) in
     gives-wrong (plain-other (a .depth) t (a .pool .now) (a .r) (w .kind) (w .a) (w .b) (w .size) (a .q) (a .o) (c .before .before .before .before .before .before .before .before .before .before .before .pre .1 .1) (found .0) (λ e. c .if1 .taken (e ∙ sym kind)))
 
--- src/value.rt:91:9
 plain-leaf-requires : (t : ℕ) → plain-lts.Need-leaf-requires (plain-calls t) (plain-at t) plain.Post
-plain-leaf-requires t c κs = let a = c .before .before .before .before .before .before .before .before .before .before .before .before .before .args in
+plain-leaf-requires t c κs =
+    let a = c .before .before .before .before .before .before .before .before .before .before .before .before .before .args in
     let t = table (a .types .now) (a .names .now) in
     let w = c .before .before .before .before .before .w .given .0 .0 in
     let found = rw (c .before .before .before .before .before .w .given .1) at (c .before .before .before .before .before .before .before .row-at .ensures) in
     let kind = (c .before .before .before .kind-of .ensures (a .names .now)) in
     (c .before .before .if1 .left ∙ kind, omega (arith, c .before .if2 .taken), found .2)
 
--- src/value.rt:91:9
 plain-same-length : (t : ℕ) → plain-lts.Need-same-length (plain-calls t) (plain-at t) plain.Post
 plain-same-length t c = search needs
 
--- src/value.rt:91:9
 plain-returns-3 : (t : ℕ) → plain-lts.Need-returns-3 (plain-calls t) (plain-at t) plain.Post
-plain-returns-3 t c = let a = c .before .before .before .before .before .before .before .before .before .before .before .before .before .before .before .before .args in
+plain-returns-3 t c =
+    let a = c .before .before .before .before .before .before .before .before .before .before .before .before .before .before .before .before .args in
     let t = table (a .types .now) (a .names .now) in
     let w = c .before .before .before .before .before .before .before .before .w .given .0 .0 in
     let found = rw (c .before .before .before .before .before .before .before .before .w .given .1) at (c .before .before .before .before .before .before .before .before .before .before .row-at .ensures) in
     writes-as (row-text (a .depth) t (a .pool .now) (a .r) (w .kind) (w .a) (w .b) (w .size) (a .q) (a .o) (c .before .before .before .before .before .before .before .before .before .before .before .before .before .before .before .before .pre .1 .1) (found .0)) (c .before .before .leaf .ensures _ _)
 
--- src/value.rt:94:9
 plain-returns-4 : (t : ℕ) → plain-lts.Need-returns-4 (plain-calls t) (plain-at t) plain.Post
-plain-returns-4 t c = let a = c .before .before .before .before .before .before .before .before .before .before .before .before .before .args in
+plain-returns-4 t c =
+    let a = c .before .before .before .before .before .before .before .before .before .before .before .before .before .args in
     let t = table (a .types .now) (a .names .now) in
     let w = c .before .before .before .before .before .w .given .0 .0 in
     let found = rw (c .before .before .before .before .before .w .given .1) at (c .before .before .before .before .before .before .before .row-at .ensures) in
     gives-wrong (plain-deep (a .depth) t (a .pool .now) (a .r) (w .kind) (w .a) (w .b) (w .size) (a .q) (a .o) (c .before .before .before .before .before .before .before .before .before .before .before .before .before .pre .1 .1) (found .0) (c .before .if2 .left) (c .if3 .taken))
 
--- src/value.rt:97:9
 plain-returns-5 : (t : ℕ) → plain-lts.Need-returns-5 (plain-calls t) (plain-at t) plain.Post
-plain-returns-5 t c = let a = c .before .before .before .before .before .before .before .before .before .before .before .before .before .before .before .args in
+plain-returns-5 t c =
+    let a = c .before .before .before .before .before .before .before .before .before .before .before .before .before .before .before .args in
     let t = table (a .types .now) (a .names .now) in
     let w = c .before .before .before .before .before .before .before .w .given .0 .0 in
     let found = rw (c .before .before .before .before .before .before .before .w .given .1) at (c .before .before .before .before .before .before .before .before .before .row-at .ensures) in
     gives-wrong (plain-b (a .depth) t (a .pool .now) (a .r) (w .kind) (w .a) (w .b) (w .size) (a .q) (a .o) (c .before .before .before .before .before .before .before .before .before .before .before .before .before .before .before .pre .1 .1) (found .0) (c .before .before .before .if2 .left) (c .if4 .taken))
 
--- src/value.rt:100:74
 plain-sub-sequence : (t : ℕ) → plain-lts.Need-sub-sequence (plain-calls t) (plain-at t) plain.Post
 plain-sub-sequence t c = search needs
 
--- src/value.rt:100:9
 plain-sequence-requires : (t : ℕ) → plain-lts.Need-sequence-requires (plain-calls t) (plain-at t) plain.Post
-plain-sequence-requires t c κs = let a = c .before .before .before .before .before .before .before .before .before .before .before .before .before .before .before .before .before .args in
+plain-sequence-requires t c κs =
+    let a = c .before .before .before .before .before .before .before .before .before .before .before .before .before .before .before .before .before .args in
     let t = table (a .types .now) (a .names .now) in
     let w = c .before .before .before .before .before .before .before .before .before .w .given .0 .0 in
     let found = rw (c .before .before .before .before .before .before .before .before .before .w .given .1) at (c .before .before .before .before .before .before .before .before .before .before .before .row-at .ensures) in
     (omega arith, (c .before .before .before .before .before .before .before .before .before .before .before .before .before .before .before .before .before .pre .1 .0, found .1))
 
--- src/value.rt:100:9
 plain-same-length-2 : (t : ℕ) → plain-lts.Need-same-length-2 (plain-calls t) (plain-at t) plain.Post
 plain-same-length-2 t c = search needs
 
--- src/value.rt:100:9
 plain-returns-6 : (t : ℕ) → plain-lts.Need-returns-6 (plain-calls t) (plain-at t) plain.Post
-plain-returns-6 t c = let a = c .before .before .before .before .before .before .before .before .before .before .before .before .before .before .before .before .before .before .before .before .args in
+plain-returns-6 t c =
+    let a = c .before .before .before .before .before .before .before .before .before .before .before .before .before .before .before .before .before .before .before .before .args in
     let t = table (a .types .now) (a .names .now) in
     let w = c .before .before .before .before .before .before .before .before .before .before .before .before .w .given .0 .0 in
     let found = rw (c .before .before .before .before .before .before .before .before .before .before .before .before .w .given .1) at (c .before .before .before .before .before .before .before .before .before .before .before .before .before .before .row-at .ensures) in
     let kind = (c .before .before .before .before .before .before .before .before .before .before .kind-of .ensures (a .names .now)) in
     writes-as (plain-seq (a .depth) t (a .pool .now) (a .r) (w .kind) (w .a) (w .b) (w .size) (a .q) (a .o) (c .before .before .before .before .before .before .before .before .before .before .before .before .before .before .before .before .before .before .before .before .pre .1 .1) (found .0) (c .before .before .before .before .before .before .before .if3 .left) (c .before .before .before .before .before .before .before .before .before .if1 .left ∙ kind) (c .before .before .before .before .before .if4 .left) (c .before .before .before .before .if5 .taken)) (c .before .before .sequence .ensures)
 
--- src/value.rt:103:70
 plain-sub-list : (t : ℕ) → plain-lts.Need-sub-list (plain-calls t) (plain-at t) plain.Post
 plain-sub-list t c = search needs
 
--- src/value.rt:103:9
 plain-list-requires : (t : ℕ) → plain-lts.Need-list-requires (plain-calls t) (plain-at t) plain.Post
-plain-list-requires t c κs = let a = c .before .before .before .before .before .before .before .before .before .before .before .before .before .before .before .before .before .before .args in
+plain-list-requires t c κs =
+    let a = c .before .before .before .before .before .before .before .before .before .before .before .before .before .before .before .before .before .before .args in
     let t = table (a .types .now) (a .names .now) in
     let w = c .before .before .before .before .before .before .before .before .before .before .w .given .0 .0 in
     let found = rw (c .before .before .before .before .before .before .before .before .before .before .w .given .1) at (c .before .before .before .before .before .before .before .before .before .before .before .before .row-at .ensures) in
     (omega arith, (c .before .before .before .before .before .before .before .before .before .before .before .before .before .before .before .before .before .before .pre .1 .0, found .1))
 
--- src/value.rt:103:9
 plain-same-length-3 : (t : ℕ) → plain-lts.Need-same-length-3 (plain-calls t) (plain-at t) plain.Post
 plain-same-length-3 t c = search needs
 
--- src/value.rt:103:9
 plain-returns-7 : (t : ℕ) → plain-lts.Need-returns-7 (plain-calls t) (plain-at t) plain.Post
-plain-returns-7 t c = let a = c .before .before .before .before .before .before .before .before .before .before .before .before .before .before .before .before .before .before .before .before .before .args in
+plain-returns-7 t c =
+    let a = c .before .before .before .before .before .before .before .before .before .before .before .before .before .before .before .before .before .before .before .before .before .args in
     let t = table (a .types .now) (a .names .now) in
     let w = c .before .before .before .before .before .before .before .before .before .before .before .before .before .w .given .0 .0 in
     let found = rw (c .before .before .before .before .before .before .before .before .before .before .before .before .before .w .given .1) at (c .before .before .before .before .before .before .before .before .before .before .before .before .before .before .before .row-at .ensures) in
     let kind = (c .before .before .before .before .before .before .before .before .before .before .before .kind-of .ensures (a .names .now)) in
     writes-as (plain-list (a .depth) t (a .pool .now) (a .r) (w .kind) (w .a) (w .b) (w .size) (a .q) (a .o) (c .before .before .before .before .before .before .before .before .before .before .before .before .before .before .before .before .before .before .before .before .before .pre .1 .1) (found .0) (c .before .before .before .before .before .before .before .before .if3 .left) (c .before .before .before .before .before .before .before .before .before .before .if1 .left ∙ kind) (c .before .before .before .before .before .before .if4 .left) (c .before .before .before .before .if6 .taken)) (c .before .before .list .ensures)
 
--- src/value.rt:106:9
 plain-returns-8 : (t : ℕ) → plain-lts.Need-returns-8 (plain-calls t) (plain-at t) plain.Post
-plain-returns-8 t c = let a = c .before .before .before .before .before .before .before .before .before .before .before .before .before .before .before .before .before .before .args in
+plain-returns-8 t c =
+    let a = c .before .before .before .before .before .before .before .before .before .before .before .before .before .before .before .before .before .before .args in
     let t = table (a .types .now) (a .names .now) in
     let w = c .before .before .before .before .before .before .before .before .before .before .w .given .0 .0 in
     let found = rw (c .before .before .before .before .before .before .before .before .before .before .w .given .1) at (c .before .before .before .before .before .before .before .before .before .before .before .before .row-at .ensures) in
     gives-wrong (plain-kind (a .depth) t (a .pool .now) (a .r) (w .kind) (w .a) (w .b) (w .size) (a .q) (a .o) (c .before .before .before .before .before .before .before .before .before .before .before .before .before .before .before .before .before .before .pre .1 .1) (found .0) (c .before .before .before .before .before .before .if2 .left) (c .before .before .if5 .left) (c .before .if6 .left) (c .if7 .taken))
 
--- src/value.rt:108:8
 plain-count-of-requires : (t : ℕ) → plain-lts.Need-count-of-requires (plain-calls t) (plain-at t) plain.Post
 plain-count-of-requires t c κs = search needs
 
--- src/value.rt:109:9
 plain-returns-9 : (t : ℕ) → plain-lts.Need-returns-9 (plain-calls t) (plain-at t) plain.Post
-plain-returns-9 t c = let a = c .before .before .before .before .before .before .before .before .before .before .before .before .before .before .before .before .before .before .before .before .before .args in
+plain-returns-9 t c =
+    let a = c .before .before .before .before .before .before .before .before .before .before .before .before .before .before .before .before .before .before .before .before .before .args in
     let t = table (a .types .now) (a .names .now) in
     let w = c .before .before .before .before .before .before .before .before .before .before .before .before .before .w .given .0 .0 in
     let found = rw (c .before .before .before .before .before .before .before .before .before .before .before .before .before .w .given .1) at (c .before .before .before .before .before .before .before .before .before .before .before .before .before .before .before .row-at .ensures) in
     gives-wrong (plain-position (a .depth) t (a .pool .now) (a .r) (w .kind) (w .a) (w .b) (w .size) (a .q) (a .o) (c .before .before .before .before .before .before .before .before .before .before .before .before .before .before .before .before .before .before .before .before .before .pre .1 .1) (found .0) (c .before .before .before .before .before .before .before .before .before .if2 .left) (c .before .before .before .before .before .if5 .left) (c .before .before .before .before .if6 .left) (omega (arith, c .before .before .count-of .ensures (a .names .now), c .if8 .taken)))
 
--- src/value.rt:111:61
 plain-sub-choice : (t : ℕ) → plain-lts.Need-sub-choice (plain-calls t) (plain-at t) plain.Post
 plain-sub-choice t c = search needs
 
--- src/value.rt:111:5
 plain-choice-requires : (t : ℕ) → plain-lts.Need-choice-requires (plain-calls t) (plain-at t) plain.Post
-plain-choice-requires t c κs = let a = c .before .before .before .before .before .before .before .before .before .before .before .before .before .before .before .before .before .before .before .before .before .before .args in
+plain-choice-requires t c κs =
+    let a = c .before .before .before .before .before .before .before .before .before .before .before .before .before .before .before .before .before .before .before .before .before .before .args in
     let t = table (a .types .now) (a .names .now) in
     let w = c .before .before .before .before .before .before .before .before .before .before .before .before .before .before .w .given .0 .0 in
     let found = rw (c .before .before .before .before .before .before .before .before .before .before .before .before .before .before .w .given .1) at (c .before .before .before .before .before .before .before .before .before .before .before .before .before .before .before .before .row-at .ensures) in
     (omega arith, (c .before .before .before .before .before .before .before .before .before .before .before .before .before .before .before .before .before .before .before .before .before .before .pre .1 .0, found .1, c .before .before .before .before .before .before .before .before .before .before .before .before .before .before .before .before .before .before .before .before .before .before .pre .1 .1))
 
--- src/value.rt:68:1
 plain-same-length-4 : (t : ℕ) → plain-lts.Need-same-length-4 (plain-calls t) (plain-at t) plain.Post
 plain-same-length-4 t c = search needs
 
--- src/value.rt:68:1
 plain-returns-10 : (t : ℕ) → plain-lts.Need-returns-10 (plain-calls t) (plain-at t) plain.Post
-plain-returns-10 t c = let a = c .before .before .before .before .before .before .before .before .before .before .before .before .before .before .before .before .before .before .before .before .before .before .before .before .before .args in
+plain-returns-10 t c =
+    let a = c .before .before .before .before .before .before .before .before .before .before .before .before .before .before .before .before .before .before .before .before .before .before .before .before .before .args in
     let t = table (a .types .now) (a .names .now) in
     let w = c .before .before .before .before .before .before .before .before .before .before .before .before .before .before .before .before .before .w .given .0 .0 in
     let found = rw (c .before .before .before .before .before .before .before .before .before .before .before .before .before .before .before .before .before .w .given .1) at (c .before .before .before .before .before .before .before .before .before .before .before .before .before .before .before .before .before .before .before .row-at .ensures) in
@@ -452,238 +408,199 @@ plain-returns-10 t c = let a = c .before .before .before .before .before .before
     writes-as (plain-choice (a .depth) t (a .pool .now) (a .r) (w .kind) (w .a) (w .b) (w .size) (a .q) (a .o) (c .before .before .before .before .before .before .before .before .before .before .before .before .before .before .before .before .before .before .before .before .before .before .before .before .before .pre .1 .1) (found .0) (c .before .before .before .before .before .before .before .before .before .before .before .before .if3 .left) (c .before .before .before .before .before .before .before .before .before .before .before .before .before .before .if1 .left ∙ kind) (c .before .before .before .before .before .before .before .before .before .before .if4 .left) (c .before .before .before .before .before .before .before .if7 .left) (omega (arith, c .before .before .before .before .before .before .count-of .ensures (a .names .now), c .before .before .before .before .if8 .left))) (c .before .before .choice .ensures)
 
 abbrev sequence-Inv-loop : sequence-lts.InvT-loop
-sequence-Inv-loop types names values pool text₀ w r q o k depth array count i₀ present₀ kept₀ next₀ used₀ p₀ text i present kept next used p =
-    (count ≡ countOf (table types names) r) × (count < 4294967296) × (length text ≡ length text₀) × Members depth (table types names) pool (rowsIn values) (valueRow w) r q o p₀ array text₀ text i present kept next used p
+sequence-Inv-loop types names values pool text₀ w r q o k depth array count i₀ present₀ kept₀ next₀ used₀ p₀ text i present kept next used p = (count ≡ countOf (table types names) r) × (count < 4294967296) × (length text ≡ length text₀) × Members depth (table types names) pool (rowsIn values) (valueRow w) r q o p₀ array text₀ text i present kept next used p
 
 abbrev sequence-μ-loop : sequence-lts.MeasureT-loop
 sequence-μ-loop types names values pool text₀ w r q o k depth array count i₀ present₀ kept₀ next₀ used₀ p₀ text i present kept next used p = count - i
 
--- src/value.rt:169:17
 sequence-at-requires : (t : ℕ) → sequence-lts.Need-at-requires (sequence-calls t) (sequence-at t) sequence.Post sequence-Inv-loop sequence-μ-loop
 sequence-at-requires t c κs = search needs
 
--- src/value.rt:169:9
 sequence-is-array-requires : (t : ℕ) → sequence-lts.Need-is-array-requires (sequence-calls t) (sequence-at t) sequence.Post sequence-Inv-loop sequence-μ-loop
 sequence-is-array-requires t c κs = search needs
 
--- src/value.rt:170:9
 sequence-count-of-requires : (t : ℕ) → sequence-lts.Need-count-of-requires (sequence-calls t) (sequence-at t) sequence.Post sequence-Inv-loop sequence-μ-loop
 sequence-count-of-requires t c κs = search needs
 
--- src/value.rt:174:20
 sequence-add-next : (t : ℕ) → sequence-lts.Need-add-next (sequence-calls t) (sequence-at t) sequence.Post sequence-Inv-loop sequence-μ-loop
 sequence-add-next t c = search needs
 
--- src/value.rt:176:9
 sequence-put-opening-requires : (t : ℕ) → sequence-lts.Need-put-opening-requires (sequence-calls t) (sequence-at t) sequence.Post sequence-Inv-loop sequence-μ-loop
 sequence-put-opening-requires t c κs = search needs
 
--- src/value.rt:177:5
 sequence-loop-holds : (t : ℕ) → sequence-lts.Need-loop-holds (sequence-calls t) (sequence-at t) sequence.Post sequence-Inv-loop sequence-μ-loop
-sequence-loop-holds t c = let a = c .before .before .before .before .before .before .before .before .before .before .before .before .args in
+sequence-loop-holds t c =
+    let a = c .before .before .before .before .before .before .before .before .before .before .before .before .args in
     let t = table (a .types .now) (a .names .now) in
     (c .before .before .before .before .count-of .ensures (a .names .now), omega arith, refl, members-start (sym (c .before .before .before .before .before .is-array .ensures t (a .r) (c .before .before .before .before .before .before .at .ensures (a .names .now)))) (omega arith))
 
--- src/value.rt:178:13
 sequence-type-at-requires : (t : ℕ) → sequence-lts.Need-type-at-requires (sequence-calls t) (sequence-at t) sequence.Post sequence-Inv-loop sequence-μ-loop
 sequence-type-at-requires t c κs = search needs
 
--- src/value.rt:179:12
 sequence-absent-at-requires : (t : ℕ) → sequence-lts.Need-absent-at-requires (sequence-calls t) (sequence-at t) sequence.Post sequence-Inv-loop sequence-μ-loop
 sequence-absent-at-requires t c κs = search needs
 
--- src/value.rt:180:13
 sequence-add-next-2 : (t : ℕ) → sequence-lts.Need-add-next-2 (sequence-calls t) (sequence-at t) sequence.Post sequence-Inv-loop sequence-μ-loop
 sequence-add-next-2 t c = omega (arith, c .before .absent-at .ensures .1 (c .if1 .taken))
 
--- src/value.rt:181:13
 sequence-add-i : (t : ℕ) → sequence-lts.Need-add-i (sequence-calls t) (sequence-at t) sequence.Post sequence-Inv-loop sequence-μ-loop
 sequence-add-i t c = search needs
 
--- src/value.rt:177:5
 sequence-loop-less : (t : ℕ) → sequence-lts.Need-loop-less (sequence-calls t) (sequence-at t) sequence.Post sequence-Inv-loop sequence-μ-loop
 sequence-loop-less t c = search needs
 
--- src/value.rt:177:5
 sequence-loop-again : (t : ℕ) → sequence-lts.Need-loop-again (sequence-calls t) (sequence-at t) sequence.Post sequence-Inv-loop sequence-μ-loop
-sequence-loop-again t c = let a = c .before .before .before .before .before .before .before .before .before .before .before .before .before .before .before .before .before .args in
+sequence-loop-again t c =
+    let a = c .before .before .before .before .before .before .before .before .before .before .before .before .before .before .before .before .before .args in
     let inv = c .before .before .before .before .loop .inv in
     let rows = rowsIn (a .values .now) in
     let inside = rw (inv .0) at (c .before .before .before .loop-test .taken) in
     (inv .0, inv .1, inv .2, members-absent (inv .3) inside (sym (c .before .absent-at .ensures .0 (a .names .now)) ∙ c .if1 .taken))
 
--- src/value.rt:182:27
 sequence-null-at-requires : (t : ℕ) → sequence-lts.Need-null-at-requires (sequence-calls t) (sequence-at t) sequence.Post sequence-Inv-loop sequence-μ-loop
 sequence-null-at-requires t c κs = search needs
 
--- src/value.rt:183:17
 sequence-judged-requires : (t : ℕ) → sequence-lts.Need-judged-requires (sequence-calls t) (sequence-at t) sequence.Post sequence-Inv-loop sequence-μ-loop
 sequence-judged-requires t c κs = (omega (arith, c .before .before .before .before .before .before .before .before .before .before .before .before .before .before .before .before .before .before .before .pre .0), c .before .before .before .before .before .before .before .before .before .before .before .before .before .before .before .before .before .before .before .pre .1 .0)
 
--- src/value.rt:184:31
 sequence-enum-known-t : (t : ℕ) → sequence-lts.Need-enum-known-t (sequence-calls t) (sequence-at t) sequence.Post sequence-Inv-loop sequence-μ-loop
 sequence-enum-known-t t c = search needs
 
--- src/value.rt:185:17
 sequence-enum-told : (t : ℕ) → sequence-lts.Need-enum-told (sequence-calls t) (sequence-at t) sequence.Post sequence-Inv-loop sequence-μ-loop
 sequence-enum-told t c = search needs
 
--- src/value.rt:185:17
 sequence-same-length : (t : ℕ) → sequence-lts.Need-same-length (sequence-calls t) (sequence-at t) sequence.Post sequence-Inv-loop sequence-μ-loop
 sequence-same-length t c = search needs
 
--- src/value.rt:185:17
 sequence-returns : (t : ℕ) → sequence-lts.Need-returns (sequence-calls t) (sequence-at t) sequence.Post sequence-Inv-loop sequence-μ-loop
-sequence-returns t c = let a = c .before .before .before .before .before .before .before .before .before .before .before .before .before .before .before .before .before .before .before .before .before .before .args in
+sequence-returns t c =
+    let a = c .before .before .before .before .before .before .before .before .before .before .before .before .before .before .before .before .before .before .before .before .before .before .args in
     let inv = c .before .before .before .before .before .before .before .before .before .loop .inv in
+    let absent = sym (c .before .before .before .before .before .before .absent-at .ensures .0 (a .names .now)) ∙ c .before .before .before .before .before .if1 .left in
     let rows = rowsIn (a .values .now) in
     let inside = rw (inv .0) at (c .before .before .before .before .before .before .before .before .loop-test .taken) in
-    let absent = sym (c .before .before .before .before .before .before .absent-at .ensures .0 (a .names .now)) ∙ c .before .before .before .before .before .if1 .left in
     writes-is (c .enum-told .given .1) (gives-wrong (members-wrong (inv .3) inside absent (value-wrong rows (c .before .before .before .before .before .before .before .type-at .ensures (a .names .now)) (c .before .before .before .before .before .before .before .before .before .loop .next) (c .before .before .judged .ensures) (c .enum-told .given .1))))
 
--- src/value.rt:189:13
 sequence-add-present : (t : ℕ) → sequence-lts.Need-add-present (sequence-calls t) (sequence-at t) sequence.Post sequence-Inv-loop sequence-μ-loop
 sequence-add-present t c = search needs
 
--- src/value.rt:190:13
 sequence-add-i-2 : (t : ℕ) → sequence-lts.Need-add-i-2 (sequence-calls t) (sequence-at t) sequence.Post sequence-Inv-loop sequence-μ-loop
 sequence-add-i-2 t c = search needs
 
--- src/value.rt:177:5
 sequence-loop-less-2 : (t : ℕ) → sequence-lts.Need-loop-less-2 (sequence-calls t) (sequence-at t) sequence.Post sequence-Inv-loop sequence-μ-loop
 sequence-loop-less-2 t c = search needs
 
--- src/value.rt:177:5
 sequence-loop-again-2 : (t : ℕ) → sequence-lts.Need-loop-again-2 (sequence-calls t) (sequence-at t) sequence.Post sequence-Inv-loop sequence-μ-loop
-sequence-loop-again-2 t c = let a = c .before .before .before .before .before .before .before .before .before .before .before .before .before .before .before .before .before .before .before .before .before .before .before .args in
+sequence-loop-again-2 t c =
+    let a = c .before .before .before .before .before .before .before .before .before .before .before .before .before .before .before .before .before .before .before .before .before .before .before .args in
     let inv = c .before .before .before .before .before .before .before .before .before .before .loop .inv in
+    let absent = sym (c .before .before .before .before .before .before .before .absent-at .ensures .0 (a .names .now)) ∙ c .before .before .before .before .before .before .if1 .left in
     let rows = rowsIn (a .values .now) in
     let inside = rw (inv .0) at (c .before .before .before .before .before .before .before .before .before .loop-test .taken) in
-    let absent = sym (c .before .before .before .before .before .before .before .absent-at .ensures .0 (a .names .now)) ∙ c .before .before .before .before .before .before .if1 .left in
     let null = null-is (table (a .types .now) (a .names .now)) (drop (c .before .before .before .before .before .before .before .before .before .before .loop .next) rows) (c .before .before .before .before .before .before .before .before .before .before .before .before .before .before .before .before .is-array .result) (c .before .before .before .before .before .before .before .before .type-at .ensures (a .names .now)) (c .before .before .before .before .before .null-at .ensures (a .names .now)) (c .before .before .before .before .if2 .taken) in
     let v = value-got rows (c .before .before .before .before .before .before .before .before .type-at .ensures (a .names .now)) (c .before .before .before .before .before .before .before .before .before .before .loop .next) (c .before .before .before .judged .ensures) (c .before .t .given .1) in
     (inv .0, inv .1, inv .2, members-null (inv .3) inside absent (c .before .before .before .before .before .before .before .before .before .before .before .before .before .before .before .before .before .before .before .before .before .before .before .pre .1 .0) v null)
 
--- src/value.rt:192:17
 sequence-put-lead-requires : (t : ℕ) → sequence-lts.Need-put-lead-requires (sequence-calls t) (sequence-at t) sequence.Post sequence-Inv-loop sequence-μ-loop
 sequence-put-lead-requires t c κs = search needs
 
--- src/value.rt:193:17
 sequence-value-requires : (t : ℕ) → sequence-lts.Need-value-requires (sequence-calls t) (sequence-at t) sequence.Post sequence-Inv-loop sequence-μ-loop
 sequence-value-requires t c κs = (omega (arith, c .before .before .before .before .before .before .before .before .before .before .before .before .before .before .before .before .before .before .before .before .before .before .before .before .pre .0), c .before .before .before .before .before .before .before .before .before .before .before .before .before .before .before .before .before .before .before .before .before .before .before .before .pre .1 .0)
 
--- src/value.rt:194:31
 sequence-enum-known-t-2 : (t : ℕ) → sequence-lts.Need-enum-known-t-2 (sequence-calls t) (sequence-at t) sequence.Post sequence-Inv-loop sequence-μ-loop
 sequence-enum-known-t-2 t c = search needs
 
--- src/value.rt:195:17
 sequence-enum-told-2 : (t : ℕ) → sequence-lts.Need-enum-told-2 (sequence-calls t) (sequence-at t) sequence.Post sequence-Inv-loop sequence-μ-loop
 sequence-enum-told-2 t c = search needs
 
--- src/value.rt:195:17
 sequence-same-length-2 : (t : ℕ) → sequence-lts.Need-same-length-2 (sequence-calls t) (sequence-at t) sequence.Post sequence-Inv-loop sequence-μ-loop
 sequence-same-length-2 t c = search needs
 
--- src/value.rt:195:17
 sequence-returns-2 : (t : ℕ) → sequence-lts.Need-returns-2 (sequence-calls t) (sequence-at t) sequence.Post sequence-Inv-loop sequence-μ-loop
-sequence-returns-2 t c = let a = c .before .before .before .before .before .before .before .before .before .before .before .before .before .before .before .before .before .before .before .before .before .before .before .before .before .before .before .before .before .args in
+sequence-returns-2 t c =
+    let a = c .before .before .before .before .before .before .before .before .before .before .before .before .before .before .before .before .before .before .before .before .before .before .before .before .before .before .before .before .before .args in
     let inv = c .before .before .before .before .before .before .before .before .before .before .before .before .before .before .before .before .loop .inv in
+    let absent = sym (c .before .before .before .before .before .before .before .before .before .before .before .before .before .absent-at .ensures .0 (a .names .now)) ∙ c .before .before .before .before .before .before .before .before .before .before .before .before .if1 .left in
     let rows = rowsIn (a .values .now) in
     let inside = rw (inv .0) at (c .before .before .before .before .before .before .before .before .before .before .before .before .before .before .before .loop-test .taken) in
-    let absent = sym (c .before .before .before .before .before .before .before .before .before .before .before .before .before .absent-at .ensures .0 (a .names .now)) ∙ c .before .before .before .before .before .before .before .before .before .before .before .before .if1 .left in
     writes-is (c .enum-told2 .given .1) (gives-wrong (members-wrong (inv .3) inside absent (value-wrong rows (c .before .before .before .before .before .before .before .before .before .before .before .before .before .before .type-at .ensures (a .names .now)) (c .before .before .before .before .before .before .before .before .before .before .before .before .before .before .before .before .loop .next) (c .before .before .before .before .value .ensures) (c .enum-told2 .given .1))))
 
--- src/value.rt:200:13
 sequence-kept-after-requires : (t : ℕ) → sequence-lts.Need-kept-after-requires (sequence-calls t) (sequence-at t) sequence.Post sequence-Inv-loop sequence-μ-loop
 sequence-kept-after-requires t c κs = omega (arith, c .before .before .before .before .before .before .before .before .before .before .before .before .before .before .before .before .loop-test .taken, c .before .before .before .before .before .before .before .before .before .before .before .before .before .before .before .before .before .loop .inv .1, c .before .before .before .before .before .before .before .before .before .before .before .before .before .before .before .before .before .loop .inv .3 .few)
 
--- src/value.rt:201:13
 sequence-add-present-2 : (t : ℕ) → sequence-lts.Need-add-present-2 (sequence-calls t) (sequence-at t) sequence.Post sequence-Inv-loop sequence-μ-loop
 sequence-add-present-2 t c = omega (arith, c .before .before .before .before .before .before .before .before .before .before .before .before .before .before .before .before .before .loop-test .taken, c .before .before .before .before .before .before .before .before .before .before .before .before .before .before .before .before .before .before .loop .inv .1, c .before .before .before .before .before .before .before .before .before .before .before .before .before .before .before .before .before .before .loop .inv .3 .some)
 
--- src/value.rt:202:13
 sequence-add-i-3 : (t : ℕ) → sequence-lts.Need-add-i-3 (sequence-calls t) (sequence-at t) sequence.Post sequence-Inv-loop sequence-μ-loop
 sequence-add-i-3 t c = omega (arith, c .before .before .before .before .before .before .before .before .before .before .before .before .before .before .before .before .before .loop-test .taken, c .before .before .before .before .before .before .before .before .before .before .before .before .before .before .before .before .before .before .loop .inv .1)
 
--- src/value.rt:177:5
 sequence-loop-less-3 : (t : ℕ) → sequence-lts.Need-loop-less-3 (sequence-calls t) (sequence-at t) sequence.Post sequence-Inv-loop sequence-μ-loop
 sequence-loop-less-3 t c = search needs
 
--- src/value.rt:177:5
 sequence-loop-again-3 : (t : ℕ) → sequence-lts.Need-loop-again-3 (sequence-calls t) (sequence-at t) sequence.Post sequence-Inv-loop sequence-μ-loop
-sequence-loop-again-3 t c = let a = c .before .before .before .before .before .before .before .before .before .before .before .before .before .before .before .before .before .before .before .before .before .before .before .before .before .before .before .before .before .before .before .args in
+sequence-loop-again-3 t c =
+    let a = c .before .before .before .before .before .before .before .before .before .before .before .before .before .before .before .before .before .before .before .before .before .before .before .before .before .before .before .before .before .before .before .args in
     let inv = c .before .before .before .before .before .before .before .before .before .before .before .before .before .before .before .before .before .before .loop .inv in
+    let absent = sym (c .before .before .before .before .before .before .before .before .before .before .before .before .before .before .before .absent-at .ensures .0 (a .names .now)) ∙ c .before .before .before .before .before .before .before .before .before .before .before .before .before .before .if1 .left in
     let rows = rowsIn (a .values .now) in
     let inside = rw (inv .0) at (c .before .before .before .before .before .before .before .before .before .before .before .before .before .before .before .before .before .loop-test .taken) in
-    let absent = sym (c .before .before .before .before .before .before .before .before .before .before .before .before .before .before .before .absent-at .ensures .0 (a .names .now)) ∙ c .before .before .before .before .before .before .before .before .before .before .before .before .before .before .if1 .left in
     let null = null-is (table (a .types .now) (a .names .now)) (drop (c .before .before .before .before .before .before .before .before .before .before .before .before .before .before .before .before .before .before .loop .next) rows) (c .before .before .before .before .before .before .before .before .before .before .before .before .before .before .before .before .before .before .before .before .before .before .before .before .is-array .result) (c .before .before .before .before .before .before .before .before .before .before .before .before .before .before .before .before .type-at .ensures (a .names .now)) (c .before .before .before .before .before .before .before .before .before .before .before .before .before .null-at .ensures (a .names .now)) (c .before .before .before .before .before .before .before .before .before .before .before .before .if2 .left) in
     let v = value-got rows (c .before .before .before .before .before .before .before .before .before .before .before .before .before .before .before .before .type-at .ensures (a .names .now)) (c .before .before .before .before .before .before .before .before .before .before .before .before .before .before .before .before .before .before .loop .next) (c .before .before .before .before .before .before .value .ensures) (c .before .before .t2 .given .1) in
     (inv .0, inv .1, c .before .before .before .before .before .before .value .kept .1 .1 .1 .1 .0 ∙ c .before .before .before .before .before .before .before .before .before .before .put-lead .kept .1 .1 .0 ∙ inv .2, rw (c .kept-after .ensures) (members-part (inv .3) inside absent (c .before .before .before .before .before .before .before .before .before .before .before .before .before .before .before .before .before .before .before .before .before .before .before .before .before .before .before .before .before .before .before .pre .1 .0) v null (c .before .before .before .before .before .before .before .before .before .before .put-lead .ensures)))
 
--- src/value.rt:205:9
 sequence-put-closing-requires : (t : ℕ) → sequence-lts.Need-put-closing-requires (sequence-calls t) (sequence-at t) sequence.Post sequence-Inv-loop sequence-μ-loop
 sequence-put-closing-requires t c κs = search needs
 
--- src/value.rt:206:5
 sequence-ended-requires : (t : ℕ) → sequence-lts.Need-ended-requires (sequence-calls t) (sequence-at t) sequence.Post sequence-Inv-loop sequence-μ-loop
 sequence-ended-requires t c κs = search needs
 
--- src/value.rt:153:1
 sequence-same-length-3 : (t : ℕ) → sequence-lts.Need-same-length-3 (sequence-calls t) (sequence-at t) sequence.Post sequence-Inv-loop sequence-μ-loop
 sequence-same-length-3 t c = search needs
 
--- src/value.rt:153:1
 sequence-returns-3 : (t : ℕ) → sequence-lts.Need-returns-3 (sequence-calls t) (sequence-at t) sequence.Post sequence-Inv-loop sequence-μ-loop
-sequence-returns-3 t c = let inv = c .before .before .before .before .before .before .before .loop .inv in
+sequence-returns-3 t c =
+    let inv = c .before .before .before .before .before .before .before .loop .inv in
     writes-is (c .ended .ensures) (members-end (inv .3) (rw (inv .0) at (c .before .before .before .before .before .before .loop-test .left)) (c .before .before .before .before .before .before .before .before .before .before .put-opening .ensures) (c .before .before .before .before .put-closing .ensures))
 
--- src/value.rt:50:9
 value-at-requires : (t : ℕ) → value-lts.Need-at-requires (value-calls t) (value-at t) value.Post
 value-at-requires t c κs = search needs
 
--- src/value.rt:50:9
 value-is-unwrapped-requires : (t : ℕ) → value-lts.Need-is-unwrapped-requires (value-calls t) (value-at t) value.Post
 value-is-unwrapped-requires t c κs = search needs
 
--- src/value.rt:51:9
 value-plain-requires : (t : ℕ) → value-lts.Need-plain-requires (value-calls t) (value-at t) value.Post
-value-plain-requires t c κs = let a = c .before .before .before .before .before .before .before .before .before .args in
+value-plain-requires t c κs =
+    let a = c .before .before .before .before .before .before .before .before .before .args in
     let t = table (a .types .now) (a .names .now) in
     let rows = rowsIn (a .values .now) in
     (omega arith, (c .before .before .before .before .before .before .before .before .before .pre .1, sym (c .before .before .is-unwrapped .ensures t (a .r) (c .before .before .before .at .ensures (a .names .now))) ∙ not-true _ (c .before .if1 .taken)))
 
--- src/value.rt:51:9
 value-same-length : (t : ℕ) → value-lts.Need-same-length (value-calls t) (value-at t) value.Post
 value-same-length t c = search needs
 
--- src/value.rt:51:9
 value-returns : (t : ℕ) → value-lts.Need-returns (value-calls t) (value-at t) value.Post
 value-returns t c = search needs
 
--- src/value.rt:53:25
 value-row-at-requires : (t : ℕ) → value-lts.Need-row-at-requires (value-calls t) (value-at t) value.Post
 value-row-at-requires t c κs = search needs
 
--- src/value.rt:53:20
 value-enum-known-w : (t : ℕ) → value-lts.Need-enum-known-w (value-calls t) (value-at t) value.Post
 value-enum-known-w t c = search needs
 
--- src/value.rt:54:9
 value-enum-told : (t : ℕ) → value-lts.Need-enum-told (value-calls t) (value-at t) value.Post
 value-enum-told t c = search needs
 
--- src/value.rt:54:9
 value-returns-2 : (t : ℕ) → value-lts.Need-returns-2 (value-calls t) (value-at t) value.Post
-value-returns-2 t c = let a = c .before .before .before .before .before .before .before .before .before .before .before .args in
+value-returns-2 t c =
+    let a = c .before .before .before .before .before .before .before .before .before .before .before .args in
     gives-wrong (text-none _ _ _ _ (a .q) _ (rw (c .enum-told .given .1) at (c .before .before .row-at .ensures)))
 
--- src/value.rt:56:51
 value-count-of-requires : (t : ℕ) → value-lts.Need-count-of-requires (value-calls t) (value-at t) value.Post
 value-count-of-requires t c κs = search needs
 
--- src/value.rt:58:9
 value-returns-3 : (t : ℕ) → value-lts.Need-returns-3 (value-calls t) (value-at t) value.Post
-value-returns-3 t c = let a = c .before .before .before .before .before .before .before .before .before .before .before .before .before .before .before .before .before .args in
+value-returns-3 t c =
+    let a = c .before .before .before .before .before .before .before .before .before .before .before .before .before .before .before .before .before .args in
     let t = table (a .types .now) (a .names .now) in
     let rows = rowsIn (a .values .now) in
     let unwrapped = sym (c .before .before .before .before .before .before .before .before .before .before .is-unwrapped .ensures t (a .r) (c .before .before .before .before .before .before .before .before .before .before .before .at .ensures (a .names .now))) ∙ not-false _ (c .before .before .before .before .before .before .before .before .before .if1 .left) in
@@ -692,19 +609,18 @@ value-returns-3 t c = let a = c .before .before .before .before .before .before 
     let right = right-is (w .kind) (w .a) (w .b) (c .before .before .before .count-of .ensures (a .names .now)) (not-true _ (c .if2 .taken)) in
     gives-wrong (unwrapped-bad (a .depth) t (a .pool .now) rows (a .r) (a .q) (a .o) (valueRow w) unwrapped (found .0) right)
 
--- src/value.rt:60:9
 value-type-at-requires : (t : ℕ) → value-lts.Need-type-at-requires (value-calls t) (value-at t) value.Post
 value-type-at-requires t c κs = search needs
 
--- src/value.rt:61:54
 value-add-plain : (t : ℕ) → value-lts.Need-add-plain (value-calls t) (value-at t) value.Post
-value-add-plain t c = let w = c .before .before .before .before .before .before .before .before .w .given .0 .0 in
+value-add-plain t c =
+    let w = c .before .before .before .before .before .before .before .before .w .given .0 .0 in
     let found = rw (c .before .before .before .before .before .before .before .before .w .given .1) at (c .before .before .before .before .before .before .before .before .before .before .row-at .ensures) in
     omega (arith, found .2)
 
--- src/value.rt:61:11
 value-plain-requires-2 : (t : ℕ) → value-lts.Need-plain-requires-2 (value-calls t) (value-at t) value.Post
-value-plain-requires-2 t c κs = let a = c .before .before .before .before .before .before .before .before .before .before .before .before .before .before .before .before .before .before .before .args in
+value-plain-requires-2 t c κs =
+    let a = c .before .before .before .before .before .before .before .before .before .before .before .before .before .before .before .before .before .before .before .args in
     let t = table (a .types .now) (a .names .now) in
     let rows = rowsIn (a .values .now) in
     let unwrapped = sym (c .before .before .before .before .before .before .before .before .before .before .before .before .is-unwrapped .ensures t (a .r) (c .before .before .before .before .before .before .before .before .before .before .before .before .before .at .ensures (a .names .now))) ∙ not-false _ (c .before .before .before .before .before .before .before .before .before .before .before .if1 .left) in
@@ -713,25 +629,21 @@ value-plain-requires-2 t c κs = let a = c .before .before .before .before .befo
     let right = right-is (w .kind) (w .a) (w .b) (c .before .before .before .before .before .count-of .ensures (a .names .now)) (not-false _ (c .before .before .if2 .left)) in
     (omega (arith, c .before .before .before .before .before .before .before .before .before .before .before .before .before .before .before .before .before .before .before .pre .0), (c .before .before .before .before .before .before .before .before .before .before .before .before .before .before .before .before .before .before .before .pre .1, ap (isUnwrapped t) (c .before .type-at .ensures (a .names .now)) ∙ chosen-plain (a .depth) t (a .pool .now) rows (a .r) (a .q) (a .o) (valueRow w) unwrapped (found .0) (c .before .before .before .before .before .before .before .before .before .before .before .before .before .before .before .before .before .before .before .pre .1) right))
 
--- src/value.rt:62:22
 value-enum-known-b : (t : ℕ) → value-lts.Need-enum-known-b (value-calls t) (value-at t) value.Post
 value-enum-known-b t c = search needs
 
--- src/value.rt:63:23
 value-enum-known-row : (t : ℕ) → value-lts.Need-enum-known-row (value-calls t) (value-at t) value.Post
 value-enum-known-row t c = search needs
 
--- src/value.rt:63:43
 value-ended-requires : (t : ℕ) → value-lts.Need-ended-requires (value-calls t) (value-at t) value.Post
 value-ended-requires t c κs = search needs
 
--- src/value.rt:35:1
 value-same-length-2 : (t : ℕ) → value-lts.Need-same-length-2 (value-calls t) (value-at t) value.Post
 value-same-length-2 t c = search needs
 
--- src/value.rt:35:1
 value-returns-4 : (t : ℕ) → value-lts.Need-returns-4 (value-calls t) (value-at t) value.Post
-value-returns-4 t c = let a = c .before .before .before .before .before .before .before .before .before .before .before .before .before .before .before .before .before .before .before .before .before .before .before .before .before .args in
+value-returns-4 t c =
+    let a = c .before .before .before .before .before .before .before .before .before .before .before .before .before .before .before .before .before .before .before .before .before .before .before .before .before .args in
     let t = table (a .types .now) (a .names .now) in
     let rows = rowsIn (a .values .now) in
     let unwrapped = sym (c .before .before .before .before .before .before .before .before .before .before .before .before .before .before .before .before .before .before .is-unwrapped .ensures t (a .r) (c .before .before .before .before .before .before .before .before .before .before .before .before .before .before .before .before .before .before .before .at .ensures (a .names .now))) ∙ not-false _ (c .before .before .before .before .before .before .before .before .before .before .before .before .before .before .before .before .before .if1 .left) in
@@ -740,13 +652,12 @@ value-returns-4 t c = let a = c .before .before .before .before .before .before 
     let right = right-is (w .kind) (w .a) (w .b) (c .before .before .before .before .before .before .before .before .before .before .before .count-of .ensures (a .names .now)) (not-false _ (c .before .before .before .before .before .before .before .before .if2 .left)) in
     gives-wrong (unwrapped-wrong (a .depth) t (a .pool .now) rows (a .r) (a .q) (a .o) (valueRow w) unwrapped (found .0) (c .before .before .before .before .before .before .before .before .before .before .before .before .before .before .before .before .before .before .before .before .before .before .before .before .before .pre .1) right (value-wrong rows (c .before .before .before .before .before .before .before .type-at .ensures (a .names .now)) (a .q + 1) (c .before .before .before .before .before .plain2 .ensures) (c .before .b .given .1)))
 
--- src/value.rt:35:1
 value-same-length-3 : (t : ℕ) → value-lts.Need-same-length-3 (value-calls t) (value-at t) value.Post
 value-same-length-3 t c = search needs
 
--- src/value.rt:35:1
 value-returns-5 : (t : ℕ) → value-lts.Need-returns-5 (value-calls t) (value-at t) value.Post
-value-returns-5 t c = let a = c .before .before .before .before .before .before .before .before .before .before .before .before .before .before .before .before .before .before .before .before .before .before .before .before .before .before .args in
+value-returns-5 t c =
+    let a = c .before .before .before .before .before .before .before .before .before .before .before .before .before .before .before .before .before .before .before .before .before .before .before .before .before .before .args in
     let t = table (a .types .now) (a .names .now) in
     let rows = rowsIn (a .values .now) in
     let unwrapped = sym (c .before .before .before .before .before .before .before .before .before .before .before .before .before .before .before .before .before .before .before .is-unwrapped .ensures t (a .r) (c .before .before .before .before .before .before .before .before .before .before .before .before .before .before .before .before .before .before .before .before .at .ensures (a .names .now))) ∙ not-false _ (c .before .before .before .before .before .before .before .before .before .before .before .before .before .before .before .before .before .before .if1 .left) in
@@ -757,7 +668,8 @@ value-returns-5 t c = let a = c .before .before .before .before .before .before 
 
 pub +choice+judged+list+plain+sequence+value-spec : {M : Type 1} → statement M
 +choice+judged+list+plain+sequence+value-spec =
-    close μ-choice μ-judged μ-list μ-plain μ-sequence μ-value (λ t. choice-lts.spec (choice-calls t) (choice-at t) choice.Post
+    close μ-choice μ-judged μ-list μ-plain μ-sequence μ-value
+    (λ t. choice-lts.spec (choice-calls t) (choice-at t) choice.Post
     (choice-put-byte-requires t)
     (choice-member-row-requires t)
     (choice-name-in-requires t)
@@ -773,8 +685,7 @@ pub +choice+judged+list+plain+sequence+value-spec : {M : Type 1} → statement M
     (choice-returns t)
     (choice-same-length-2 t)
     (choice-returns-2 t))
-    (λ t. judged-lts.spec
-    (judged-calls t) (judged-at t) judged.Post
+    (λ t. judged-lts.spec (judged-calls t) (judged-at t) judged.Post
     (judged-slice-aggregate-value t)
     (judged-value-requires t)
     (judged-returns t))

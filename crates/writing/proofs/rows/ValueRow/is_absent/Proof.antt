@@ -1,9 +1,9 @@
+-- Made by tools/answers.py from answers/rows/ValueRow/is_absent.ans: edit that. 9e40d51955140ffb
 use mathlib.Core.Path.{refl}
 use Rattle.jer.specs.Judge.{isAbsent}
 use Rattle.writing.proofs.rows.ValueRow.is_absent.Statement.{statement}
 use Rattle.writing.proofs.rows.ValueRow.is_absent.Tie as tie
 
--- src/rows.rt:45:5
 returns : tie.Need-returns
 unfolding isAbsent
 returns c = refl
