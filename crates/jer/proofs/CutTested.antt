@@ -6,7 +6,7 @@ use mathlib.Core.Bool.{Bool, true, false, _&&_, _||_, not}
 use native.Mathlib.Omega.{arith}
 use lib.Dec.{eqb, ltb, leb}
 use borrow.Author.Tests.{eqb-true, leb-true, eq-eqb, lt-ltb}
-use Rattle.jer.specs.Table.{Table, SEQUENCE-OF, kindOf, marksOf, extensible, elementOf, countOf, rootOf, optional, typeAt, nameAt, sameBytes}
+use Rattle.jer.specs.Table.{Table, SEQUENCE-OF, tagOf, kindOf, marksOf, extensible, elementOf, countOf, rootOf, optional, typeAt, nameAt, sameBytes}
 use Rattle.jer.specs.Valid.{every, implies}
 use Rattle.jer.specs.Cut.{ByAdditions}
 use Rattle.jer.proofs.ValidLaws.{every-below, sameBytes-eq}
@@ -39,7 +39,7 @@ keepsMember new old ps a b i = sameBytes (nameAt new a i) (nameAt old b i) && (s
 -- do the rows a and b?
 unfoldable pub keeps : Table → Table → List Pair → ℕ → ℕ → Bool
 keeps new old ps a b =
-    eqb (kindOf new a) (kindOf old b) && (eqb (marksOf new a) (marksOf old b) && (eqb (rootOf new a) (rootOf old b)
+    eqb (tagOf new a) (tagOf old b) && (eqb (marksOf new a) (marksOf old b) && (eqb (rootOf new a) (rootOf old b)
     && (implies (eqb (kindOf old b) SEQUENCE-OF) (among ps (elementOf new a) (elementOf old b)) && (leb (countOf old b) (countOf new a)
     && (implies (ltb (countOf old b) (countOf new a)) (extensible old b) && every (keepsMember new old ps a b) 0 (countOf old b))))))
 
@@ -81,7 +81,7 @@ kept-member new old ps a b i h =
     record { names = sameBytes-eq _ _ (n .0); optionals = same-true _ _ (o .0); types = o .1 }
 
 record Kept (new old : Table) (ps : List Pair) (a b : ℕ) : Type 0 where
-  kinds : kindOf new a ≡ kindOf old b
+  tags : tagOf new a ≡ tagOf old b
   marks : marksOf new a ≡ marksOf old b
   roots : rootOf new a ≡ rootOf old b
   elements : kindOf old b ≡ SEQUENCE-OF → Listed ps (elementOf new a) (elementOf old b)
@@ -99,7 +99,7 @@ kept new old ps a b h =
     let f = split _ _ (e .1) in
     let g = split _ _ (f .1) in
     record {
-      kinds = eqb-true _ _ (k .0);
+      tags = eqb-true _ _ (k .0);
       marks = eqb-true _ _ (m .0);
       roots = eqb-true _ _ (r .0);
       elements = λ w. told _ _ (e .0) (eq-eqb _ _ w);
@@ -130,7 +130,7 @@ unfolding byAdditions
 by-additions new old ps h =
     record {
       whole = split _ _ h .0;
-      kinds = λ a b l. at a b l .kinds;
+      tags = λ a b l. at a b l .tags;
       marks = λ a b l. at a b l .marks;
       roots = λ a b l. at a b l .roots;
       elements = λ a b l. at a b l .elements;

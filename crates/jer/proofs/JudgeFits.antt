@@ -12,11 +12,12 @@ use lib.Seq.{length-take-le}
 use borrow.Author.Tests.{ltb-true, leb-true, eqb-true}
 use Rattle.json.specs.Utf8.{utf8}
 use Rattle.json.proofs.SoundRows.{pick-within, _⨾_}
-use Rattle.jer.specs.Table.{Table, BOOLEAN, INTEGER, ENUMERATED, NULL, SEQUENCE, SEQUENCE-OF, CHOICE, kindOf, isUnwrapped, elementOf, countOf, typeAt, mayBeAbsent}
+use Rattle.jer.specs.Table.{Table, BOOLEAN, INTEGER, ENUMERATED, NULL, SEQUENCE, SEQUENCE-OF, CHOICE, tagOf, kindOf, isUnwrapped, elementOf, countOf, typeAt, mayBeAbsent}
 use Rattle.jer.specs.Value.{Val, vBool, vInt, vEnum, vNull, vBytes, vChoice, Vals, vcons, Parts, absent, present, countVals, countPresent}
 use Rattle.jer.specs.Rows.{ValueRow, row, absentRow, bit, poolOf, itemPool, partPool, above, rowsOf, itemRows, partRows}
 use Rattle.jer.specs.Judge.{Took, wrong, Taker, isAbsent, takeParts, takeItems, rightRow, leaf, stringRow, sized, inBracket, takeSequence, takeList, takeChoice, takeRow, onRow, takeUnwrapped, takeValue}
 use Rattle.jer.specs.Fits.{Octets, noOctets, octet, Fits, fLeaf, fBool, fInt, fEnum, fNull, fOctets, fText, fSeq, fList, fWrapped, fUnwrapped, FitsItems, noItem, item, FitsParts, noMember, absentMember, presentMember}
+use Rattle.jer.proofs.Forms.{choice-tag}
 use Rattle.jer.proofs.ValidRows.{both, unwrapped-kind}
 use Rattle.jer.proofs.JudgeTakes.{inner, take-plain, take-unwrapped}
 use Rattle.jer.proofs.JudgeSpent.{After, after-then, after-if, WordRows, wordRow, Left, Spent, spent-none, spent-row, spent-append}
@@ -105,7 +106,7 @@ module _ (t : Table) (pool : List ℕ) (os : Octets pool) where
     unfolding leaf
     leaf-sound good v h = right-sound _ v (λ e. let p = simp both at e in h (p .0) (eqb-true _ _ (p .1 .0)) (eqb-true _ _ (p .1 .1)))
 
-    module _ (k : w .kind ≡ kindOf t r) where
+    module _ (k : w .kind ≡ tagOf t r) where
       bool-sound : kindOf t r ≡ BOOLEAN → After (Taken d r (w ∷ ws) q o) (leaf (ltb (w .a) 2) (vBool (eqb (w .a) 1)) w ws q o)
       unfolding rowsOf poolOf
       bool-sound c = leaf-sound _ _ (λ g x y. record { fits = fLeaf (fBool c); spent = spent-one _ (row-is w k (bit-of (w .a) (ltb-true _ _ g)) x y) })
@@ -203,7 +204,7 @@ module _ (t : Table) (pool : List ℕ) (os : Octets pool) where
   unfolding above
   above-spent {w = w} x y z n s = spent-row (row-is w x y z (omega (arith, s .next))) s
 
-  module _ (d : ℕ) (f : Taker) (r : ℕ) (w : ValueRow) (ws : List ValueRow) (q o : ℕ) (l : Left pool (w ∷ ws) o) (k : w .kind ≡ kindOf t r) (b : w .b ≡ 0) where
+  module _ (d : ℕ) (f : Taker) (r : ℕ) (w : ValueRow) (ws : List ValueRow) (q o : ℕ) (l : Left pool (w ∷ ws) o) (k : w .kind ≡ tagOf t r) (b : w .b ≡ 0) where
     seq-sound : Sound d f → kindOf t r ≡ SEQUENCE → After (Taken (suc d) r (w ∷ ws) q o) (takeSequence t r w ws q o f)
     unfolding takeSequence rowsOf poolOf
     seq-sound s c =
@@ -250,9 +251,9 @@ module _ (t : Table) (pool : List ℕ) (os : Octets pool) where
   unfolding takeRow
   row-sound {d = d} n r w ws q o l =
       let P = Taken d r (w ∷ ws) q o in
-      after-if P (eqb (w .kind) (kindOf t r)) _ q (λ e.
-      let k = eqb-true (w .kind) (kindOf t r) e in
-      pick-within (After P) (w .kind) _ (wrong q)
+      after-if P (eqb (w .kind) (tagOf t r)) _ q (λ e.
+      let k = eqb-true (w .kind) (tagOf t r) e in
+      pick-within (After P) (kindOf t r) _ (wrong q)
       ((λ i. bool-sound d r w ws q o l k (omega arith))
       ⨾ (λ i. int-sound d r w ws q o l k (omega arith))
       ⨾ (λ i. enum-sound d r w ws q o l k (omega arith))
@@ -281,7 +282,7 @@ module _ (t : Table) (pool : List ℕ) (os : Octets pool) where
       after-if (Taken d r (w ∷ ws) q o) (eqb (w .kind) CHOICE && (ltb (w .a) (countOf t r) && eqb (w .b) 0)) _ q (λ e.
       let p = simp both at e in
       let m = ltb-true (w .a) (countOf t r) (p .1 .0) in
-      let k = eqb-true (w .kind) CHOICE (p .0) ∙ sym (unwrapped-kind t r c) in
+      let k = eqb-true (w .kind) CHOICE (p .0) ∙ sym (choice-tag t r (unwrapped-kind t r c)) in
       choice-sound d _ r w ws q o l k (eqb-true _ _ (p .1 .1)) d (plain-sound n _ ws (suc q) o (left-after d r w ws q o l)) (λ v h. fUnwrapped c m h))
 
   with-sound : (d : ℕ) → Inside d (inner d t pool) → Sound d (takeValue d t pool)

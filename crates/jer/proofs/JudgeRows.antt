@@ -11,38 +11,40 @@ use lib.ListN.{length, length-append}
 use borrow.Author.Tests.{eq-eqb, ne-eqb, lt-ltb, le-leb}
 use Rattle.json.specs.Bytes.{pick}
 use Rattle.json.specs.Utf8.{utf8}
-use Rattle.jer.specs.Table.{Table, BOOLEAN, INTEGER, ENUMERATED, NULL, OCTET-STRING, UTF8String, SEQUENCE, SEQUENCE-OF, CHOICE, kindOf, isUnwrapped, elementOf, countOf, typeAt, mayBeAbsent}
+use Rattle.jer.specs.Table.{Table, BOOLEAN, INTEGER, ENUMERATED, NULL, OCTET-STRING, UTF8String, SEQUENCE, SEQUENCE-OF, CHOICE, tagOf, kindOf, isType, isUnwrapped, elementOf, countOf, typeAt, mayBeAbsent}
 use Rattle.jer.specs.Value.{Leaf, lBool, lInt, lEnum, lNull, lBytes, Val, vLeaf, vBool, vInt, vEnum, vNull, vBytes, vSeq, vList, vChoice, Vals, vnil, vcons, Parts, pnil, absent, present, countVals, countPresent}
 use Rattle.jer.specs.Rows.{ValueRow, row, bit, leafRow, poolOf, itemPool, partPool, above, rowsOf, itemRows, partRows}
 use Rattle.jer.specs.Judge.{took, andThen, Taker, isAbsent, takeParts, takeItems, rightRow, leaf, stringRow, sized, inBracket, takeSequence, takeList, takeChoice, takeRow, onRow, takeUnwrapped, takeValue}
 use Rattle.jer.specs.Fits.{FitsLeaf, Fits, fLeaf, fBool, fInt, fEnum, fNull, fOctets, fText, fSeq, fList, fWrapped, fUnwrapped, FitsItems, noItem, item, FitsParts, noMember, absentMember, presentMember}
 use Rattle.jer.specs.Sane.{Sane}
-use Rattle.jer.proofs.ValidRows.{unwrapped-kind}
+use Rattle.jer.proofs.Forms.{kind-type, choice-tag, type-present}
+use Rattle.jer.proofs.ValidRows.{type-kinds, unwrapped-kind}
 use Rattle.jer.proofs.JudgeTakes.{Stands, stands-first, stands-later, inner, take-plain, take-unwrapped}
 
-leaf-kind : {t : Table} {r : ℕ} {l : Leaf} → FitsLeaf t r l → kindOf t r ≤ 8
-leaf-kind (fBool k) = omega arith
-leaf-kind (fInt k h) = omega arith
-leaf-kind (fEnum k h) = omega arith
-leaf-kind (fNull k) = omega arith
-leaf-kind (fOctets k h) = omega arith
-leaf-kind (fText k h) = omega arith
+leaf-type : {t : Table} {r : ℕ} {l : Leaf} → FitsLeaf t r l → isType t r ≡ true
+leaf-type {t = t} {r = r} (fBool k) = kind-type t r _ k (type-kinds .0)
+leaf-type {t = t} {r = r} (fInt k h) = kind-type t r _ k (type-kinds .1)
+leaf-type {t = t} {r = r} (fEnum k h) = kind-type t r _ k (type-kinds .2)
+leaf-type {t = t} {r = r} (fNull k) = kind-type t r _ k (type-kinds .3)
+leaf-type {t = t} {r = r} (fOctets k h) = kind-type t r _ k (type-kinds .4)
+leaf-type {t = t} {r = r} (fText k h) = kind-type t r _ k (type-kinds .5)
 
-pub fits-kind : {t : Table} {d r : ℕ} {v : Val} → Fits t d r v → kindOf t r ≤ 8
-fits-kind (fLeaf f) = leaf-kind f
-fits-kind (fSeq k h) = omega arith
-fits-kind (fList k h) = omega arith
-fits-kind (fWrapped k u h f) = omega arith
-fits-kind {t = t} {r = r} (fUnwrapped u h f) = omega (arith, unwrapped-kind t r u)
+-- a row at which a value fits is a type's
+pub fits-type : {t : Table} {d r : ℕ} {v : Val} → Fits t d r v → isType t r ≡ true
+fits-type (fLeaf f) = leaf-type f
+fits-type {t = t} {r = r} (fSeq k h) = kind-type t r _ k (type-kinds .6)
+fits-type {t = t} {r = r} (fList k h) = kind-type t r _ k (type-kinds .7)
+fits-type {t = t} {r = r} (fWrapped k u h f) = kind-type t r _ k (type-kinds .8)
+fits-type {t = t} {r = r} (fUnwrapped u h f) = kind-type t r _ (unwrapped-kind t r u) (type-kinds .8)
 
--- a value's first row has the kind of its type
+-- a value's first row has the number of its type
 record Headed (t : Table) (r : ℕ) (ws : List ValueRow) : Type 0 where
   first : ValueRow
   rest : List ValueRow
   all : ws ≡ first ∷ rest
-  kind : first .kind ≡ kindOf t r
+  kind : first .kind ≡ tagOf t r
 
-headed-leaf : (l : Leaf) (t : Table) (r o : ℕ) → Headed t r (leafRow l (kindOf t r) o ∷ [])
+headed-leaf : (l : Leaf) (t : Table) (r o : ℕ) → Headed t r (leafRow l (tagOf t r) o ∷ [])
 headed-leaf (lBool b) t r o = record { first = _; rest = _; all = refl; kind = refl }
 headed-leaf (lInt n) t r o = record { first = _; rest = _; all = refl; kind = refl }
 headed-leaf (lEnum i) t r o = record { first = _; rest = _; all = refl; kind = refl }
@@ -63,49 +65,49 @@ not-choice t r h = rw (ne-eqb (kindOf t r) CHOICE h)
 -- ---- one row
 
 module _ (i : Option Taker) (t : Table) (pool : List ℕ) (r : ℕ) (ws : List ValueRow) (q o : ℕ) where
-  row-bool : (b : Bool) → kindOf t r ≡ BOOLEAN → takeRow i t pool r (row BOOLEAN (bit b) 0 1) ws q o ≡ took (vBool b) ws (suc q) o
+  row-bool : (b : Bool) → kindOf t r ≡ BOOLEAN → takeRow i t pool r (row (tagOf t r) (bit b) 0 1) ws q o ≡ took (vBool b) ws (suc q) o
   unfolding takeRow pick leaf rightRow bit
-  row-bool true k = rw (k, takeRow)
-  row-bool false k = rw (k, takeRow)
+  row-bool true k = rw (eq-eqb (tagOf t r) (tagOf t r) refl, takeRow) (rw k)
+  row-bool false k = rw (eq-eqb (tagOf t r) (tagOf t r) refl, takeRow) (rw k)
 
-  row-int : (n : ℕ) → kindOf t r ≡ INTEGER → takeRow i t pool r (row INTEGER (n % 2 ^ 32) (n / 2 ^ 32) 1) ws q o ≡ took (vInt n) ws (suc q) o
+  row-int : (n : ℕ) → kindOf t r ≡ INTEGER → takeRow i t pool r (row (tagOf t r) (n % 2 ^ 32) (n / 2 ^ 32) 1) ws q o ≡ took (vInt n) ws (suc q) o
   unfolding takeRow pick rightRow
-  row-int n k = rw (k, takeRow) (rw (div-add-mod' n (2 ^ 32)))
+  row-int n k = rw (eq-eqb (tagOf t r) (tagOf t r) refl, takeRow) (rw k (rw (div-add-mod' n (2 ^ 32))))
 
-  row-enum : (n : ℕ) → kindOf t r ≡ ENUMERATED → n < countOf t r → takeRow i t pool r (row ENUMERATED n 0 1) ws q o ≡ took (vEnum n) ws (suc q) o
+  row-enum : (n : ℕ) → kindOf t r ≡ ENUMERATED → n < countOf t r → takeRow i t pool r (row (tagOf t r) n 0 1) ws q o ≡ took (vEnum n) ws (suc q) o
   unfolding takeRow pick leaf rightRow
-  row-enum n k h = rw (k, takeRow) (rw (lt-ltb n (countOf t r) h, rightRow))
+  row-enum n k h = rw (eq-eqb (tagOf t r) (tagOf t r) refl, takeRow) (rw k (rw (lt-ltb n (countOf t r) h, rightRow)))
 
-  row-null : kindOf t r ≡ NULL → takeRow i t pool r (row NULL 0 0 1) ws q o ≡ took vNull ws (suc q) o
+  row-null : kindOf t r ≡ NULL → takeRow i t pool r (row (tagOf t r) 0 0 1) ws q o ≡ took vNull ws (suc q) o
   unfolding takeRow pick leaf rightRow
-  row-null k = rw (k, takeRow)
+  row-null k = rw (eq-eqb (tagOf t r) (tagOf t r) refl, takeRow) (rw k)
 
   row-string : (text : Bool) (k : ℕ) (s : List ℕ) → Stands pool o s → (not text || utf8 s) ≡ true → stringRow text pool (row k o (length s) 1) ws q o ≡ took (vBytes s) ws (suc q) (o + length s)
   unfolding stringRow
   row-string text k s h u = rw (eq-eqb o o refl, le-leb (o + length s) (length pool) (h .inside), stringRow) (rw (h .same, u) (rw (h .same)))
 
-  row-octets : (s : List ℕ) → kindOf t r ≡ OCTET-STRING → Stands pool o s → takeRow i t pool r (row OCTET-STRING o (length s) 1) ws q o ≡ took (vBytes s) ws (suc q) (o + length s)
+  row-octets : (s : List ℕ) → kindOf t r ≡ OCTET-STRING → Stands pool o s → takeRow i t pool r (row (tagOf t r) o (length s) 1) ws q o ≡ took (vBytes s) ws (suc q) (o + length s)
   unfolding takeRow pick
-  row-octets s k h = rw (k, takeRow) (row-string false OCTET-STRING s h refl)
+  row-octets s k h = rw (eq-eqb (tagOf t r) (tagOf t r) refl, takeRow) (rw k (row-string false (tagOf t r) s h refl))
 
-  row-text : (s : List ℕ) → kindOf t r ≡ UTF8String → Stands pool o s → utf8 s ≡ true → takeRow i t pool r (row UTF8String o (length s) 1) ws q o ≡ took (vBytes s) ws (suc q) (o + length s)
+  row-text : (s : List ℕ) → kindOf t r ≡ UTF8String → Stands pool o s → utf8 s ≡ true → takeRow i t pool r (row (tagOf t r) o (length s) 1) ws q o ≡ took (vBytes s) ws (suc q) (o + length s)
   unfolding takeRow pick
-  row-text s k h u = rw (k, takeRow) (row-string true UTF8String s h u)
+  row-text s k h u = rw (eq-eqb (tagOf t r) (tagOf t r) refl, takeRow) (rw k (row-string true (tagOf t r) s h u))
 
 -- ---- rows with parts
 
 module _ (f : Taker) (t : Table) (pool : List ℕ) (r : ℕ) (us : List ValueRow) (q o : ℕ) where
-  row-seq : (a n : ℕ) → kindOf t r ≡ SEQUENCE → takeRow (some f) t pool r (row SEQUENCE a 0 n) us q o ≡ takeSequence t r (row SEQUENCE a 0 n) us q o f
+  row-seq : (a n : ℕ) → kindOf t r ≡ SEQUENCE → takeRow (some f) t pool r (row (tagOf t r) a 0 n) us q o ≡ takeSequence t r (row (tagOf t r) a 0 n) us q o f
   unfolding takeRow pick inBracket
-  row-seq a n k = rw (k, takeRow)
+  row-seq a n k = rw (eq-eqb (tagOf t r) (tagOf t r) refl, takeRow) (rw k)
 
-  row-list : (a n : ℕ) → kindOf t r ≡ SEQUENCE-OF → takeRow (some f) t pool r (row SEQUENCE-OF a 0 n) us q o ≡ takeList t r (row SEQUENCE-OF a 0 n) us q o f
+  row-list : (a n : ℕ) → kindOf t r ≡ SEQUENCE-OF → takeRow (some f) t pool r (row (tagOf t r) a 0 n) us q o ≡ takeList t r (row (tagOf t r) a 0 n) us q o f
   unfolding takeRow pick inBracket
-  row-list a n k = rw (k, takeRow)
+  row-list a n k = rw (eq-eqb (tagOf t r) (tagOf t r) refl, takeRow) (rw k)
 
-  row-choice : (a n : ℕ) → kindOf t r ≡ CHOICE → a < countOf t r → takeRow (some f) t pool r (row CHOICE a 0 n) us q o ≡ takeChoice t r (row CHOICE a 0 n) us q o f
+  row-choice : (a n : ℕ) → kindOf t r ≡ CHOICE → a < countOf t r → takeRow (some f) t pool r (row (tagOf t r) a 0 n) us q o ≡ takeChoice t r (row (tagOf t r) a 0 n) us q o f
   unfolding takeRow pick inBracket
-  row-choice a n k h = rw (k, takeRow) (rw (lt-ltb a (countOf t r) h, inBracket))
+  row-choice a n k h = rw (eq-eqb (tagOf t r) (tagOf t r) refl, takeRow) (rw k (rw (lt-ltb a (countOf t r) h, inBracket)))
 
   -- w the row, and what its parts give
   module _ (w : ValueRow) (ws : List ValueRow) (p u : ℕ) (n : w .size ≡ p - q) where
@@ -141,13 +143,13 @@ module _ (t : Table) (pool : List ℕ) where
       → takeParts (takeValue d t pool) t r i n (partRows ps t r i o ++ ws) q o ≡ took ps ws (q + length (partRows ps t r i o)) (o + length (partPool ps))
 
   -- a value of one row, whose kind is not CHOICE
-  one-row : (d r k a b : ℕ) (v : Val) (ws : List ValueRow) (q o p : ℕ) → kindOf t r ≡ k → eqb k CHOICE ≡ false → takeRow (inner d t pool) t pool r (row k a b 1) ws q o ≡ took v ws (suc q) p
-      → (u : ℕ) → p ≡ u → takeValue d t pool r (row (kindOf t r) a b 1 ∷ ws) q o ≡ took v ws (q + 1) u
+  one-row : (d r k a b : ℕ) (v : Val) (ws : List ValueRow) (q o p : ℕ) → kindOf t r ≡ k → eqb k CHOICE ≡ false → takeRow (inner d t pool) t pool r (row (tagOf t r) a b 1) ws q o ≡ took v ws (suc q) p
+      → (u : ℕ) → p ≡ u → takeValue d t pool r (row (tagOf t r) a b 1 ∷ ws) q o ≡ took v ws (q + 1) u
   unfolding onRow
   one-row d r k a b v ws q o p e n h u m =
       let c : isUnwrapped t r ≡ false = not-choice t r (λ x. let y = eq-eqb k CHOICE (omega arith) in let z : _≡_ {A = ℕ} 0 1 = cc in omega arith) in
       let x : suc q ≡ q + 1 = omega arith in
-      rw e (take-plain t pool d r (row k a b 1 ∷ ws) q o c ∙ rw (x, m) at h)
+      take-plain t pool d r (row (tagOf t r) a b 1 ∷ ws) q o c ∙ rw (x, m) at h
 
   takes-bool : (d r : ℕ) (b : Bool) → kindOf t r ≡ BOOLEAN → Takes d r (vBool b)
   unfolding rowsOf poolOf
@@ -201,17 +203,17 @@ module _ (t : Table) (pool : List ℕ) where
       rw (e, takeParts) (rw (g n (omega arith) ws (suc q) o h, andThen) (rw x))
 
   -- a row that is not absent
-  present-row : (f : Taker) (r i n : ℕ) (w : ValueRow) (ws us : List ValueRow) (q o : ℕ) → us ≡ w ∷ ws → w .kind ≤ 8 → takeParts f t r i (suc n) us q o
+  present-row : (f : Taker) (r i n : ℕ) (w : ValueRow) (ws us : List ValueRow) (q o : ℕ) → us ≡ w ∷ ws → eqb (w .kind) 15 ≡ false → takeParts f t r i (suc n) us q o
       ≡ andThen (f (typeAt t r i) us q o) (λ v us p u. andThen (takeParts f t r (suc i) n us p u) (λ ps ws′ q′ o′. took (present v ps) ws′ q′ o′))
   unfolding takeParts isAbsent
   present-row f r i n w ws us q o e l = rw e (go (mayBeAbsent t r i) refl)
     where
       go : (c : Bool) → mayBeAbsent t r i ≡ c → takeParts f t r i (suc n) (w ∷ ws) q o
           ≡ andThen (f (typeAt t r i) (w ∷ ws) q o) (λ v us p u. andThen (takeParts f t r (suc i) n us p u) (λ ps ws′ q′ o′. took (present v ps) ws′ q′ o′))
-      go true m = rw (m, ne-eqb (w .kind) 15 (λ x. omega arith), takeParts)
+      go true m = rw (m, l, takeParts)
       go false m = rw (m, takeParts)
 
-  present-part : (d r i : ℕ) (v : Val) (ps : Parts) → i < countOf t r → kindOf t (typeAt t r i) ≤ 8 → Takes d (typeAt t r i) v → TakesParts d r (suc i) ps → TakesParts d r i (present v ps)
+  present-part : (d r i : ℕ) (v : Val) (ps : Parts) → i < countOf t r → isType t (typeAt t r i) ≡ true → Takes d (typeAt t r i) v → TakesParts d r (suc i) ps → TakesParts d r i (present v ps)
   unfolding partRows partPool andThen
   present-part d r i v ps l k f g zero m ws q o h = absurd (omega arith)
   present-part d r i v ps l k f g (suc n) m ws q o h =
@@ -223,7 +225,7 @@ module _ (t : Table) (pool : List ℕ) where
       let x : (q + length a) + length b ≡ q + length (a ++ b) = simp length-append (omega arith) in
       let y : (o + length (poolOf v)) + length (partPool ps) ≡ o + length (poolOf v ++ partPool ps) = simp length-append (omega arith) in
       let s : a ++ (b ++ ws) ≡ w .first ∷ (w .rest ++ (b ++ ws)) = ap (λ (z : List ValueRow). z ++ (b ++ ws)) (w .all) in
-      let c : w .first .kind ≤ 8 = omega (arith, w .kind) in
+      let c : eqb (w .first .kind) 15 ≡ false = rw (w .kind) (type-present t (typeAt t r i) k) in
       rw append-assoc (present-row (takeValue d t pool) r i n (w .first) _ (a ++ (b ++ ws)) q o s c ∙ rw (e, andThen) (rw (j, andThen) (rw (x, y))))
 
   -- ---- values that have parts
@@ -235,9 +237,9 @@ module _ (t : Table) (pool : List ℕ) where
       let x : suc q + length a ≡ q + suc (length a) = omega arith in
       let c = not-choice t r (λ e. omega arith) in
       let e = rw x at (f (countOf t r) (omega arith) ws (suc q) o h) in
-      rw k (take-plain t pool (suc d) r (row SEQUENCE (countPresent ps) 0 (suc (length a)) ∷ (a ++ ws)) q o c
+      take-plain t pool (suc d) r (row (tagOf t r) (countPresent ps) 0 (suc (length a)) ∷ (a ++ ws)) q o c
       ∙ row-seq (takeValue d t pool) t pool r (a ++ ws) q o (countPresent ps) (suc (length a)) k
-      ∙ seq-taken (takeValue d t pool) t pool r (a ++ ws) q o _ ws _ _ (omega arith) ps refl e)
+      ∙ seq-taken (takeValue d t pool) t pool r (a ++ ws) q o _ ws _ _ (omega arith) ps refl e
 
   takes-list : (d r : ℕ) (vs : Vals) → kindOf t r ≡ SEQUENCE-OF → TakesItems d (elementOf t r) vs → Takes (suc d) r (vList vs)
   unfolding rowsOf poolOf above onRow inner
@@ -246,9 +248,9 @@ module _ (t : Table) (pool : List ℕ) where
       let x : suc q + length a ≡ q + suc (length a) = omega arith in
       let c = not-choice t r (λ e. omega arith) in
       let e = rw x at (f ws (suc q) o h) in
-      rw k (take-plain t pool (suc d) r (row SEQUENCE-OF (countVals vs) 0 (suc (length a)) ∷ (a ++ ws)) q o c
+      take-plain t pool (suc d) r (row (tagOf t r) (countVals vs) 0 (suc (length a)) ∷ (a ++ ws)) q o c
       ∙ row-list (takeValue d t pool) t pool r (a ++ ws) q o (countVals vs) (suc (length a)) k
-      ∙ list-taken (takeValue d t pool) t pool r (a ++ ws) q o _ ws _ _ (omega arith) vs e)
+      ∙ list-taken (takeValue d t pool) t pool r (a ++ ws) q o _ ws _ _ (omega arith) vs e
 
   takes-wrapped : (d r i : ℕ) (v : Val) → kindOf t r ≡ CHOICE → isUnwrapped t r ≡ false → i < countOf t r → Takes d (typeAt t r i) v → Takes (suc d) r (vChoice i v)
   unfolding rowsOf poolOf above onRow inner
@@ -256,9 +258,9 @@ module _ (t : Table) (pool : List ℕ) where
       let a = rowsOf v t (typeAt t r i) o in
       let x : suc q + length a ≡ q + suc (length a) = omega arith in
       let e = rw x at (f ws (suc q) o h) in
-      rw k (take-plain t pool (suc d) r (row CHOICE i 0 (suc (length a)) ∷ (a ++ ws)) q o c
+      take-plain t pool (suc d) r (row (tagOf t r) i 0 (suc (length a)) ∷ (a ++ ws)) q o c
       ∙ row-choice (takeValue d t pool) t pool r (a ++ ws) q o i (suc (length a)) k l
-      ∙ choice-taken (takeValue d t pool) t pool r (a ++ ws) q o _ ws _ _ (omega arith) v e)
+      ∙ choice-taken (takeValue d t pool) t pool r (a ++ ws) q o _ ws _ _ (omega arith) v e
 
   unwrapped-row : (d r i n : ℕ) (us : List ValueRow) (q o : ℕ) → isUnwrapped t r ≡ true → i < countOf t r
       → takeValue d t pool r (row CHOICE i 0 n ∷ us) q o ≡ takeChoice t r (row CHOICE i 0 n) us q o (λ e us p u. onRow (λ x xs. takeRow (inner d t pool) t pool e x xs p u) us p)
@@ -271,7 +273,7 @@ module _ (t : Table) (pool : List ℕ) where
       let a = rowsOf v t (typeAt t r i) o in
       let x : suc q + length a ≡ q + suc (length a) = omega arith in
       let e = rw x at (sym (take-plain t pool d (typeAt t r i) (a ++ ws) (suc q) o p) ∙ f ws (suc q) o h) in
-      rw (unwrapped-kind t r c) (unwrapped-row d r i (suc (length a)) (a ++ ws) q o c l ∙ choice-taken _ t pool r (a ++ ws) q o _ ws _ _ (omega arith) v e)
+      rw (choice-tag t r (unwrapped-kind t r c)) (unwrapped-row d r i (suc (length a)) (a ++ ws) q o c l ∙ choice-taken _ t pool r (a ++ ws) q o _ ws _ _ (omega arith) v e)
 
 takes-leaf : (t : Table) (pool : List ℕ) (d : ℕ) {r : ℕ} {l : Leaf} → FitsLeaf t r l → Takes t pool d r (vLeaf l)
 takes-leaf t pool d (fBool k) = takes-bool t pool _ _ _ k
@@ -298,4 +300,4 @@ module _ (t : Table) (g : Sane t) (pool : List ℕ) where
     takes-parts : {d r i : ℕ} {ps : Parts} → FitsParts t d r i ps → TakesParts t pool d r i ps
     takes-parts (noMember l) = no-parts t pool _ _ _ l
     takes-parts (absentMember l m fs) = absent-part t pool _ _ _ _ l m (takes-parts fs)
-    takes-parts (presentMember l f fs) = present-part t pool _ _ _ _ _ l (fits-kind f) (takes-rows f) (takes-parts fs)
+    takes-parts (presentMember l f fs) = present-part t pool _ _ _ _ _ l (fits-type f) (takes-rows f) (takes-parts fs)

@@ -1,4 +1,5 @@
 pub mod ValidLaws
+pub mod Forms
 pub mod ValidRows
 pub mod ValidSane
 pub mod WeightGot

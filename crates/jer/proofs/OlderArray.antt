@@ -14,7 +14,7 @@ use Rattle.jer.specs.Answer.{Res, ok, bind, at}
 use Rattle.jer.specs.Read.{Element, nullValue, missingElement, readElement, surplus, readElements, readItems, readArray}
 use Rattle.jer.specs.Cut.{ByAdditions, cut, lacks, cutItems, lacksItems, cutParts, lacksParts}
 use Rattle.jer.proofs.WeightGot.{cases, refused, got, steps}
-use Rattle.jer.proofs.OlderNames.{Found, known, added, neither, extensible-same, array-same, unwrapped-same, miss-same, alternative-found}
+use Rattle.jer.proofs.OlderNames.{kind-same, Found, known, added, neither, extensible-same, array-same, unwrapped-same, miss-same, alternative-found}
 use Rattle.jer.proofs.OlderAgrees.{Agrees, reads, agrees-map, agrees-both, AgreesAt, Follows, TwinElement, twinElement, Each, end, more, PartsAgree, absent-agrees, present-agrees, none-agree}
 use Rattle.jer.proofs.OlderChoice.{refused-both, null-agrees, chosen-known, chosen-added}
 
@@ -44,7 +44,7 @@ module _ {new old : Table} {R : ℕ → ℕ → Type 0} (pair : ByAdditions new 
 
       go : (c : Bool) → isUnwrapped old b ≡ c → NullFound old b (nullValue new a) (nullValue old b)
       go true w = rw (unwrapped-same pair r, w, nullValue) (unwrapped (alternative-found pair r tNull) w)
-      go false w = rw (unwrapped-same pair r, w, nullValue) (rw (pair .kinds a b r) (other (eqb (kindOf old b) NULL)))
+      go false w = rw (unwrapped-same pair r, w, nullValue) (rw (kind-same pair r) (other (eqb (kindOf old b) NULL)))
 
   -- the newer's null value, or else f, beside the older's, or else g
   null-value-agrees : {x y : Option Val} (o : ℕ) (f g : Res Val) (v : Val) → NullFound old b x y → (openUnwrapped old b ≡ true → g ≡ at Unknown o) → (f ≡ ok v → ⊥)
@@ -139,4 +139,4 @@ module _ {new old : Table} {R : ℕ → ℕ → Type 0} (pair : ByAdditions new 
       cases (eqb (kindOf old b) SEQUENCE-OF)
       (λ w f. rw (w, readArray) (list-agrees a b r (eqb-true _ _ w) v f))
       (λ w f. rw (w, readArray) (sequence-agrees pair r o t v f))
-      (rw (pair .kinds a b r, readArray) at e)
+      (rw (kind-same pair r, readArray) at e)

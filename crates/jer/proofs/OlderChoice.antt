@@ -16,7 +16,7 @@ use Rattle.jer.specs.Answer.{Res, ok, no, bind, at}
 use Rattle.jer.specs.Read.{Meaning, readInt, readItem, readOctets, octetsOf, readString, atKind, picked, unwrapping}
 use Rattle.jer.specs.Cut.{ByAdditions, cut, lacks, cutChosen, lacksChosen}
 use Rattle.jer.proofs.WeightGot.{cases, refused, got, steps}
-use Rattle.jer.proofs.OlderNames.{Found, known, added, neither, base64-same, unwrapped-same, position-found, alternative-found}
+use Rattle.jer.proofs.OlderNames.{kind-same, Found, known, added, neither, base64-same, unwrapped-same, position-found, alternative-found}
 use Rattle.jer.proofs.OlderAgrees.{reads, unknown, agrees-map, AgreesAt, Follows}
 
 -- a test that refuses either way reads nothing
@@ -72,7 +72,7 @@ module _ {new old : Table} {R : ℕ → ℕ → Type 0} (pair : ByAdditions new 
 
   pub kind-follows : (k p : ℕ) (x : Res Val) → ((b : ℕ) (v : Val) → x ≡ ok v → AgreesAt old b x v) → Follows old R (λ q. atKind new q k p x) (λ q. atKind old q k p x)
   unfolding atKind
-  kind-follows k p x h a b r v e = cases (eqb (kindOf old b) k) (λ w f. rw (w, atKind) (h b v f)) (λ w f. refused f) (rw (pair .kinds a b r, atKind) at e)
+  kind-follows k p x h a b r v e = cases (eqb (kindOf old b) k) (λ w f. rw (w, atKind) (h b v f)) (λ w f. refused f) (rw (kind-same pair r, atKind) at e)
 
   item-agrees : {x y : Option ℕ} (a b p : ℕ) → R a b → Found (countOf old b) (countOf new a) x y → (v : Val) → readItem new a p x ≡ ok v → AgreesAt old b (readItem old b p y) v
   unfolding readItem cut lacks
@@ -88,7 +88,7 @@ module _ {new old : Table} {R : ℕ → ℕ → Type 0} (pair : ByAdditions new 
   unfolding readString
   string-follows p s a b r v =
       let Q : Res Val → Res Val → Type 0 = λ x y. x ≡ ok v → AgreesAt old b y v in
-      rw (pair .kinds a b r)
+      rw (kind-same pair r)
       (both-pick Q (kindOf old b) ENUMERATED ENUMERATED _ _ _ _ _ _ (item-agrees a b p r (position-found pair r s) v)
       (both-pick Q (kindOf old b) OCTET-STRING OCTET-STRING _ _ _ _ _ _ (rw (octets-same a b r s) (octets-agree old b v p (octetsOf old b s)))
       (both-pick Q (kindOf old b) UTF8String UTF8String _ _ _ _ _ _ (bytes-agree old b v s) (no-row (kindOf old b) _))))

@@ -56,21 +56,25 @@ module _ {new old : Table} {R : ℕ → ℕ → Type 0} (pair : ByAdditions new 
   unfolding extensible
   extensible-same = marked-same EXTENSIBLE
 
+  pub kind-same : kindOf new a ≡ kindOf old b
+  unfolding kindOf
+  kind-same = rw (pair .tags a b r)
+
   pub base64-same : isBase64 new a ≡ isBase64 old b
   unfolding isBase64
-  base64-same = rw (pair .kinds a b r, marked-same BASE64)
+  base64-same = rw (kind-same, marked-same BASE64)
 
   pub array-same : isArray new a ≡ isArray old b
   unfolding isArray
-  array-same = rw (pair .kinds a b r, marked-same ARRAY)
+  array-same = rw (kind-same, marked-same ARRAY)
 
   pub unwrapped-same : isUnwrapped new a ≡ isUnwrapped old b
   unfolding isUnwrapped
-  unwrapped-same = rw (pair .kinds a b r, marked-same UNWRAPPED)
+  unwrapped-same = rw (kind-same, marked-same UNWRAPPED)
 
   pub token-same : tokenOf new a ≡ tokenOf old b
   unfolding tokenOf
-  token-same = rw (pair .kinds a b r, marked-same 1)
+  token-same = rw (kind-same, marked-same 1)
 
   pub miss-same : (i : ℕ) → i < countOf old b → mayMiss new a i ≡ mayMiss old b i
   unfolding mayMiss addition
@@ -88,5 +92,5 @@ module _ {new old : Table} {R : ℕ → ℕ → Type 0} (pair : ByAdditions new 
   pub null-same : nullTaken new a ≡ nullTaken old b
   unfolding nullTaken canBeNull openUnwrapped
   null-same =
-      rw (pair .kinds a b r, unwrapped-same pair r, extensible-same pair r)
+      rw (kind-same pair r, unwrapped-same pair r, extensible-same pair r)
       (found-null (eqb (kindOf old b) NULL) (isUnwrapped old b) (extensible old b) (alternative-found tNull) (pair .grown a b r))

@@ -14,7 +14,7 @@ use Rattle.jer.specs.Read.{Entry, lookup, namesGood, nullAbsent, readMem
 use Rattle.jer.specs.Cut.{ByAdditions, cut, lacks}
 use Rattle.jer.proofs.ValidLaws.{sameBytes-eq, sameBytes-refl, position-none}
 use Rattle.jer.proofs.WeightGot.{cases, refused, got, steps}
-use Rattle.jer.proofs.OlderNames.{Found, known, added, neither, extensible-same, array-same, miss-same, position-found, null-same}
+use Rattle.jer.proofs.OlderNames.{kind-same, Found, known, added, neither, extensible-same, array-same, miss-same, position-found, null-same}
 use Rattle.jer.proofs.OlderAgrees.{agrees-map, AgreesAt, Follows, TwinEntry, twinEntry, Each, end, more, PartsAgree, absent-agrees, present-agrees, none-agree}
 use Rattle.jer.proofs.OlderChoice.{refused-both, chosen-known, chosen-added}
 
@@ -153,7 +153,7 @@ module _ {new old : Table} {R : ℕ → ℕ → Type 0} (pair : ByAdditions new 
       → elim (eqb (kindOf new a) SEQUENCE && not (isArray new a)) as (λ c. Res Val) [ true ↦ readObject new o es a | false ↦ at OtherKind o ] ≡ ok v
       → AgreesAt old b (elim (eqb (kindOf old b) SEQUENCE && not (isArray old b)) as (λ c. Res Val) [ true ↦ readObject old o fs b | false ↦ at OtherKind o ]) v
   sequence-agrees o t v e =
-      cases (eqb (kindOf old b) SEQUENCE && not (isArray old b)) (λ w f. rw w (object-agrees o t v f)) (λ w f. refused f) (rw (pair .kinds a b r, array-same pair r) at e)
+      cases (eqb (kindOf old b) SEQUENCE && not (isArray old b)) (λ w f. rw w (object-agrees o t v f)) (λ w f. refused f) (rw (kind-same pair r, array-same pair r) at e)
 
   -- ---- a wrapped choice
 
@@ -179,4 +179,4 @@ braces-follow {new} {old} pair o t a b r v e =
     cases (eqb (kindOf old b) CHOICE)
     (λ w f. rw (w, readBraces) (choice-agrees pair r o t v f))
     (λ w f. rw (w, readBraces) (sequence-agrees pair r o t v f))
-    (rw (pair .kinds a b r, readBraces) at e)
+    (rw (kind-same pair r, readBraces) at e)

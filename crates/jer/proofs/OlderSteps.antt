@@ -15,7 +15,7 @@ use Rattle.jer.specs.Answer.{ok}
 use Rattle.jer.specs.Fits.{Fits}
 use Rattle.jer.specs.Cut.{ByAdditions, cut, lacks}
 use Rattle.jer.specs.Calls.{readText, roomy}
-use Rattle.jer.proofs.OlderNames.{extensible-same}
+use Rattle.jer.proofs.OlderNames.{kind-same, extensible-same}
 use Rattle.jer.proofs.OlderCalls.{Stored, older-stores}
 use Rattle.jer.proofs.OlderTwice.{Unless, same, unless-then, Shaped, cut-shaped, fits-shaped, cut-twice}
 
@@ -41,10 +41,10 @@ module _ {new mid old : Table} {R S : ℕ → ℕ → Type 0} (p : ByAdditions n
   additions-compose =
       record {
         whole = record { between = 0; first = p .whole; then = q .whole };
-        kinds = λ a c h. p .kinds a _ (h .first) ∙ q .kinds _ c (h .then);
+        tags = λ a c h. p .tags a _ (h .first) ∙ q .tags _ c (h .then);
         marks = λ a c h. p .marks a _ (h .first) ∙ q .marks _ c (h .then);
         roots = λ a c h. p .roots a _ (h .first) ∙ q .roots _ c (h .then);
-        elements = λ a c h k. record { between = elementOf mid (h .between); first = p .elements a _ (h .first) (q .kinds _ c (h .then) ∙ k); then = q .elements _ c (h .then) k };
+        elements = λ a c h k. record { between = elementOf mid (h .between); first = p .elements a _ (h .first) (kind-same q (h .then) ∙ k); then = q .elements _ c (h .then) k };
         fewer = λ a c h. omega (arith, p .fewer a _ (h .first), q .fewer _ c (h .then));
         grown = λ a c h. grown-through h;
         names = λ a c i h l. p .names a _ i (h .first) (within h i l) ∙ q .names _ c i (h .then) l;

@@ -10,6 +10,7 @@ use Rattle.jer.specs.Table.{Table, SEQUENCE-OF, kindOf, elementOf, count
 use Rattle.jer.specs.Value.{Val, vLeaf, vSeq, vList, vChoice, Vals, vnil, vcons, Parts, pnil, absent, present}
 use Rattle.jer.specs.Fits.{Fits, fLeaf, fSeq, fList, fWrapped, fUnwrapped, FitsItems, noItem, item, FitsParts, noMember, absentMember, presentMember}
 use Rattle.jer.specs.Cut.{ByAdditions, cut, cutItems, cutParts, cutChosen, lacks, lacksItems, lacksParts, lacksChosen}
+use Rattle.jer.proofs.OlderNames.{kind-same}
 use Rattle.jer.proofs.OlderAgrees.{cut-none}
 
 -- ---- equal, or both lack
@@ -83,7 +84,7 @@ module _ {new old : Table} {R : ℕ → ℕ → Type 0} (pair : ByAdditions new 
     pub fits-shaped : {d a : ℕ} {v : Val} → Fits new d a v → (b : ℕ) → R a b → Shaped v old b
     fits-shaped (fLeaf f) b r = tt
     fits-shaped (fSeq k f) b r = fits-parts f b r
-    fits-shaped (fList {r = a} k f) b r = let e = sym (pair .kinds a b r) ∙ k in (e, fits-items f (elementOf old b) (pair .elements a b r e))
+    fits-shaped (fList {r = a} k f) b r = let e = sym (kind-same pair r) ∙ k in (e, fits-items f (elementOf old b) (pair .elements a b r e))
     fits-shaped (fWrapped {r = a} {i = i} k u l f) b r = λ h. fits-shaped f (typeAt old b i) (pair .types a b i r h)
     fits-shaped (fUnwrapped {r = a} {i = i} u l f) b r = λ h. fits-shaped f (typeAt old b i) (pair .types a b i r h)
 

@@ -6,7 +6,7 @@ use mathlib.Core.Bool.{true}
 use native.Mathlib.Omega.{arith}
 use Rattle.json.specs.Tree.{Json}
 use Rattle.json.specs.Grammar.{Text}
-use Rattle.jer.specs.Table.{Table, kindOf, isType, marksOf, elementOf, countOf, rootOf, optional, typeAt, nameAt}
+use Rattle.jer.specs.Table.{Table, tagOf, kindOf, isType, marksOf, elementOf, countOf, rootOf, optional, typeAt, nameAt}
 use Rattle.jer.specs.Value.{Val, vSeq, vList, vChoice, Vals, Parts, absent}
 use Rattle.jer.specs.Answer.{ok}
 use Rattle.jer.specs.Read.{read}
@@ -53,7 +53,7 @@ pub same-additions : (t : Table) → ByAdditions t t (λ a b. a ≡ b)
 same-additions t =
     record {
       whole = refl;
-      kinds = λ a b e. ap (kindOf t) e;
+      tags = λ a b e. ap (tagOf t) e;
       marks = λ a b e. ap (marksOf t) e;
       roots = λ a b e. ap (rootOf t) e;
       elements = λ a b e k. ap (elementOf t) e;

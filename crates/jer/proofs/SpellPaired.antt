@@ -8,15 +8,16 @@ use borrow.Author.Tests.{le-leb}
 use Rattle.jer.specs.Table.{Table, kindOf, isType, countOf, rootOf, nameAt, addition, mayMiss, position}
 use Rattle.jer.specs.Cut.{ByAdditions}
 use Rattle.jer.specs.Sane.{Sane}
+use Rattle.jer.proofs.OlderNames.{kind-same}
 use Rattle.jer.proofs.ValidLaws.{position-of}
 
 module _ {new old : Table} {R : ℕ → ℕ → Type 0} (pair : ByAdditions new old R) {a b : ℕ} (r : R a b) where
   pub kind-new : (k : ℕ) → kindOf old b ≡ k → kindOf new a ≡ k
-  kind-new k e = pair .kinds a b r ∙ e
+  kind-new k e = kind-same pair r ∙ e
 
   pub type-new : isType old b ≡ true → isType new a ≡ true
   unfolding isType
-  type-new e = rw (pair .kinds a b r) e
+  type-new e = rw (pair .tags a b r) e
 
   pub inside-new : (i : ℕ) → i < countOf old b → i < countOf new a
   inside-new i u = omega (arith, pair .fewer a b r)

@@ -11,9 +11,10 @@ use Rattle.json.specs.Bytes.{Row, on, pick}
 use Rattle.json.specs.Utf8.{utf8}
 use Rattle.json.proofs.SoundRows.{pick-within, only, _⨾_}
 use Rattle.jer.specs.declared.Layout.the-variants.{Bare, Holds, Lists, Names, Unknown}
-use Rattle.jer.specs.Table.{Table, rowCount, field, BOOLEAN, INTEGER, ENUMERATED, NULL, OCTET-STRING, UTF8String, SEQUENCE, SEQUENCE-OF, CHOICE, MEMBER, Carried, carries, typeKind, isSome, kindOf, isType, extensible, isArray, isUnwrapped, elementOf, countOf, rootOf, memberRow, typeIn, nameIn}
+use Rattle.jer.specs.Table.{Table, rowCount, field, BOOLEAN, INTEGER, ENUMERATED, NULL, OCTET-STRING, UTF8String, SEQUENCE, SEQUENCE-OF, CHOICE, MEMBER, Carried, carries, typeKind, isSome, tagOf, formOf, kindOf, isType, extensible, isArray, isUnwrapped, elementOf, countOf, rootOf, memberRow, typeIn, nameIn}
 use Rattle.jer.specs.Valid.{implies, unused, goodBlock, goodName, goodFields, goodAlone, goodLinks, goodPointers, goodRules, namesDiffer, noneOptional, goodArray, goodUnwrapped}
 use Rattle.jer.proofs.ValidLaws.{every-at, every-below}
+use Rattle.jer.proofs.Forms.{kind-type, tag-kind, kind-layout}
 
 pub both : (a b : Bool) → ((a && b) ≡ true) ↔ ((a ≡ true) × (b ≡ true))
 both true b = (λ e. (refl, e), λ e. e .1)
@@ -51,17 +52,17 @@ pub record Block (t : Table) (r : ℕ) : Type 0 where
 
 pub data Alone (t : Table) (r : ℕ) : Type 0 where
   aType : isType t r ≡ true → Block t r → Alone t r
-  aMember : kindOf t r ≡ MEMBER → 0 < r → utf8 (nameIn t r) ≡ true → Alone t r
+  aMember : tagOf t r ≡ MEMBER → 0 < r → utf8 (nameIn t r) ≡ true → Alone t r
 
 -- the kinds of types, in the order of their lines
-type-kinds : (typeKind BOOLEAN ≡ true) × (typeKind INTEGER ≡ true) × (typeKind ENUMERATED ≡ true) × (typeKind NULL ≡ true) × (typeKind OCTET-STRING ≡ true)
+pub type-kinds : (typeKind BOOLEAN ≡ true) × (typeKind INTEGER ≡ true) × (typeKind ENUMERATED ≡ true) × (typeKind NULL ≡ true) × (typeKind OCTET-STRING ≡ true)
     × (typeKind UTF8String ≡ true) × (typeKind SEQUENCE ≡ true) × (typeKind SEQUENCE-OF ≡ true) × (typeKind CHOICE ≡ true)
 unfolding typeKind carries pick isSome
 type-kinds = (refl, refl, refl, refl, refl, refl, refl, refl, refl)
 
-kind-type : (t : Table) (r k : ℕ) → kindOf t r ≡ k → typeKind k ≡ true → isType t r ≡ true
+tag-type : (t : Table) (r n : ℕ) → tagOf t r ≡ n → typeKind n ≡ true → isType t r ≡ true
 unfolding isType
-kind-type t r k e h = rw e h
+tag-type t r n e h = rw e h
 
 pub enumerated-type : (t : Table) (r : ℕ) → kindOf t r ≡ ENUMERATED → isType t r ≡ true
 enumerated-type t r e = kind-type t r ENUMERATED e (type-kinds .2)
@@ -73,7 +74,7 @@ pub choice-type : (t : Table) (r : ℕ) → kindOf t r ≡ CHOICE → isType t r
 choice-type t r e = kind-type t r CHOICE e (type-kinds .8)
 
 -- a member's row is no type's
-pub member-no-type : {C : Type 0} (t : Table) (r : ℕ) → kindOf t r ≡ MEMBER → isType t r ≡ true → C
+pub member-no-type : {C : Type 0} (t : Table) (r : ℕ) → tagOf t r ≡ MEMBER → isType t r ≡ true → C
 unfolding isType typeKind carries pick isSome
 member-no-type t r k h = absurd (false≢true (rw k at h))
 
@@ -93,24 +94,24 @@ block-alone t r least k l e =
     let p = simp both at e in
     aType l record { few = omega (arith, leb-true); roots = omega (arith, leb-true); closed = λ x. eqb-true _ _ (rw x at (p .1 .1 .1 .1 .1)); inside = λ i u. omega (arith, leb-true); holder = λ i u. k }
 
-member-alone : (t : Table) (r : ℕ) → kindOf t r ≡ MEMBER → not (eqb r 0) ≡ true → goodName t r ≡ true → Alone t r
+member-alone : (t : Table) (r : ℕ) → tagOf t r ≡ MEMBER → not (eqb r 0) ≡ true → goodName t r ≡ true → Alone t r
 unfolding goodName
 member-alone t r k n e = aMember k (let z = eqb-false r 0 (not-true _ n) in omega arith) ((simp both at e) .1 .1 .1)
 
 module _ (t : Table) (r : ℕ) where
-  bare-fields : {k : ℕ} → kindOf t r ≡ k → typeKind k ≡ true → goodFields Bare t r ≡ true → Alone t r
+  bare-fields : {k : ℕ} → tagOf t r ≡ k → typeKind k ≡ true → goodFields Bare t r ≡ true → Alone t r
   unfolding goodFields
-  bare-fields k y e = leaf-alone t r 2 6 (omega arith) (omega arith) (kind-type t r _ k y) e
+  bare-fields k y e = leaf-alone t r 2 6 (omega arith) (omega arith) (tag-type t r _ k y) e
 
-  holds-fields : {k : ℕ} (least : ℕ) → Holder k → kindOf t r ≡ k → typeKind k ≡ true → goodFields (Holds least) t r ≡ true → Alone t r
+  holds-fields : {k : ℕ} (least : ℕ) → Holder (formOf k) → tagOf t r ≡ k → typeKind k ≡ true → goodFields (Holds least) t r ≡ true → Alone t r
   unfolding goodFields
-  holds-fields least h k y e = block-alone t r least (rw k h) (kind-type t r _ k y) ((simp both at e) .1 .0)
+  holds-fields least h k y e = block-alone t r least (rw (tag-kind t r _ k) h) (tag-type t r _ k y) ((simp both at e) .1 .0)
 
-  lists-fields : {k : ℕ} → kindOf t r ≡ k → typeKind k ≡ true → goodFields Lists t r ≡ true → Alone t r
+  lists-fields : {k : ℕ} → tagOf t r ≡ k → typeKind k ≡ true → goodFields Lists t r ≡ true → Alone t r
   unfolding goodFields
-  lists-fields k y e = leaf-alone t r 3 5 (omega arith) (omega arith) (kind-type t r _ k y) ((simp both at e) .0)
+  lists-fields k y e = leaf-alone t r 3 5 (omega arith) (omega arith) (tag-type t r _ k y) ((simp both at e) .0)
 
-  names-fields : kindOf t r ≡ MEMBER → goodFields Names t r ≡ true → Alone t r
+  names-fields : tagOf t r ≡ MEMBER → goodFields Names t r ≡ true → Alone t r
   unfolding goodFields
   names-fields k e = let p = simp both at e in member-alone t r k (p .1 .0) (p .1 .1 .1)
 
@@ -119,9 +120,9 @@ module _ (t : Table) (r : ℕ) where
   no-fields e = absurd (false≢true e)
 
   pub alone : goodAlone t r ≡ true → Alone t r
-  unfolding goodAlone carries
+  unfolding goodAlone carries formOf
   alone h =
-      pick-within (λ (x : Carried). goodFields (x .layout) t r ≡ true → Alone t r) (kindOf t r) _ _
+      pick-within (λ (x : Carried). goodFields (x .layout) t r ≡ true → Alone t r) (tagOf t r) _ _
       ((λ k. bare-fields (only k) (type-kinds .0))
       ⨾ (λ k. bare-fields (only k) (type-kinds .1))
       ⨾ (λ k. holds-fields 1 (enumerated refl) (only k) (type-kinds .2))
@@ -140,17 +141,17 @@ module _ (t : Table) (r : ℕ) where
 
 pub element-type : (t : Table) (r : ℕ) → kindOf t r ≡ SEQUENCE-OF → goodPointers t r ≡ true → isType t (elementOf t r) ≡ true
 unfolding goodPointers goodLinks carries pick
-element-type t r k h = rw k at h
+element-type t r k h = rw (kind-layout t r _ k) at h
 
-pub member-type : (t : Table) (r : ℕ) → kindOf t r ≡ MEMBER → goodPointers t r ≡ true → isType t (typeIn t r) ≡ true
+pub member-type : (t : Table) (r : ℕ) → tagOf t r ≡ MEMBER → goodPointers t r ≡ true → isType t (typeIn t r) ≡ true
 unfolding goodPointers goodLinks carries pick
 member-type t r k h = rw k at h
 
-pub member-kind : (t : Table) (r i : ℕ) → Holder (kindOf t r) → goodPointers t r ≡ true → i < countOf t r → kindOf t (memberRow t r i) ≡ MEMBER
+pub member-kind : (t : Table) (r i : ℕ) → Holder (kindOf t r) → goodPointers t r ≡ true → i < countOf t r → tagOf t (memberRow t r i) ≡ MEMBER
 unfolding goodPointers goodLinks carries pick
-member-kind t r i (enumerated k) h u = eqb-true _ _ (every-below _ _ (rw k at h) i u)
-member-kind t r i (sequence k) h u = eqb-true _ _ (every-below _ _ (rw k at h) i u)
-member-kind t r i (choice k) h u = eqb-true _ _ (every-below _ _ (rw k at h) i u)
+member-kind t r i (enumerated k) h u = eqb-true _ _ (every-below _ _ (rw (kind-layout t r _ k) at h) i u)
+member-kind t r i (sequence k) h u = eqb-true _ _ (every-below _ _ (rw (kind-layout t r _ k) at h) i u)
+member-kind t r i (choice k) h u = eqb-true _ _ (every-below _ _ (rw (kind-layout t r _ k) at h) i u)
 
 -- ---- each type by its other rules
 

@@ -10,10 +10,11 @@ use lib.Dec.{ltb}
 use lib.ListN.{length, List·getD-eq-default}
 use borrow.Author.Tests.{ltb-true, ltb-false, leb-true, eqb-true, not-true, not-false}
 use Rattle.json.specs.Utf8.{utf8}
-use Rattle.jer.specs.Table.{Table, rowCount, field, MEMBER, kindOf, isType, countOf, rootOf, memberRow, typeAt, nameIn, nameAt}
+use Rattle.jer.specs.Table.{Table, rowCount, field, MEMBER, tagOf, kindOf, isType, countOf, rootOf, memberRow, typeAt, nameIn, nameAt}
 use Rattle.jer.specs.Valid.{goodAlone, goodPointers, goodRules, namesDiffer, noneOptional, goodArray, goodUnwrapped, goodSizes, orElse, pass, firstBad}
 use Rattle.jer.specs.Sane.{Sane}
 use Rattle.jer.proofs.ValidLaws.{every-below, differ-at, first-none}
+use Rattle.jer.proofs.Forms.{kind-some}
 use Rattle.jer.proofs.ValidRows.{both, Holder, Block, Alone, aType, aMember, block-empty, member-no-type, alone, element-type, member-type, member-kind, names-differ, choice-required, array-good, unwrapped-good}
 
 -- ---- what the passes say of the rows
@@ -65,8 +66,8 @@ module _ (t : Table) (g : Passed t) where
   row-members r i u = row-inside r 3 (omega arith)
 
   row-kind : (r : ℕ) → 0 < kindOf t r → r < rowCount t
-  unfolding kindOf
-  row-kind r u = row-inside r 0 u
+  unfolding tagOf
+  row-kind r u = row-inside r 0 (kind-some t r u)
 
   block-at : (r : ℕ) → isType t r ≡ true → Block t r
   unfolding countOf rootOf
@@ -90,7 +91,7 @@ module _ (t : Table) (g : Passed t) where
   holder-at : (r i : ℕ) → isType t r ≡ true → i < countOf t r → Holder (kindOf t r)
   holder-at r i k u = block-at r k .holder i u
 
-  kind-at : (r i : ℕ) → isType t r ≡ true → i < countOf t r → kindOf t (memberRow t r i) ≡ MEMBER
+  kind-at : (r i : ℕ) → isType t r ≡ true → i < countOf t r → tagOf t (memberRow t r i) ≡ MEMBER
   kind-at r i k u = member-kind t r i (holder-at r i k u) (g .pointers r (row-members r i u)) u
 
   type-at : (r i : ℕ) → isType t r ≡ true → i < countOf t r → isType t (typeAt t r i) ≡ true

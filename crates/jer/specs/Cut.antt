@@ -3,7 +3,7 @@ use Prim.Native.Nat.{ℕ, zero, suc, _≤_, _<_}
 use mathlib.Core.Path.{_≡_}
 use mathlib.Core.Bool.{Bool, true, false, _||_, not}
 use lib.Dec.{ltb}
-use Rattle.jer.specs.Table.{Table, SEQUENCE-OF, kindOf, marksOf, extensible, elementOf, countOf, rootOf, optional, typeAt, nameAt}
+use Rattle.jer.specs.Table.{Table, SEQUENCE-OF, tagOf, kindOf, marksOf, extensible, elementOf, countOf, rootOf, optional, typeAt, nameAt}
 use Rattle.jer.specs.Value.{Leaf, lBool, lInt, lEnum, lNull, lBytes, Val, vLeaf, vSeq, vList, vChoice, Vals, vnil, vcons, Parts, pnil, absent, present}
 
 -- 01, Type table: "A newer table is made from an older one by additions if rows can be paired, row 0 with row 0, so that paired types
@@ -12,7 +12,7 @@ use Rattle.jer.specs.Value.{Leaf, lBool, lInt, lEnum, lNull, lBytes, Val
 -- may have several partners." R a b says that the newer's row a is paired with the older's row b.
 pub record ByAdditions (new old : Table) (R : ℕ → ℕ → Type 0) : Type 0 where
   pub whole : R 0 0
-  pub kinds : (a b : ℕ) → R a b → kindOf new a ≡ kindOf old b
+  pub tags : (a b : ℕ) → R a b → tagOf new a ≡ tagOf old b
   pub marks : (a b : ℕ) → R a b → marksOf new a ≡ marksOf old b
   pub roots : (a b : ℕ) → R a b → rootOf new a ≡ rootOf old b
   pub elements : (a b : ℕ) → R a b → kindOf old b ≡ SEQUENCE-OF → R (elementOf new a) (elementOf old b)

@@ -9,7 +9,7 @@ use Rattle.json.specs.Bytes.{on, pick}
 use Rattle.json.specs.Utf8.{utf8}
 use Rattle.jer.specs.declared.Refusal.the-variants.{AtRow}
 use Rattle.jer.specs.declared.Which.the-variants.{ValueTable}
-use Rattle.jer.specs.Table.{Table, BOOLEAN, INTEGER, ENUMERATED, NULL, OCTET-STRING, UTF8String, SEQUENCE, SEQUENCE-OF, CHOICE, kindOf, isUnwrapped, elementOf, countOf, typeAt, mayBeAbsent}
+use Rattle.jer.specs.Table.{Table, BOOLEAN, INTEGER, ENUMERATED, NULL, OCTET-STRING, UTF8String, SEQUENCE, SEQUENCE-OF, CHOICE, tagOf, kindOf, isUnwrapped, elementOf, countOf, typeAt, mayBeAbsent}
 use Rattle.jer.specs.Value.{Val, vBool, vInt, vEnum, vNull, vBytes, vSeq, vList, vChoice, Vals, vnil, vcons, Parts, pnil, absent, present, countPresent}
 use Rattle.jer.specs.Answer.{Res, ok, no}
 use Rattle.jer.specs.Rows.{ValueRow, row}
@@ -91,9 +91,9 @@ takeChoice t r w ws q o f = sized w q true (andThen (f (typeAt t r (w .a)) ws (s
 -- the row w of number q where a value of the type at r is due, if that is not UNWRAPPED
 unfoldable pub takeRow : Option Taker → Table → List ℕ → ℕ → ValueRow → List ValueRow → ℕ → ℕ → Took Val
 takeRow inner t pool r w ws q o =
-    elim (eqb (w .kind) (kindOf t r)) [
+    elim (eqb (w .kind) (tagOf t r)) [
       | false ↦ wrong q
-      | true ↦ pick (w .kind)
+      | true ↦ pick (kindOf t r)
           (on BOOLEAN BOOLEAN (λ k. leaf (ltb (w .a) 2) (vBool (eqb (w .a) 1)) w ws q o)
           ∷ on INTEGER INTEGER (λ k. rightRow (eqb (w .size) 1) (vInt (w .b * 2 ^ 32 + w .a)) ws q o)
           ∷ on ENUMERATED ENUMERATED (λ k. leaf (ltb (w .a) (countOf t r)) (vEnum (w .a)) w ws q o)

@@ -3,7 +3,7 @@ use Prim.Native.Nat.{ℕ, suc, _+_, _/_, _%_, _^_}
 use mathlib.Core.List.{List, [], _∷_, _++_}
 use mathlib.Core.Bool.{Bool, true, false}
 use lib.ListN.{length}
-use Rattle.jer.specs.Table.{Table, kindOf, elementOf, typeAt}
+use Rattle.jer.specs.Table.{Table, tagOf, elementOf, typeAt}
 use Rattle.jer.specs.Value.{Leaf, lBool, lInt, lEnum, lNull, lBytes, Val, vLeaf, vSeq, vList, vChoice, Vals, vnil, vcons, Parts, pnil, absent, present, countVals, countPresent}
 
 -- 01, Value table: "Rows of four 32-bit numbers (kind, a, b, size) with a byte pool beside."
@@ -71,10 +71,10 @@ leafRow (lBytes s) k o = row k o (length s) 1
 -- order (..) SEQUENCE OF: a the count, then the items. CHOICE: a the position, then the chosen value. Other numbers are 0."
 unfoldable mutual
   pub rowsOf : Val → Table → ℕ → ℕ → List ValueRow
-  rowsOf (vLeaf l) t r o = leafRow l (kindOf t r) o ∷ []
-  rowsOf (vSeq ps) t r o = above (kindOf t r) (countPresent ps) (partRows ps t r 0 o)
-  rowsOf (vList vs) t r o = above (kindOf t r) (countVals vs) (itemRows vs t (elementOf t r) o)
-  rowsOf (vChoice i v) t r o = above (kindOf t r) i (rowsOf v t (typeAt t r i) o)
+  rowsOf (vLeaf l) t r o = leafRow l (tagOf t r) o ∷ []
+  rowsOf (vSeq ps) t r o = above (tagOf t r) (countPresent ps) (partRows ps t r 0 o)
+  rowsOf (vList vs) t r o = above (tagOf t r) (countVals vs) (itemRows vs t (elementOf t r) o)
+  rowsOf (vChoice i v) t r o = above (tagOf t r) i (rowsOf v t (typeAt t r i) o)
 
   pub itemRows : Vals → Table → ℕ → ℕ → List ValueRow
   itemRows vnil t r o = []

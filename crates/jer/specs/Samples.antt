@@ -9,7 +9,7 @@ use Rattle.json.specs.Tree.{placeOf, isnoc, msnoc}
 use Rattle.json.specs.Utf8.{encode, wideRows, dueNext, dueStep, dueEnd, utf8From, utf8}
 use Rattle.json.specs.Grammar.{paired}
 use Rattle.json.specs.Machine.{wideNext, hexRows, hexNext, highNext, lowNext, charStep, fractionRows, powerRows, numStep, numTree, room, spaces, opened, starts, after, closed, strStep, numEnd, numGo, litNext, step, ended, finish, run, parseWithin, parse}
-use Rattle.jer.specs.Table.{Table, rowCount, field, carries, typeKind, kindOf, isType, marksOf, marked, extensible, isBase64, isArray, isUnwrapped, firstOf, elementOf, countOf, rootOf, memberRow, optional, typeAt, nameIn, nameAt, addition, mayMiss, mayBeAbsent, firstWhere, sameBytes, position, tokenCode, codeOf, sameToken, tokenPick, tokenOf, alternative, isSome, canBeNull, openUnwrapped, nullTaken}
+use Rattle.jer.specs.Table.{Table, rowCount, field, carries, typeKind, tagOf, formOf, kindOf, isType, marksOf, marked, extensible, isBase64, isArray, isUnwrapped, firstOf, elementOf, countOf, rootOf, memberRow, optional, typeAt, nameIn, nameAt, addition, mayMiss, mayBeAbsent, firstWhere, sameBytes, position, tokenCode, codeOf, sameToken, tokenPick, tokenOf, alternative, isSome, canBeNull, openUnwrapped, nullTaken}
 use Rattle.jer.specs.Valid.{every, implies, unused, goodBlock, goodName, goodMarks, goodFields, goodAlone, goodLinks, goodPointers, allDiffer, namesDiffer, noneOptional, goodArray, goodUnwrapped, goodRules, goodSizes, orElse, pass, firstBad}
 use Rattle.jer.specs.Value.{Val, countVals, countPresent}
 use Rattle.jer.specs.Answer.{Res, ok, no, bind, Values, valuesOf}
@@ -37,7 +37,7 @@ outcomeOf t (ok v) = stored (rowNumbers t v) (poolOf v) (write v t 0)
 outcomeOf t (no e) = refusalOf (valuesOf e)
 
 unfoldable pub outcome : Table → List ℕ → Outcome
-unfolding refusalOf outcomeOf pick placeOf isnoc msnoc encode wideRows dueNext dueStep dueEnd utf8From utf8 paired wideNext hexRows hexNext highNext lowNext charStep fractionRows powerRows numStep numTree room spaces opened starts after closed strStep numEnd numGo litNext step ended finish run parseWithin parse rowCount field carries typeKind kindOf isType marksOf marked extensible isBase64 isArray isUnwrapped firstOf elementOf countOf rootOf memberRow optional typeAt nameIn nameAt addition mayMiss mayBeAbsent firstWhere sameBytes position tokenCode codeOf sameToken tokenPick tokenOf alternative isSome canBeNull openUnwrapped nullTaken every implies unused goodBlock goodName goodMarks goodFields goodAlone goodLinks goodPointers allDiffer namesDiffer noneOptional goodArray goodUnwrapped goodRules goodSizes orElse pass firstBad countVals countPresent bind also hexValue unhex hexDigit hex base64Value onlyIf lastGroup fullGroup unbase64 base64Digit base64 readInt readItem readOctets octetsOf readString atKind picked unwrapping lookup namesGood nullAbsent withAbsent withPresent readMember readMembers readObject nullValue missingElement readElement surplus readElements readItems readArray readChosen readChoice readBraces null? read numbers bit poolOf above rowsOf nullText boolText digits intText escaped escapes quotes stringText bytesText joined keep dropNulls brackets braces memberText choiceText sequenceText write tableOf goodTable treeOf goodText readText rowNumbers readWhole
+unfolding refusalOf outcomeOf pick placeOf isnoc msnoc encode wideRows dueNext dueStep dueEnd utf8From utf8 paired wideNext hexRows hexNext highNext lowNext charStep fractionRows powerRows numStep numTree room spaces opened starts after closed strStep numEnd numGo litNext step ended finish run parseWithin parse rowCount field carries typeKind tagOf formOf kindOf isType marksOf marked extensible isBase64 isArray isUnwrapped firstOf elementOf countOf rootOf memberRow optional typeAt nameIn nameAt addition mayMiss mayBeAbsent firstWhere sameBytes position tokenCode codeOf sameToken tokenPick tokenOf alternative isSome canBeNull openUnwrapped nullTaken every implies unused goodBlock goodName goodMarks goodFields goodAlone goodLinks goodPointers allDiffer namesDiffer noneOptional goodArray goodUnwrapped goodRules goodSizes orElse pass firstBad countVals countPresent bind also hexValue unhex hexDigit hex base64Value onlyIf lastGroup fullGroup unbase64 base64Digit base64 readInt readItem readOctets octetsOf readString atKind picked unwrapping lookup namesGood nullAbsent withAbsent withPresent readMember readMembers readObject nullValue missingElement readElement surplus readElements readItems readArray readChosen readChoice readBraces null? read numbers bit poolOf above rowsOf nullText boolText digits intText escaped escapes quotes stringText bytesText joined keep dropNulls brackets braces memberText choiceText sequenceText write tableOf goodTable treeOf goodText readText rowNumbers readWhole
 outcome t s = outcomeOf t (readText t s)
 
 -- ---- the tables of the samples

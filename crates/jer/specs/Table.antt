@@ -143,11 +143,19 @@ carries kind =
 unfoldable pub typeKind : ℕ → Bool
 typeKind kind = isSome (carries kind .token)
 
+-- the number in field 0, which a value's row repeats
+unfoldable pub tagOf : Table → ℕ → ℕ
+tagOf t r = field t r 0
+
+-- the kind that a row of this number is read and written as: as yet itself
+unfoldable pub formOf : ℕ → ℕ
+formOf tag = tag
+
 unfoldable pub kindOf : Table → ℕ → ℕ
-kindOf t r = field t r 0
+kindOf t r = formOf (tagOf t r)
 
 unfoldable pub isType : Table → ℕ → Bool
-isType t r = typeKind (kindOf t r)
+isType t r = typeKind (tagOf t r)
 
 -- ---- marks of a row
 

@@ -9,7 +9,7 @@ use Rattle.json.specs.Bytes.{on, pick}
 use Rattle.json.specs.Utf8.{utf8}
 use Rattle.jer.specs.declared.Layout.{Layout}
 use Rattle.jer.specs.declared.Layout.the-variants.{Bare, Holds, Lists, Names, Unknown}
-use Rattle.jer.specs.Table.{Table, rowCount, field, ENUMERATED, SEQUENCE, CHOICE, MEMBER, carries, kindOf, isType, marksOf, extensible, isArray, isUnwrapped, firstOf, elementOf, countOf, rootOf, memberRow, optional, typeIn, typeAt, nameStart, nameLength, nameIn, nameAt, mayMiss, firstWhere, sameBytes, sameToken, tokenOf, nullTaken}
+use Rattle.jer.specs.Table.{Table, rowCount, field, ENUMERATED, SEQUENCE, CHOICE, MEMBER, carries, tagOf, kindOf, isType, marksOf, extensible, isArray, isUnwrapped, firstOf, elementOf, countOf, rootOf, memberRow, optional, typeIn, typeAt, nameStart, nameLength, nameIn, nameAt, mayMiss, firstWhere, sameBytes, sameToken, tokenOf, nullTaken}
 
 -- does every one of n numbers from i on pass the test?
 unfoldable pub every : (ℕ → Bool) → ℕ → ℕ → Bool
@@ -39,7 +39,7 @@ goodName t r = leb 1 (nameLength t r) && (leb (nameLength t r) 128 && (leb (name
 
 -- every mark in field 1 is one that the kind may carry: mark 1 is what is left over by 2, mark 2 the other half
 unfoldable pub goodMarks : Table → ℕ → Bool
-goodMarks t r = leb (marksOf t r % 2) (carries (kindOf t r) .marks % 2) && leb (marksOf t r / 2) (carries (kindOf t r) .marks / 2)
+goodMarks t r = leb (marksOf t r % 2) (carries (tagOf t r) .marks % 2) && leb (marksOf t r / 2) (carries (tagOf t r) .marks / 2)
 
 unfoldable pub goodFields : Layout → Table → ℕ → Bool
 goodFields Bare t r = unused t r 2 6
@@ -53,13 +53,13 @@ goodFields Unknown t r = false
 -- 01, Refusal numbers: "each by itself (row 0 is a type)"; a kind or a mark that is none of 01's is bad:
 -- 01, What the library handles: "Not in the base: any other type, DEFAULT, version brackets."
 unfoldable pub goodAlone : Table → ℕ → Bool
-goodAlone t r = goodMarks t r && goodFields (carries (kindOf t r) .layout) t r
+goodAlone t r = goodMarks t r && goodFields (carries (tagOf t r) .layout) t r
 
 -- ---- by the kinds of the rows it points to
 
 -- the rows that the type at r counts as its own are member rows
 abbrev pub ownsMembers : Table → ℕ → Bool
-ownsMembers t r = every (λ i. eqb (kindOf t (memberRow t r i)) MEMBER) 0 (countOf t r)
+ownsMembers t r = every (λ i. eqb (tagOf t (memberRow t r i)) MEMBER) 0 (countOf t r)
 
 unfoldable pub goodLinks : Layout → Table → ℕ → Bool
 goodLinks Bare t r = true
@@ -70,7 +70,7 @@ goodLinks Unknown t r = true
 
 -- 01, Refusal numbers: "by the kinds of the rows it points to"
 unfoldable pub goodPointers : Table → ℕ → Bool
-goodPointers t r = goodLinks (carries (kindOf t r) .layout) t r
+goodPointers t r = goodLinks (carries (tagOf t r) .layout) t r
 
 -- ---- each type by its other rules
 

@@ -14,6 +14,7 @@ use Rattle.json.specs.Bytes.{pick}
 use Rattle.jer.specs.declared.Cause.{Cause}
 use Rattle.jer.specs.declared.Cause.the-variants.{OtherKind, BadNumber, BadString, Missing, Unknown}
 use Rattle.jer.specs.declared.Refusal.the-variants.{AtByte}
+use Rattle.jer.proofs.Forms.{kind-tag}
 use Rattle.jer.specs.Table.{Table, kindOf, typeAt, position, extensible, isBase64, isUnwrapped, openUnwrapped, alternative, Token, tokenCode, tNull, tBoolean, tNumber, tString, tArray, tObject}
 use Rattle.jer.specs.Value.{Val, vBool, vInt, vEnum, vNull, vBytes, vChoice}
 use Rattle.jer.specs.Answer.{Res, ok, bind, at}
@@ -97,12 +98,12 @@ module _ (t : Table) (s : List ℕ) (r p : ℕ) {kind : ℕ} (e : kind ≡ kindO
   module _ {rows₁ rows₀ pool : List ℕ} {i o q : ℕ} {z : Step} (w : q ≡ runFrom (passes Word) s p) (d : z ≡ Read q 1 0) where
     pub null-read : kind ≡ 3 → rows₁ ≡ sets rows₀ (i * 4) (kind ∷ 0 ∷ 0 ∷ 1 ∷ []) → Stepped z rows₁ rows₀ pool pool i o t r (leafAt t s tNull r p)
     unfolding leafAt ending bind poolOf rowsOf
-    null-read h f = one-row vNull kind 0 0 d (rw (kind-same t r 3 p (ok vNull) (is-kind h), w, word s p)) refl (λ u. rw e) f
+    null-read h f = one-row vNull kind 0 0 d (rw (kind-same t r 3 p (ok vNull) (is-kind h), w, word s p)) refl (λ u. rw (e, kind-tag t r)) f
 
     pub boolean-read : kind ≡ 0 → {b : ℕ} → b ≡ byteAt s p → rows₁ ≡ sets rows₀ (i * 4) (kind ∷ boolByte (eqb b 0x74) ∷ 0 ∷ 1 ∷ [])
         → Stepped z rows₁ rows₀ pool pool i o t r (leafAt t s tBoolean r p)
     unfolding leafAt ending bind poolOf rowsOf
-    boolean-read h {b = b} g f = one-row (vBool (eqb (byteAt s p) 0x74)) kind (boolByte (eqb b 0x74)) 0 d (rw (kind-same t r 0 p (ok (vBool (eqb (byteAt s p) 0x74))) (is-kind h), w, word s p)) refl (λ u. rw (e, g, ← flag (eqb (byteAt s p) 0x74))) f
+    boolean-read h {b = b} g f = one-row (vBool (eqb (byteAt s p) 0x74)) kind (boolByte (eqb b 0x74)) 0 d (rw (kind-same t r 0 p (ok (vBool (eqb (byteAt s p) 0x74))) (is-kind h), w, word s p)) refl (λ u. rw (e, kind-tag t r, g, ← flag (eqb (byteAt s p) 0x74))) f
 
     pub number-read : kind ≡ 1 → {low high : ℕ} → integer.Whole low high ≡ integerOf (integerAt s p) → rows₁ ≡ sets rows₀ (i * 4) (kind ∷ low ∷ high ∷ 1 ∷ [])
         → Stepped z rows₁ rows₀ pool pool i o t r (leafAt t s tNumber r p)
@@ -114,7 +115,7 @@ module _ (t : Table) (s : List ℕ) (r p : ℕ) {kind : ℕ} (e : kind ≡ kindO
         go (some n) y m =
             let a : low ≡ n % 2 ^ 32 = cc in
             let b : high ≡ n / 2 ^ 32 = cc in
-            one-row (vInt n) kind low high d (rw (kind-same t r 1 p (integerRead p (integerAt s p)) (is-kind h), y, w, word s p)) refl (λ u. rw (e, a, b)) f
+            one-row (vInt n) kind low high d (rw (kind-same t r 1 p (integerRead p (integerAt s p)) (is-kind h), y, w, word s p)) refl (λ u. rw (e, kind-tag t r, a, b)) f
 
 -- ---- strings
 
@@ -157,7 +158,7 @@ module _ (t : Table) (s : List ℕ) (r p : ℕ) {kind : ℕ} (e : kind ≡ kindO
     bytes-read : (os : List ℕ) → n ≡ length os → leafAt t s tString r p ≡ ok (got (vBytes os) (stringEnd s (p + 1))) → (o < 2 ^ 32 → pool₁ ≡ sets pool₀ o os)
         → Stepped z rows₁ rows₀ pool₁ pool₀ i o t r (leafAt t s tString r p)
     unfolding poolOf rowsOf numbers
-    bytes-read os m h g = reads (vBytes os) h (a ∙ rw (w, m)) (λ l. f (rw m l) ∙ rw (e, m)) (λ l. g (omega arith))
+    bytes-read os m h g = reads (vBytes os) h (a ∙ rw (w, m)) (λ l. f (rw m l) ∙ rw (e, kind-tag t r, m)) (λ l. g (omega arith))
 
     pub utf8-read : kind ≡ 5 → n ≡ length (denoted s (p + 1)) → {j : ℕ} → (o < 2 ^ 32 → j ≡ o) → pool₁ ≡ sets pool₀ j (denoted s (p + 1))
         → Stepped z rows₁ rows₀ pool₁ pool₀ i o t r (leafAt t s tString r p)
@@ -258,7 +259,7 @@ module _ (t : Table) (m p j : ℕ) {b : Bool} (u : b ≡ isUnwrapped t m) where
 
   module _ (h : b ≡ false) {w : Row} (e : w ≡ rowOf t m) where
     kind-here : w .kind ≡ kindOf t m
-    kind-here = ap (λ (x : Row). x .kind) e
+    kind-here = ap (λ (x : Row). x .kind) e ∙ sym (kind-tag t m)
 
     pub missing-null : w .kind ≡ 3 → missingOf t m p j ≡ ok vNull
     unfolding missingOf nullValue
@@ -288,7 +289,7 @@ module _ (t : Table) (r p j q : ℕ) {m : ℕ} (e : m ≡ typeAt t r j) {z : Ste
       → Stepped z rows₁ rows₀ pool pool i o t (typeAt t r j) (ending q (missingElement t r p j))
   unfolding ending bind poolOf rowsOf above numbers
   missing-two {k = k} {n = n} {w = w} h g y d f s a =
-      at-type h (reads (vChoice k vNull) refl a (λ l. rows-after rows₀ i (row (w .kind) k 0 2 ∷ []) (row n 0 0 1 ∷ []) f refl s ∙ rw (g, d, y)) (λ l. refl))
+      at-type h (reads (vChoice k vNull) refl a (λ l. rows-after rows₀ i (row (w .kind) k 0 2 ∷ []) (row n 0 0 1 ∷ []) f refl s ∙ rw (g, d, y, kind-tag t _)) (λ l. refl))
 
 -- the row of bytes whose place and count fit
 pub same-row : (l : List ℕ) (k kind : ℕ) {a b c d : ℕ} {l₁ : List ℕ} → l₁ ≡ sets l k (kind ∷ a ∷ b ∷ 1 ∷ []) → a ≡ c → b ≡ d → l₁ ≡ sets l k (kind ∷ c ∷ d ∷ 1 ∷ [])

@@ -9,6 +9,7 @@ use borrow.Author.Tests.{lt-ltb, le-ltb}
 use lib.Dec.{ltb}
 use lib.ListN.{length, length-append}
 use lib.Seq.{sets}
+use Rattle.jer.proofs.Forms.{kind-tag}
 use Rattle.jer.specs.Table.{Table, kindOf, elementOf, typeAt}
 use Rattle.jer.specs.Value.{Val, vSeq, vList, vChoice, Vals, vnil, vcons, Parts, pnil, absent, present, countVals, countPresent}
 use Rattle.jer.specs.Answer.{Res, ok, no, bind}
@@ -134,7 +135,7 @@ items-more {t = t} {r = r} us v f g =
 pub list-above : {rows₂ rows₁ rows₀ pool₁ pool₀ : List ℕ} {i o q n m c kind : ℕ} {t : Table} {r : ℕ} (us : Vals) → Items rows₁ rows₀ pool₁ pool₀ (i + 1) o t (elementOf t r) us n m
     → kind ≡ kindOf t r → c ≡ countVals us → rows₂ ≡ sets rows₁ (i * 4) (kind ∷ c ∷ 0 ∷ (n + 1) ∷ []) → Stepped (Read q (n + 1) m) rows₂ rows₀ pool₁ pool₀ i o t r (ok (got (vList us) q))
 unfolding rowsOf poolOf
-list-above us f e d s = run-above f _ _ (vList us) (λ u. rw (e, d)) refl s
+list-above {t = t} {r = r} us f e d s = run-above f _ _ (vList us) (λ u. rw (e, kind-tag t r, d)) refl s
 
 -- ---- members
 
@@ -241,7 +242,7 @@ module _ (t : Table) (r : ℕ) (ps : Parts) where
     pub seq-above : {q c kind : ℕ} → Members rows₁ rows₀ pool₁ pool₀ (i + 1) o t r ps n m → kind ≡ kindOf t r → c ≡ countPresent ps → rows₂ ≡ sets rows₁ (i * 4) (kind ∷ c ∷ 0 ∷ (n + 1) ∷ [])
         → Stepped (Read q (n + 1) m) rows₂ rows₀ pool₁ pool₀ i o t r (ok (got (vSeq ps) q))
     unfolding rowsOf poolOf
-    seq-above f e d s = run-above f _ _ (vSeq ps) (λ u. rw (e, d)) refl s
+    seq-above f e d s = run-above f _ _ (vSeq ps) (λ u. rw (e, kind-tag t r, d)) refl s
 
 -- ---- one part
 
@@ -256,7 +257,7 @@ pub choice-above : {rows₂ rows₁ rows₀ pool₁ pool₀ : List ℕ} {i o q e
     → Stepped (Read q n m) rows₁ rows₀ pool₁ pool₀ (i + 1) o t (typeAt t r k) (ok (got v q)) → kind ≡ kindOf t r → rows₂ ≡ sets rows₁ (i * 4) (kind ∷ k ∷ 0 ∷ (n + 1) ∷ [])
     → Stepped (Read e (n + 1) m) rows₂ rows₀ pool₁ pool₀ i o t r (ok (got (vChoice k v) e))
 unfolding rowsOf poolOf
-choice-above k v f g s = run-above (run-one v f) _ k (vChoice k v) (λ u. rw g) refl s
+choice-above {t = t} {r = r} k v f g s = run-above (run-one v f) _ k (vChoice k v) (λ u. rw (g, kind-tag t r)) refl s
 
 -- ---- readings in readings
 

@@ -14,6 +14,7 @@ use Rattle.jer.specs.declared.Limit.the-variants.{LentRoom}
 use Rattle.jer.specs.declared.Refusal.{Refusal}
 use Rattle.jer.specs.declared.Refusal.the-variants.{Amounts}
 use Rattle.jer.specs.Table.{Table, NULL, SEQUENCE, SEQUENCE-OF, CHOICE, kindOf, openUnwrapped, typeAt, isArray, isUnwrapped, extensible, alternative, position, Token, tNull, tBoolean, tNumber, tString, tArray, tObject, tokenCode}
+use Rattle.jer.proofs.Forms.{kind-tag}
 use Rattle.jer.specs.Value.{Val, vChoice, vNull}
 use Rattle.jer.specs.Answer.{Res, ok, no, bind, at}
 use Rattle.jer.specs.Read.{nullValue, missingElement}
@@ -292,7 +293,7 @@ positive zero h = absurd (h refl)
 positive (suc d) h = omega arith
 
 pub sequence-is : (t : Table) (r : ℕ) {w : Row} {b : Bool} → w ≡ rowOf t r → b ≡ isArray t r → (eqb (kindOf t r) SEQUENCE && not (isArray t r)) ≡ (eqb (w .kind) SEQUENCE && not b)
-sequence-is t r e h = rw (e, h)
+sequence-is t r e h = rw (e, h, kind-tag t r)
 
 -- the bound of a bracket, from that of a leaf
 pub bounded-near : (p d : ℕ) {z : Step} {rows₁ rows₀ pool₁ pool₀ : List ℕ} {i o : ℕ} {t : Table} {r : ℕ} {x : Res (Got Val)} → Reads z rows₁ rows₀ pool₁ pool₀ i o (limit p) t r x → Reads z rows₁ rows₀ pool₁ pool₀ i o (limit p + d) t r x

@@ -16,6 +16,7 @@ use Rattle.jer.specs.declared.Limit.the-variants.{LentRoom}
 use Rattle.jer.specs.declared.Refusal.{Refusal}
 use Rattle.jer.specs.declared.Refusal.the-variants.{Amounts}
 use Rattle.jer.specs.Table.{Table, kindOf, elementOf, typeAt}
+use Rattle.jer.proofs.Forms.{kind-tag}
 use Rattle.jer.specs.Value.{Val, vSeq, vList, vChoice, Vals, vnil, vcons, Parts, pnil, absent, present, countVals, countPresent}
 use Rattle.jer.specs.Answer.{Res, ok, no}
 use Rattle.jer.specs.Rows.{ValueRow, row, absentRow, numbers, above, rowsOf, itemRows, partRows, poolOf, itemPool, partPool}
@@ -201,7 +202,7 @@ module _ {t : Table} {r kind a n m i o k : ℕ} {ws : ℕ → List ValueRow} {ps
       let p : itemPool (acc vnil) ≡ ps = w .pool vnil ∙ append-nil ps in
       record {
         parts = ws;
-        above = λ u. let q : itemRows (acc vnil) t (elementOf t r) u ≡ ws u = w .rows vnil u ∙ append-nil (ws u) in let c : countVals (acc vnil) ≡ a = w .count vnil ∙ omega arith in rw (h, c, q);
+        above = λ u. let q : itemRows (acc vnil) t (elementOf t r) u ≡ ws u = w .rows vnil u ∙ append-nil (ws u) in let c : countVals (acc vnil) ≡ a = w .count vnil ∙ omega arith in rw (← kind-tag t r, h, c, q);
         many = f .many;
         long = ap length p ∙ f .long;
         rows = f .rows;
@@ -214,7 +215,7 @@ module _ {t : Table} {r kind a n m i o k : ℕ} {ws : ℕ → List ValueRow} {ps
       let p : partPool (acc pnil) ≡ ps = w .pool pnil ∙ append-nil ps in
       record {
         parts = ws;
-        above = λ u. let q : partRows (acc pnil) t r 0 u ≡ ws u = w .rows pnil u ∙ append-nil (ws u) in let c : countPresent (acc pnil) ≡ a = w .count pnil ∙ omega arith in rw (h, c, q);
+        above = λ u. let q : partRows (acc pnil) t r 0 u ≡ ws u = w .rows pnil u ∙ append-nil (ws u) in let c : countPresent (acc pnil) ≡ a = w .count pnil ∙ omega arith in rw (← kind-tag t r, h, c, q);
         many = f .many;
         long = ap length p ∙ f .long;
         rows = f .rows;
@@ -226,7 +227,7 @@ pub whole-choice : {t : Table} {r j kind n m i o y : ℕ} {x : Res (Got Val)} {z
 unfolding rowsOf poolOf above
 whole-choice {t} {r} {j} {i = i} {o = o} {rows₁ = rows₁} {rows₀ = rows₀} {pool₁ = pool₁} {pool₀ = pool₀} w st h = record {
   parts = λ u. rowsOf (w .g .value) t (typeAt t r j) u;
-  above = λ u. rw h;
+  above = λ u. rw (← kind-tag t r, h);
   many = λ u. rows-any (w .g .value) t (typeAt t r j) u ∙ w .many;
   long = w .long;
   rows = λ l. subst (λ (y : Res (Got Val)). RowsStored rows₁ rows₀ (i + 1) o t (typeAt t r j) y) (w .is) (st .rows) (omega (arith, w .long));

@@ -10,7 +10,7 @@ use lib.ListN.{length, take, drop}
 use Rattle.json.specs.Utf8.{utf8}
 use Rattle.jer.specs.declared.Layout.{Layout}
 use Rattle.jer.specs.declared.Layout.the-variants.{Bare, Holds, Lists, Names, Unknown}
-use Rattle.jer.specs.Table.{Table, rowCount, field, carries, kindOf, extensible, firstOf, elementOf, countOf, rootOf, nameIn}
+use Rattle.jer.specs.Table.{Table, rowCount, field, carries, tagOf, extensible, firstOf, elementOf, countOf, rootOf, nameIn}
 use Rattle.jer.specs.Valid.{implies, unused, goodBlock, goodName, goodMarks, goodFields, goodAlone}
 use Rattle.types.specs.declared.row.Row.{Row}
 use Rattle.types.specs.Rows.{rowOf}
@@ -98,7 +98,7 @@ module _ (t : Table) (r : ℕ) {m : Bool} (n : m ≡ goodMarks t r) where
   unfolding goodAlone
   alone-marked f = rw (sym n ∙ not-true m f)
 
-  module _ (f : not m ≡ false) {l : Layout} (y : l ≡ carries (kindOf t r) .layout) where
+  module _ (f : not m ≡ false) {l : Layout} (y : l ≡ carries (tagOf t r) .layout) where
     fields-at : (k : Layout) → l ≡ k → goodFields k t r ≡ goodAlone t r
     unfolding goodAlone
     fields-at k e = rw (sym n ∙ not-false m f) (ap (λ (x : Layout). goodFields x t r) (sym e ∙ y))

@@ -8,12 +8,13 @@ use native.Mathlib.Omega.{arith}
 use lib.Dec.{eqb, leb}
 use lib.ListN.{length, getD, take, drop, List·getD-eq-default}
 use Rattle.json.specs.Bytes.{pick}
-use Rattle.jer.specs.Table.{Table, field, Token, tNull, tBoolean, tNumber, tString, tArray, tObject, tokenCode, codeOf, tokenPick, isSome, carries, kindOf, marksOf, marked, firstOf, countOf, rootOf, memberRow, optional, addition, mayMiss, mayBeAbsent, nameStart, nameLength, nameIn, tokenOf, table}
+use Rattle.jer.specs.Table.{Table, field, Token, tNull, tBoolean, tNumber, tString, tArray, tObject, tokenCode, codeOf, tokenPick, isSome, carries, tagOf, kindOf, marksOf, marked, firstOf, countOf, rootOf, memberRow, optional, addition, mayMiss, mayBeAbsent, nameStart, nameLength, nameIn, tokenOf, table}
 use Rattle.jer.specs.Valid.{goodMarks}
 use Rattle.types.specs.declared.row.Row.{Row}
 use Rattle.jer.specs.declared.Layout.the-variants.{Unknown}
 use Rattle.types.specs.declared.row.Carried.{Carried as CarriedRow}
 use Rattle.types.specs.Rows.{rowOf, lineOf, carriedOf}
+use Rattle.jer.proofs.Forms.{kind-tag}
 use Rattle.types.proofs.ByteLaws.{other}
 
 -- a field past the end
@@ -30,7 +31,7 @@ module _ (rows ns : List ℕ) (r : ℕ) where
   pub row-of : {a b c d e : ℕ} → a ≡ field (table rows ns) r 0 → b ≡ field (table rows ns) r 1 → c ≡ field (table rows ns) r 2
       → d ≡ field (table rows ns) r 3 → e ≡ field (table rows ns) r 4
       → _≡_ {A = Row} (record { kind = a; marks = b; first = c; members = d; root = e }) (rowOf (table rows ns) r)
-  unfolding kindOf marksOf firstOf countOf rootOf
+  unfolding tagOf marksOf firstOf countOf rootOf
   row-of p q u v w = rw (p, q, u, v, w)
 
   pub member-row : (i : ℕ) {a b : ℕ} → a ≡ firstOf (table rows ns) r → b ≡ i → a + b ≡ memberRow (table rows ns) r i
@@ -55,16 +56,22 @@ name-in rows names m p q e = e ∙ rw (p, q)
 -- ---- marks
 
 pub kind-marked : (t : Table) (r k mark : ℕ) {w : Row} {b : Bool} → w ≡ rowOf t r → b ≡ marked t r mark → (eqb (w .kind) k && b) ≡ (eqb (kindOf t r) k && marked t r mark)
-kind-marked t r k mark e p = rw (e, p)
+kind-marked t r k mark e p = rw (e, p, kind-tag t r)
 
-pub marks-among : (t : Table) (r : ℕ) {w : Row} {may : ℕ} → w ≡ rowOf t r → may ≡ carries (kindOf t r) .marks → (leb (w .marks % 2) (may % 2) && leb (w .marks / 2) (may / 2)) ≡ goodMarks t r
+pub marks-among : (t : Table) (r : ℕ) {w : Row} {may : ℕ} → w ≡ rowOf t r → may ≡ carries (tagOf t r) .marks → (leb (w .marks % 2) (may % 2) && leb (w .marks / 2) (may / 2)) ≡ goodMarks t r
 unfolding goodMarks
 marks-among t r e p = rw (p, e)
 
 -- ---- kinds
 
+pub tag-of : (t : Table) (r : ℕ) {w : Row} → w ≡ rowOf t r → w .kind ≡ tagOf t r
+tag-of t r e = ap (λ (w : Row). w .kind) e
+
+pub tag-is : (t : Table) (r : ℕ) {k : ℕ} {w : Row} → w ≡ rowOf t r → w .kind ≡ k → tagOf t r ≡ k
+tag-is t r e h = sym (tag-of t r e) ∙ h
+
 pub kind-of : (t : Table) (r : ℕ) {w : Row} → w ≡ rowOf t r → w .kind ≡ kindOf t r
-kind-of t r e = ap (λ (w : Row). w .kind) e
+kind-of t r e = tag-of t r e ∙ sym (kind-tag t r)
 
 pub kind-is : (t : Table) (r : ℕ) {k : ℕ} {w : Row} → w ≡ rowOf t r → w .kind ≡ k → kindOf t r ≡ k
 kind-is t r e h = sym (kind-of t r e) ∙ h
@@ -91,17 +98,17 @@ some-told (some tArray) = refl
 some-told (some tObject) = refl
 
 module _ (t : Table) (r : ℕ) {w : Row} {c : CarriedRow} (e : w ≡ rowOf t r) (p : c ≡ carriedOf (carries (w .kind))) where
-  pub marks-told : c .marks ≡ carries (kindOf t r) .marks
+  pub marks-told : c .marks ≡ carries (tagOf t r) .marks
   marks-told = ap (λ (x : CarriedRow). x .marks) p ∙ rw e
 
-  pub layout-told : c .layout ≡ carries (kindOf t r) .layout
+  pub layout-told : c .layout ≡ carries (tagOf t r) .layout
   layout-told = ap (λ (x : CarriedRow). x .layout) p ∙ rw e
 
   module _ {b : Bool} (v : b ≡ marked t r 1) where
     pub begins-marked : b ≡ true → c .other ≡ codeOf (tokenOf t r)
     unfolding tokenOf tokenPick
-    begins-marked h = ap (λ (x : CarriedRow). x .other) p ∙ rw (e, sym v ∙ h)
+    begins-marked h = ap (λ (x : CarriedRow). x .other) p ∙ rw (e, kind-tag t r, sym v ∙ h)
 
     pub begins-plain : b ≡ false → c .token ≡ codeOf (tokenOf t r)
     unfolding tokenOf tokenPick
-    begins-plain h = ap (λ (x : CarriedRow). x .token) p ∙ rw (e, sym v ∙ h)
+    begins-plain h = ap (λ (x : CarriedRow). x .token) p ∙ rw (e, kind-tag t r, sym v ∙ h)

@@ -1,58 +1,60 @@
 -- The second and the third pass. Assumes nothing.
-use mathlib.Core.Path.{_≡_, refl, sym, _∙_}
-use mathlib.Core.Logic.{_⊎_, inl, inr}
-use mathlib.Core.Bool.{Bool, true, false, _&&_, and-assoc, and-true}
+use mathlib.Core.Path.{_≡_, refl, sym, ap, _∙_}
+use mathlib.Core.Bool.{Bool, true, false, false≢true, _&&_, and-assoc, and-true}
 use Prim.Native.Nat.{ℕ}
 use Rattle.json.specs.Bytes.{pick}
-use Rattle.json.proofs.SoundRows.{pick-within, only, _⨾_}
-use Rattle.jer.specs.declared.Layout.the-variants.{Bare, Unknown}
-use Rattle.jer.specs.Table.{Table, Carried, carries, kindOf, isType, isArray, isUnwrapped, firstOf, elementOf, countOf}
+use Rattle.jer.specs.declared.Layout.{Layout}
+use Rattle.jer.specs.declared.Layout.the-variants.{Bare, Holds, Lists, Names, Unknown}
+use Rattle.jer.specs.Table.{Table, carries, tagOf, kindOf, isType, isArray, isUnwrapped, firstOf, elementOf, countOf}
 use Rattle.jer.specs.Valid.{every, implies, goodLinks, goodPointers, namesDiffer, noneOptional, goodArray, goodUnwrapped, goodRules}
 use Rattle.types.specs.declared.row.Row.{Row}
 use Rattle.types.specs.declared.members.Rule.the-variants.{IsMember, Untyped}
 use Rattle.types.specs.Rows.{rowOf}
 use Rattle.types.specs.Check.{keeps}
+use Rattle.jer.proofs.Forms.{kind-layout}
 use Rattle.types.proofs.ByteLaws.{other}
 use Rattle.types.proofs.RowLaws.{kind-is, kind-not}
 
-bare-links : (t : Table) (r : ℕ) → true ≡ goodLinks Bare t r
-unfolding goodLinks
-bare-links t r = refl
+-- whether a row laid out so has members
+unfoldable pub holder : Layout → Bool
+holder Bare = false
+holder (Holds least) = true
+holder Lists = false
+holder Names = false
+holder Unknown = false
 
-unknown-links : (t : Table) (r : ℕ) → true ≡ goodLinks Unknown t r
-unfolding goodLinks
-unknown-links t r = refl
+-- a row without members has no other rules
+module _ (t : Table) (r : ℕ) (h : holder (carries (tagOf t r) .layout) ≡ false) where
+  no-kind : (k : ℕ) → holder (carries k .layout) ≡ true → kindOf t r ≡ k → ⊥
+  no-kind k y q = false≢true (sym h ∙ ap holder (kind-layout t r k q) ∙ y)
+
+  pub rules-plain : true ≡ goodRules t r
+  unfolding goodRules carries pick holder
+  rules-plain = rw (other (kindOf t r) 2 (no-kind 2 refl), other (kindOf t r) 6 (no-kind 6 refl), other (kindOf t r) 8 (no-kind 8 refl), pick)
 
 module _ (t : Table) (r : ℕ) {w : Row} (e : w ≡ rowOf t r) where
   -- ---- by the kinds of the rows it points to
 
-  pub pointers-type : {a : ℕ} {b : Bool} → (w .kind ≡ 7) ⊎ (w .kind ≡ 9) → a ≡ w .first → b ≡ isType t a → b ≡ goodPointers t r
-  unfolding goodPointers goodLinks carries pick elementOf firstOf
-  pointers-type (inl k) p q = q ∙ rw (kind-is t r e k) (rw (p, e))
-  pointers-type (inr k) p q = q ∙ rw (kind-is t r e k) (rw (p, e))
+  module _ {l : Layout} (p : l ≡ carries (tagOf t r) .layout) where
+    pub pointers-bare : l ≡ Bare → true ≡ goodPointers t r
+    unfolding goodPointers goodLinks
+    pointers-bare k = rw (sym p ∙ k)
 
-  pub pointers-members : {b : Bool} → (w .kind ≡ 2) ⊎ ((w .kind ≡ 6) ⊎ (w .kind ≡ 8)) → b ≡ every (keeps IsMember t r) 0 (countOf t r) → b ≡ goodPointers t r
-  unfolding goodPointers goodLinks carries pick keeps
-  pointers-members (inl k) p = p ∙ rw (kind-is t r e k)
-  pointers-members (inr (inl k)) p = p ∙ rw (kind-is t r e k)
-  pointers-members (inr (inr k)) p = p ∙ rw (kind-is t r e k)
+    pub pointers-members : {n : ℕ} {b : Bool} → l ≡ Holds n → b ≡ every (keeps IsMember t r) 0 (countOf t r) → b ≡ goodPointers t r
+    unfolding goodPointers goodLinks keeps
+    pointers-members k q = q ∙ rw (sym p ∙ k)
 
-  pub pointers-none : ((w .kind ≡ 7) ⊎ (w .kind ≡ 9) → ⊥) → ((w .kind ≡ 2) ⊎ ((w .kind ≡ 6) ⊎ (w .kind ≡ 8)) → ⊥) → true ≡ goodPointers t r
-  unfolding goodPointers carries
-  pointers-none h g =
-      pick-within (λ (x : Carried). true ≡ goodLinks (x .layout) t r) (kindOf t r) _ _
-      ((λ i. bare-links t r)
-      ⨾ (λ i. bare-links t r)
-      ⨾ (λ i. absurd (kind-not t r e 2 (λ q. g (inl q)) (only i)))
-      ⨾ (λ i. bare-links t r)
-      ⨾ (λ i. bare-links t r)
-      ⨾ (λ i. bare-links t r)
-      ⨾ (λ i. absurd (kind-not t r e 6 (λ q. g (inr (inl q))) (only i)))
-      ⨾ (λ i. absurd (kind-not t r e 7 (λ q. h (inl q)) (only i)))
-      ⨾ (λ i. absurd (kind-not t r e 8 (λ q. g (inr (inr q))) (only i)))
-      ⨾ (λ i. absurd (kind-not t r e 9 (λ q. h (inr q)) (only i)))
-      ⨾ tt)
-      (unknown-links t r)
+    pub pointers-element : {a : ℕ} {b : Bool} → l ≡ Lists → a ≡ w .first → b ≡ isType t a → b ≡ goodPointers t r
+    unfolding goodPointers goodLinks elementOf firstOf
+    pointers-element k u q = q ∙ rw (sym p ∙ k) (rw (u, e))
+
+    pub pointers-member : {a : ℕ} {b : Bool} → l ≡ Names → a ≡ w .first → b ≡ isType t a → b ≡ goodPointers t r
+    unfolding goodPointers goodLinks firstOf
+    pointers-member k u q = q ∙ rw (sym p ∙ k) (rw (u, e))
+
+    pub pointers-unknown : l ≡ Unknown → true ≡ goodPointers t r
+    unfolding goodPointers goodLinks
+    pointers-unknown k = rw (sym p ∙ k)
 
   -- ---- each type by its other rules
 

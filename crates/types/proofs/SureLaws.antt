@@ -10,13 +10,14 @@ use lib.Dec.{eqb, leb, ltb}
 use lib.ListN.{length, getD}
 use Rattle.json.specs.Bytes.{pick}
 use Rattle.json.specs.Utf8.{utf8}
-use Rattle.jer.specs.declared.Layout.the-variants.{Holds}
-use Rattle.jer.specs.Table.{Table, rowCount, field, carries, typeKind, isType, kindOf, marksOf, extensible, firstOf, elementOf, countOf, rootOf, nameIn, table}
+use Rattle.jer.specs.declared.Layout.{Layout}
+use Rattle.jer.specs.declared.Layout.the-variants.{Holds, Lists, Names}
+use Rattle.jer.specs.Table.{Table, rowCount, field, carries, typeKind, isType, tagOf, marksOf, extensible, firstOf, elementOf, countOf, rootOf, nameIn, table}
 use Rattle.jer.specs.Valid.{implies, unused, goodBlock, goodName, goodMarks, goodFields, goodAlone}
 use Rattle.types.specs.declared.row.Row.{Row}
 use Rattle.types.specs.Rows.{rowOf}
 use Rattle.types.specs.Sure.{NameInside, BlockInside, Fits}
-use Rattle.types.proofs.RowLaws.{field-zero, kind-is}
+use Rattle.types.proofs.RowLaws.{field-zero, tag-is}
 
 pub no-true : {A : Type 0} → false ≡ true → A
 no-true q = absurd (let z : _≡_ {A = ℕ} 0 1 = cc in omega arith)
@@ -24,7 +25,7 @@ no-true q = absurd (let z : _≡_ {A = ℕ} 0 1 = cc in omega arith)
 -- ---- rows
 
 pub type-told : (rows ns : List ℕ) (r : ℕ) → typeKind (getD rows (r * 8) 0) ≡ isType (table rows ns) r
-unfolding isType kindOf
+unfolding isType tagOf
 type-told rows ns r = rw (field-zero rows ns r)
 
 -- ---- ASCII
@@ -58,7 +59,7 @@ three false b c h = no-true h
 
 pub fits-told : (t : Table) (m marks types : ℕ) {w : Row} → w ≡ rowOf t m → (eqb (w .kind) 9 && leb (w .marks) marks && leb (w .first) types) ≡ true
     → Fits t m marks types
-unfolding kindOf marksOf firstOf
+unfolding tagOf marksOf firstOf
 fits-told t m marks types {w = w} e h =
     let g = three (eqb (w .kind) 9) (leb (w .marks) marks) (leb (w .first) types) h in
     let k : w .kind ≡ field t m 0 = ap (λ (x : Row). x .kind) e in
@@ -91,29 +92,34 @@ module _ (t : Table) (r : ℕ) {w : Row} (e : w ≡ rowOf t r) (h : goodAlone t 
 
   pub block-room : (w .kind ≡ 2) ⊎ ((w .kind ≡ 6) ⊎ (w .kind ≡ 8)) → BlockInside t r
   unfolding goodAlone carries pick
-  block-room (inl k) = block-of 1 (rw (kind-is t r e k) at h)
-  block-room (inr (inl k)) = block-of 0 (rw (kind-is t r e k) at h)
-  block-room (inr (inr k)) = block-of 1 (rw (kind-is t r e k) at h)
+  block-room (inl k) = block-of 1 (rw (tag-is t r e k) at h)
+  block-room (inr (inl k)) = block-of 0 (rw (tag-is t r e k) at h)
+  block-room (inr (inr k)) = block-of 1 (rw (tag-is t r e k) at h)
 
-  pub points-room : {a : ℕ} → (w .kind ≡ 7) ⊎ (w .kind ≡ 9) → a ≡ w .first → a < length (t .rows) / 8
-  unfolding goodAlone goodFields carries pick elementOf firstOf rowCount
-  points-room {a = a} (inl k) p =
-      let q : a ≡ field t r 2 = p ∙ ap (λ (x : Row). x .first) e in
-      let l = ltb-true (field t r 2) (length (t .rows) / 8) (and-three (goodMarks t r) (unused t r 3 5) (ltb (field t r 2) (length (t .rows) / 8)) (rw (kind-is t r e k) at h)) in
-      omega arith
-  points-room {a = a} (inr k) p =
-      let q : a ≡ field t r 2 = p ∙ ap (λ (x : Row). x .first) e in
-      let g = and-four (goodMarks t r) (unused t r 5 3) (not (eqb r 0)) (ltb (field t r 2) (length (t .rows) / 8) && goodName t r) (rw (kind-is t r e k) at h) .1 in
-      let l = ltb-true (field t r 2) (length (t .rows) / 8) (and-both (ltb (field t r 2) (length (t .rows) / 8)) (goodName t r) g .0) in
-      omega arith
+  -- the row that it points to
+  module _ {l : Layout} (c : l ≡ carries (tagOf t r) .layout) {a : ℕ} where
+    pub lists-room : l ≡ Lists → a ≡ w .first → a < length (t .rows) / 8
+    unfolding goodAlone goodFields elementOf firstOf rowCount
+    lists-room k p =
+        let q : a ≡ field t r 2 = p ∙ ap (λ (x : Row). x .first) e in
+        let l = ltb-true (field t r 2) (length (t .rows) / 8) (and-three (goodMarks t r) (unused t r 3 5) (ltb (field t r 2) (length (t .rows) / 8)) (rw (sym c ∙ k) at h)) in
+        omega arith
 
-member-named : (t : Table) (m : ℕ) → goodAlone t m ≡ true → kindOf t m ≡ 9 → goodName t m ≡ true
+    pub names-room : l ≡ Names → a ≡ w .first → a < length (t .rows) / 8
+    unfolding goodAlone goodFields firstOf rowCount
+    names-room k p =
+        let q : a ≡ field t r 2 = p ∙ ap (λ (x : Row). x .first) e in
+        let g = and-four (goodMarks t r) (unused t r 5 3) (not (eqb r 0)) (ltb (field t r 2) (length (t .rows) / 8) && goodName t r) (rw (sym c ∙ k) at h) .1 in
+        let l = ltb-true (field t r 2) (length (t .rows) / 8) (and-both (ltb (field t r 2) (length (t .rows) / 8)) (goodName t r) g .0) in
+        omega arith
+
+member-named : (t : Table) (m : ℕ) → goodAlone t m ≡ true → tagOf t m ≡ 9 → goodName t m ≡ true
 unfolding goodAlone goodFields carries pick
 member-named t m h k =
     let g = and-four (goodMarks t m) (unused t m 5 3) (not (eqb m 0)) (ltb (field t m 2) (rowCount t) && goodName t m) (rw k at h) .1 in
     and-both (ltb (field t m 2) (rowCount t)) (goodName t m) g .1
 
-pub alone-name : (t : Table) (m : ℕ) → goodAlone t m ≡ true → kindOf t m ≡ 9 → (1 ≤ field t m 4) × NameInside t m
+pub alone-name : (t : Table) (m : ℕ) → goodAlone t m ≡ true → tagOf t m ≡ 9 → (1 ≤ field t m 4) × NameInside t m
 unfolding goodName
 alone-name t m h k =
     let g = member-named t m h k in (

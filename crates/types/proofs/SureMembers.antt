@@ -10,14 +10,18 @@ use lib.Dec.{eqb}
 use lib.ListN.{length, getD, set, replicate, drop, length-drop, length-set, length-replicate}
 use lib.Seq.{length-take-le, getD-set-same, getD-set-other}
 use Rattle.jer.proofs.ValidLaws.{sameBytes-eq}
-use Rattle.jer.specs.Table.{Table, rowCount, field, isType, isArray, isUnwrapped, kindOf, firstOf, countOf, memberRow, optional, typeAt, nameIn, nameAt, sameBytes, table}
-use Rattle.jer.specs.Valid.{every, allDiffer, namesDiffer, noneOptional, goodArray, goodUnwrapped}
+use Rattle.jer.specs.Table.{Table, rowCount, field, isType, isArray, isUnwrapped, carries, tagOf, firstOf, countOf, memberRow, optional, typeAt, nameIn, nameAt, sameBytes, table}
+use Rattle.jer.specs.Valid.{every, goodPointers, allDiffer, namesDiffer, noneOptional, goodArray, goodUnwrapped}
+use Rattle.json.specs.Bytes.{pick}
+use Rattle.jer.specs.declared.Layout.{Layout}
+use Rattle.jer.specs.declared.Layout.the-variants.{Bare, Lists, Names, Unknown}
 use Rattle.types.specs.declared.row.Row.{Row}
 use Rattle.types.specs.declared.members.Rule.the-variants.{IsMember, Untyped}
 use Rattle.types.specs.Rows.{rowOf}
 use Rattle.types.specs.Check.{keeps}
 use Rattle.types.specs.Sure.{NameInside, BlockInside, signOf, Apart, Fits, SureMember, SureMembers, SureLinks}
-use Rattle.types.proofs.RuleLaws.{pointers-type, pointers-members, pointers-none, rules-enumerated, rules-array, rules-sequence, rules-unwrapped, rules-choice, rules-none}
+use Rattle.types.proofs.RuleLaws.{holder, pointers-bare, pointers-members, pointers-element, pointers-member, pointers-unknown, rules-plain, rules-enumerated, rules-array, rules-sequence, rules-unwrapped, rules-choice}
+use Rattle.types.proofs.RowLaws.{tag-is}
 use Rattle.types.proofs.SureLaws.{split-next}
 
 pub count-is : (rows ns : List ℕ) {n : ℕ} → n ≡ rowCount (table rows ns) → n ≡ length rows / 8
@@ -125,7 +129,7 @@ every-true f (suc n) i h = rw (h i (omega arith), every) (every-true f n (suc i)
 module _ (t : Table) (r : ℕ) {marks types : ℕ} (s : SureMembers t r marks types) where
   owned : true ≡ every (keeps IsMember t r) 0 (countOf t r)
   unfolding keeps memberRow
-  owned = every-true _ (countOf t r) 0 (λ k l. eq-eqb (kindOf t (firstOf t r + k)) 9 (s k (omega arith) .fit .kind))
+  owned = every-true _ (countOf t r) 0 (λ k l. eq-eqb (tagOf t (firstOf t r + k)) 9 (s k (omega arith) .fit .kind))
 
   differ : true ≡ namesDiffer t r
   unfolding namesDiffer allDiffer nameAt memberRow
@@ -146,63 +150,63 @@ module _ (t : Table) (r : ℕ) {marks types : ℕ} (s : SureMembers t r marks ty
       (λ k l. eq-eqb (field t (firstOf t r + k) 2) 0 (let m : field t (firstOf t r + k) 2 ≤ types = s k (omega arith) .fit .type in omega arith))
 
 module _ (t : Table) (r : ℕ) {w : Row} (e : w ≡ rowOf t r) where
-  pub links-type : {a : ℕ} {b : Bool} → (w .kind ≡ 7) ⊎ (w .kind ≡ 9) → a ≡ w .first → b ≡ isType t a → b ≡ true → SureLinks t r
-  links-type k p g h = record {
-    pointers = sym (pointers-type t r e k p g) ∙ h;
-    rules = sym (rules-none t r e (not-2 k) (not-6 k) (not-8 k));
-  }
-    where
-      not-2 : (w .kind ≡ 7) ⊎ (w .kind ≡ 9) → w .kind ≡ 2 → ⊥
-      not-2 (inl q) z = omega arith
-      not-2 (inr q) z = omega arith
+  module _ {l : Layout} (c : l ≡ carries (tagOf t r) .layout) where
+    plain : {b : Bool} → holder l ≡ false → b ≡ goodPointers t r → b ≡ true → SureLinks t r
+    plain k p h = record { pointers = sym p ∙ h; rules = sym (rules-plain t r (ap holder (sym c) ∙ k)) }
 
-      not-6 : (w .kind ≡ 7) ⊎ (w .kind ≡ 9) → w .kind ≡ 6 → ⊥
-      not-6 (inl q) z = omega arith
-      not-6 (inr q) z = omega arith
+    pub links-bare : l ≡ Bare → SureLinks t r
+    unfolding holder
+    links-bare k = plain (ap holder k) (pointers-bare t r e c k) refl
 
-      not-8 : (w .kind ≡ 7) ⊎ (w .kind ≡ 9) → w .kind ≡ 8 → ⊥
-      not-8 (inl q) z = omega arith
-      not-8 (inr q) z = omega arith
+    pub links-unknown : l ≡ Unknown → SureLinks t r
+    unfolding holder
+    links-unknown k = plain (ap holder k) (pointers-unknown t r e c k) refl
+
+    module _ {a : ℕ} {b : Bool} (p : a ≡ w .first) (g : b ≡ isType t a) where
+      pub links-element : l ≡ Lists → b ≡ true → SureLinks t r
+      unfolding holder
+      links-element k h = plain (ap holder k) (pointers-element t r e c k p g) h
+
+      pub links-member : l ≡ Names → b ≡ true → SureLinks t r
+      unfolding holder
+      links-member k h = plain (ap holder k) (pointers-member t r e c k p g) h
+
+  holds : {k : ℕ} → w .kind ≡ k → carries (tagOf t r) .layout ≡ carries k .layout
+  holds k = ap (λ (n : ℕ). carries n .layout) (tag-is t r e k)
 
   pub links-enumerated : w .kind ≡ 2 → SureMembers t r 0 0 → SureLinks t r
+  unfolding carries pick
   links-enumerated k s = record {
-    pointers = sym (pointers-members t r e (inl k) (owned t r s));
+    pointers = sym (pointers-members t r e (sym (holds k)) refl (owned t r s));
     rules = sym (rules-enumerated t r e (differ t r s) k (required t r s refl) (untyped t r s refl));
   }
 
   module _ {types : ℕ} (k : w .kind ≡ 6) (s : SureMembers t r 1 types) {a : Bool} (p : a ≡ isArray t r) where
     pub links-array : {g : Bool} → a ≡ true → g ≡ goodArray t r → g ≡ true → SureLinks t r
+    unfolding carries pick
     links-array h q z = record {
-      pointers = sym (pointers-members t r e (inr (inl k)) (owned t r s));
+      pointers = sym (pointers-members t r e (sym (holds k)) refl (owned t r s));
       rules = sym (rules-array t r e (differ t r s) k p h (sym z ∙ q));
     }
 
     pub links-sequence : a ≡ false → SureLinks t r
+    unfolding carries pick
     links-sequence h = record {
-      pointers = sym (pointers-members t r e (inr (inl k)) (owned t r s));
+      pointers = sym (pointers-members t r e (sym (holds k)) refl (owned t r s));
       rules = sym (rules-sequence t r e (differ t r s) k p h);
     }
 
   module _ {types : ℕ} (k : w .kind ≡ 8) (s : SureMembers t r 0 types) {u : Bool} (p : u ≡ isUnwrapped t r) where
     pub links-unwrapped : {g : Bool} → u ≡ true → g ≡ goodUnwrapped t r → g ≡ true → SureLinks t r
+    unfolding carries pick
     links-unwrapped h q z = record {
-      pointers = sym (pointers-members t r e (inr (inr k)) (owned t r s));
+      pointers = sym (pointers-members t r e (sym (holds k)) refl (owned t r s));
       rules = sym (rules-unwrapped t r e (differ t r s) k (required t r s refl) p h (sym z ∙ q));
     }
 
     pub links-choice : u ≡ false → SureLinks t r
+    unfolding carries pick
     links-choice h = record {
-      pointers = sym (pointers-members t r e (inr (inr k)) (owned t r s));
+      pointers = sym (pointers-members t r e (sym (holds k)) refl (owned t r s));
       rules = sym (rules-choice t r e (differ t r s) k (required t r s refl) p h);
     }
-
-  pub links-none : ((w .kind ≡ 7) ⊎ (w .kind ≡ 9) → ⊥) → (w .kind ≡ 2 → ⊥) → (w .kind ≡ 6 → ⊥) → (w .kind ≡ 8 → ⊥) → SureLinks t r
-  links-none h n₂ n₆ n₈ = record {
-    pointers = sym (pointers-none t r e h none-of);
-    rules = sym (rules-none t r e n₂ n₆ n₈);
-  }
-    where
-      none-of : (w .kind ≡ 2) ⊎ ((w .kind ≡ 6) ⊎ (w .kind ≡ 8)) → ⊥
-      none-of (inl q) = n₂ q
-      none-of (inr (inl q)) = n₆ q
-      none-of (inr (inr q)) = n₈ q

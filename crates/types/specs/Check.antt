@@ -7,7 +7,7 @@ use Rattle.jer.specs.declared.Which.the-variants.{TypeTable}
 use Rattle.jer.specs.declared.Refusal.the-variants.{AtRow}
 use Rattle.jer.specs.declared.Judged.{Judged}
 use Rattle.jer.specs.declared.Judged.the-variants.{Good, Refused}
-use Rattle.jer.specs.Table.{Table, MEMBER, kindOf, memberRow, optional, typeAt, nameAt, mayMiss, sameBytes, isUnwrapped, sameToken, tokenOf, nullTaken}
+use Rattle.jer.specs.Table.{Table, MEMBER, tagOf, memberRow, optional, typeAt, nameAt, mayMiss, sameBytes, isUnwrapped, sameToken, tokenOf, nullTaken}
 use Rattle.jer.specs.Valid.{every, goodPointers, goodRules}
 use Rattle.types.specs.declared.members.By.{By}
 use Rattle.types.specs.declared.members.By.the-variants.{Name, Token}
@@ -25,7 +25,7 @@ alike Token t r i j = sameToken (tokenOf t (typeAt t r i)) (tokenOf t (typeAt t 
 
 -- does the member at i of the type at r keep the rule?
 unfoldable pub keeps : Rule → Table → ℕ → ℕ → Bool
-keeps IsMember t r i = eqb (kindOf t (memberRow t r i)) MEMBER
+keeps IsMember t r i = eqb (tagOf t (memberRow t r i)) MEMBER
 keeps Required t r i = not (optional t r i)
 keeps Untyped t r i = eqb (typeAt t r i) 0
 keeps NullFree t r i = not (mayMiss t r i && nullTaken t (typeAt t r i))

@@ -4,7 +4,7 @@ use mathlib.Core.Path.{_≡_}
 use mathlib.Core.List.{List}
 use mathlib.Core.Bool.{true, false}
 use lib.ListN.{length, getD}
-use Rattle.jer.specs.Table.{Table, MEMBER, field, kindOf, firstOf, countOf, nameIn, sameBytes}
+use Rattle.jer.specs.Table.{Table, MEMBER, field, tagOf, firstOf, countOf, nameIn, sameBytes}
 use Rattle.jer.specs.Valid.{goodAlone, goodPointers, goodRules}
 
 -- each row is good by itself
@@ -32,7 +32,7 @@ Apart t first j name = (i : ℕ) → i < j → sameBytes (nameIn t (first + i)) 
 
 -- the row m is a member's, with no mark and no type row above these
 pub record Fits (t : Table) (m marks types : ℕ) : Type 0 where
-  pub kind : kindOf t m ≡ MEMBER
+  pub kind : tagOf t m ≡ MEMBER
   pub mark : field t m 1 ≤ marks
   pub type : field t m 2 ≤ types
 

@@ -6,7 +6,7 @@ ghost use mathlib.Core.Path.{_≡_};
 ghost use mathlib.Core.List.{List};
 ghost use Prim.Native.Nat.{ℕ, _<_, _/_};
 ghost use lib.ListN.{length};
-ghost use Rattle.jer.specs.Table.{Table, rowCount, field, carries, typeKind, kindOf, isType, marked, extensible, isBase64, isArray, isUnwrapped, firstOf, elementOf, countOf, rootOf, memberRow, optional, typeIn, typeAt, nameStart, nameLength, nameIn, codeOf, tokenOf, mayMiss, mayBeAbsent, table};
+ghost use Rattle.jer.specs.Table.{Table, rowCount, field, carries, typeKind, tagOf, kindOf, isType, marked, extensible, isBase64, isArray, isUnwrapped, firstOf, elementOf, countOf, rootOf, memberRow, optional, typeIn, typeAt, nameStart, nameLength, nameIn, codeOf, tokenOf, mayMiss, mayBeAbsent, table};
 ghost use Rattle.jer.specs.Valid.{goodMarks};
 ghost use Rattle.types.specs.Rows.{rowOf, lineOf, carriedOf};
 
@@ -223,7 +223,7 @@ impl Row {
 
     // It carries no mark but those that its kind may.
     pub fn good_marks(self, may: u32) -> bool
-        ensures { λ b. ⌜ ((t : Table) (r : ℕ) → self ≡ rowOf t r → may ≡ carries (kindOf t r) .marks → b ≡ goodMarks t r) ⌝ }
+        ensures { λ b. ⌜ ((t : Table) (r : ℕ) → self ≡ rowOf t r → may ≡ carries (tagOf t r) .marks → b ≡ goodMarks t r) ⌝ }
     {
         (self.marks % 2 <= may % 2) & (self.marks / 2 <= may / 2)
     }

@@ -4,6 +4,7 @@ use crate::members::Rule;
 use crate::members::all_keep;
 use crate::row::Row;
 use crate::row::wide;
+use jer::Layout;
 ghost use mathlib.Core.Path.{_≡_};
 ghost use Rattle.jer.specs.Valid.{goodPointers, namesDiffer, noneOptional, goodArray, goodUnwrapped, goodRules};
 ghost use Rattle.jer.specs.Table.{table};
@@ -12,11 +13,14 @@ pub fn good_pointers(rows: &[u32], names: &[u8], r: usize) -> bool
     ensures { λ b. ⌜ b ≡ goodPointers (table (now (rows .entry)) (now (names .entry))) r ⌝ }
 {
     let row = Row::at(rows, r);
-    let kind = row.kind;
-    match kind {
-        Row::SEQUENCE_OF | Row::MEMBER => Row::at(rows, wide(row.first)).is_type(),
-        Row::ENUMERATED | Row::SEQUENCE | Row::CHOICE => all_keep(rows, names, Rule::IsMember, r),
-        _ => true,
+    let carried = Row::carries(row.kind);
+    let layout = carried.layout;
+    match layout {
+        Layout::Bare => true,
+        Layout::Holds(_) => all_keep(rows, names, Rule::IsMember, r),
+        Layout::Lists => Row::at(rows, wide(row.first)).is_type(),
+        Layout::Names => Row::at(rows, wide(row.first)).is_type(),
+        Layout::Unknown => true,
     }
 }
 

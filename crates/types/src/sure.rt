@@ -6,6 +6,7 @@ use crate::row::row_in;
 use crate::row::wide;
 use crate::rules::good_array;
 use crate::rules::good_unwrapped;
+use jer::Layout;
 ghost use mathlib.Core.Path.{_≡_};
 ghost use mathlib.Core.List.{List};
 ghost use mathlib.Core.Bool.{true};
@@ -116,15 +117,14 @@ fn sure_members(rows: &[u32], names: &[u8], r: usize, marks: u32, types: u32) ->
     true
 }
 
-// Row r by those it points to, and a type by its other rules.
-fn sure_links(rows: &[u32], names: &[u8], r: usize) -> bool
+// A row that has members, by them and by its type's other rules.
+fn sure_holder(rows: &[u32], names: &[u8], r: usize) -> bool
     requires { ⌜ (r < length (now rows) / 8) × Alone (table (now rows) (now names)) ⌝ }
     ensures { λ b. ⌜ (b ≡ true → SureLinks (table (now (rows .entry)) (now (names .entry))) r) ⌝ }
 {
     let row = row_in(rows, r);
     let kind = row.kind;
     match kind {
-        Row::SEQUENCE_OF | Row::MEMBER => holds_type(rows, wide(row.first)),
         Row::ENUMERATED => sure_members(rows, names, r, 0, 0),
         Row::SEQUENCE => {
             if !sure_members(rows, names, r, 1, ANY) {
@@ -144,7 +144,24 @@ fn sure_links(rows: &[u32], names: &[u8], r: usize) -> bool
             }
             true
         }
-        _ => true,
+        _ => false,
+    }
+}
+
+// Row r by those it points to, and a type by its other rules.
+fn sure_links(rows: &[u32], names: &[u8], r: usize) -> bool
+    requires { ⌜ (r < length (now rows) / 8) × Alone (table (now rows) (now names)) ⌝ }
+    ensures { λ b. ⌜ (b ≡ true → SureLinks (table (now (rows .entry)) (now (names .entry))) r) ⌝ }
+{
+    let row = row_in(rows, r);
+    let carried = Row::carries(row.kind);
+    let layout = carried.layout;
+    match layout {
+        Layout::Bare => true,
+        Layout::Holds(_) => sure_holder(rows, names, r),
+        Layout::Lists => holds_type(rows, wide(row.first)),
+        Layout::Names => holds_type(rows, wide(row.first)),
+        Layout::Unknown => true,
     }
 }
 

@@ -11,7 +11,8 @@ use lib.ListN.{length, take, drop}
 use borrow.Author.Tests.{eqb-true, eqb-false, eq-eqb, ne-eqb}
 use Rattle.json.specs.Bytes.{pick}
 use Rattle.json.specs.Utf8.{utf8}
-use Rattle.jer.specs.Table.{Table, UTF8String, kindOf, isBase64, countOf, memberRow, nameIn, nameAt}
+use Rattle.jer.specs.Table.{Table, UTF8String, tagOf, kindOf, isBase64, countOf, memberRow, nameIn, nameAt}
+use Rattle.jer.proofs.Forms.{kind-tag}
 use Rattle.jer.specs.Value.{Val, vBool, vInt, vEnum, vNull, vBytes}
 use Rattle.jer.specs.Rows.{ValueRow, row}
 use Rattle.jer.specs.Judge.{Taker, rightRow, leaf, stringRow, takeRow}
@@ -66,29 +67,32 @@ and-assoc true b c = refl
 and-assoc false b c = refl
 
 module _ (i : Option Taker) (t : Table) (pool : List ℕ) (r a b n : ℕ) (ws : List ValueRow) (q o : ℕ) {k : ℕ} (m : k ≡ kindOf t r) where
+  tagged : eqb k (tagOf t r) ≡ true
+  tagged = eq-eqb k (tagOf t r) (m ∙ kind-tag t r)
+
   row-bool : k ≡ 0 → takeRow i t pool r (row k a b n) ws q o ≡ rightRow (ltb a 2 && (eqb b 0 && eqb n 1)) (vBool (eqb a 1)) ws q o
   unfolding takeRow pick leaf
-  row-bool h = rw h (let z : kindOf t r ≡ 0 = omega arith in rw (z, takeRow))
+  row-bool h = rw (tagged, takeRow) (rw (sym m ∙ h))
 
   row-int : k ≡ 1 → takeRow i t pool r (row k a b n) ws q o ≡ rightRow (eqb n 1) (vInt (b * 2 ^ 32 + a)) ws q o
   unfolding takeRow pick
-  row-int h = rw h (let z : kindOf t r ≡ 1 = omega arith in rw (z, takeRow))
+  row-int h = rw (tagged, takeRow) (rw (sym m ∙ h))
 
   row-enum : k ≡ 2 → takeRow i t pool r (row k a b n) ws q o ≡ rightRow (ltb a (countOf t r) && (eqb b 0 && eqb n 1)) (vEnum a) ws q o
   unfolding takeRow pick leaf
-  row-enum h = rw h (let z : kindOf t r ≡ 2 = omega arith in rw (z, takeRow))
+  row-enum h = rw (tagged, takeRow) (rw (sym m ∙ h))
 
   row-null : k ≡ 3 → takeRow i t pool r (row k a b n) ws q o ≡ rightRow (eqb a 0 && (eqb b 0 && eqb n 1)) vNull ws q o
   unfolding takeRow pick leaf
-  row-null h = rw h (let z : kindOf t r ≡ 3 = omega arith in rw (z, takeRow))
+  row-null h = rw (tagged, takeRow) (rw (sym m ∙ h))
 
   row-string : 4 ≤ k → k ≤ 5 → takeRow i t pool r (row k a b n) ws q o ≡ stringRow (not (eqb k 4)) pool (row k a b n) ws q o
   unfolding takeRow pick
   row-string x y = go (eqb k 4) refl
     where
       go : (c : Bool) → eqb k 4 ≡ c → takeRow i t pool r (row k a b n) ws q o ≡ stringRow (not (eqb k 4)) pool (row k a b n) ws q o
-      go true e = let h : k ≡ 4 = eqb-true k 4 e in rw h (let z : kindOf t r ≡ 4 = omega arith in rw (z, takeRow))
-      go false e = let g = eqb-false k 4 e in let h : k ≡ 5 = omega arith in rw h (let z : kindOf t r ≡ 5 = omega arith in rw (z, takeRow))
+      go true e = rw (tagged, e, takeRow) (rw (sym m ∙ eqb-true k 4 e))
+      go false e = let g = eqb-false k 4 e in let h : k ≡ 5 = omega arith in rw (tagged, e, takeRow) (rw (sym m ∙ h))
 
 module _ (i : Option Taker) (t : Table) (pool : List ℕ) (r : ℕ) (w : ValueRow) (ws : List ValueRow) (q o : ℕ) {k e : ℕ} {l m : List ℕ} {x : Taken} where
   row-ends : (c : Bool) {d : Bool} (v : Val) → takeRow i t pool r w ws q o ≡ rightRow c v ws q o → c ≡ d → Puts (write v t r) k l m e → x ≡ endedAs d q (q + 1) o e → Writes (textOf (λ v. write v t r) (takeRow i t pool r w ws q o)) k l m x

@@ -10,7 +10,7 @@ use lib.ListN.{length, take, drop}
 use borrow.Author.Tests.{eqb-true, ltb-true, eq-eqb, ne-eqb}
 use Rattle.json.specs.Utf8.{utf8}
 use Rattle.json.proofs.SoundRows.{pick-within, _⨾_}
-use Rattle.jer.specs.Table.{Table, UTF8String, NULL, CHOICE, kindOf, isBase64, isArray, isUnwrapped, elementOf, countOf, typeAt, sameBytes}
+use Rattle.jer.specs.Table.{Table, UTF8String, NULL, CHOICE, tagOf, kindOf, isBase64, isArray, isUnwrapped, elementOf, countOf, typeAt, sameBytes}
 use Rattle.jer.specs.Value.{Val, vBool, vInt, vEnum, vNull, vBytes, vSeq, vList, vChoice, Vals, Parts, countPresent}
 use Rattle.jer.specs.Rows.{ValueRow}
 use Rattle.jer.specs.Judge.{Took, took, wrong, Taker, takeParts, takeItems, rightRow, leaf, stringRow, sized, inBracket, takeSequence, takeList, takeChoice, takeRow, onRow, takeUnwrapped, takeValue}
@@ -175,10 +175,9 @@ module _ (t : Table) (pool : List ℕ) where
   unfolding takeRow
   row-null i r w ws q o u =
       let b = eqb (kindOf t r) NULL in
-      after-if (Null t r b) (eqb (w .kind) (kindOf t r)) _ q (λ e.
-      let k = eqb-true (w .kind) (kindOf t r) e in
-      let other : (w .kind ≡ NULL → ⊥) → b ≡ false = λ n. ne-eqb (kindOf t r) NULL (λ x. n (k ∙ x)) in
-      pick-within (After (Null t r b)) (w .kind) _ (wrong q)
+      after-if (Null t r b) (eqb (w .kind) (tagOf t r)) _ q (λ e.
+      let other : (kindOf t r ≡ NULL → ⊥) → b ≡ false = λ n. ne-eqb (kindOf t r) NULL n in
+      pick-within (After (Null t r b)) (kindOf t r) _ (wrong q)
       ((λ j. leaf-null t r b _ _ w ws q o (bool-write t r _ ∙ sym (other (λ x. omega arith))))
       ⨾ (λ j. right-null t r b _ _ ws q o (int-write t r _ ∙ sym (other (λ x. omega arith))))
       ⨾ (λ j. leaf-null t r b _ _ w ws q o (enum-write t r _ ∙ sym (other (λ x. omega arith))))

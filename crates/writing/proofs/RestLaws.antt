@@ -10,7 +10,7 @@ use lib.ListN.{length, take, drop}
 use lib.Seq.{drop-drop}
 use Rattle.json.specs.Utf8.{utf8}
 use Rattle.json.proofs.SoundRows.{pick-within, _⨾_}
-use Rattle.jer.specs.Table.{Table, CHOICE, kindOf, isUnwrapped, elementOf, countOf, typeAt, mayBeAbsent}
+use Rattle.jer.specs.Table.{Table, CHOICE, tagOf, kindOf, isUnwrapped, elementOf, countOf, typeAt, mayBeAbsent}
 use Rattle.jer.specs.Value.{Val, Vals, Parts, countPresent}
 use Rattle.jer.specs.Rows.{ValueRow}
 use Rattle.jer.specs.Judge.{Took, wrong, Taker, isAbsent, takeParts, takeItems, rightRow, leaf, stringRow, sized, inBracket, takeSequence, takeList, takeChoice, takeRow, onRow, takeUnwrapped, takeValue}
@@ -95,7 +95,7 @@ module _ (rows : List ValueRow) where
     row-rest : (r : ℕ) (w : ValueRow) (ws : List ValueRow) (q o : ℕ) → ws ≡ drop (suc q) rows → After (Rest Val) (takeRow i t pool r w ws q o)
     unfolding takeRow
     row-rest r w ws q o e =
-        after-if (Rest Val) (eqb (w .kind) (kindOf t r)) _ q (λ _. pick-within (After (Rest Val)) (w .kind) _ (wrong q)
+        after-if (Rest Val) (eqb (w .kind) (tagOf t r)) _ q (λ _. pick-within (After (Rest Val)) (kindOf t r) _ (wrong q)
         ((λ _. leaf-rest _ _ w ws q o e)
         ⨾ (λ _. right-rest _ _ ws q o e)
         ⨾ (λ _. leaf-rest _ _ w ws q o e)

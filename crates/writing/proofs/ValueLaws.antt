@@ -8,10 +8,11 @@ use native.Mathlib.Omega.{arith}
 use native.Mathlib.Numerals.{add-one}
 use lib.Dec.{eqb, ltb}
 use lib.ListN.{drop}
-use borrow.Author.Tests.{ne-eqb, lt-ltb, le-ltb, ltb-true}
+use borrow.Author.Tests.{eqb-true, eq-eqb, ne-eqb, lt-ltb, le-ltb, ltb-true}
 use Rattle.json.specs.Bytes.{pick}
 use Rattle.json.proofs.SoundRows.{pick-within, _⨾_, only}
-use Rattle.jer.specs.Table.{Table, CHOICE, kindOf, isUnwrapped, countOf, memberRow, typeAt, nameIn, nameAt}
+use Rattle.jer.specs.Table.{Table, CHOICE, tagOf, kindOf, isUnwrapped, countOf, memberRow, typeAt, nameIn, nameAt}
+use Rattle.jer.proofs.Forms.{kind-tag}
 use Rattle.jer.specs.Value.{Val, vChoice}
 use Rattle.jer.specs.Rows.{ValueRow, row}
 use Rattle.jer.specs.Judge.{Took, took, wrong, andThen, Taker, sized, inBracket, takeSequence, takeList, takeChoice, takeRow, onRow, takeUnwrapped, takeValue}
@@ -49,7 +50,7 @@ bracket-none c q F = refl
 module _ (i : Option Taker) (t : Table) (pool : List ℕ) (r : ℕ) (w : ValueRow) (us : List ValueRow) (q o : ℕ) where
   row-other : (w .kind ≡ kindOf t r → ⊥) → takeRow i t pool r w us q o ≡ wrong q
   unfolding takeRow
-  row-other h = rw (ne-eqb (w .kind) (kindOf t r) h, takeRow)
+  row-other h = rw (ne-eqb (w .kind) (tagOf t r) (λ x. h (x ∙ sym (kind-tag t r))), takeRow)
 
   row-wrong : 6 ≤ w .kind
       → (w .kind ≡ 6 → inBracket i (eqb (w .b) 0) q (takeSequence t r w us q o) ≡ wrong q)
@@ -57,14 +58,15 @@ module _ (i : Option Taker) (t : Table) (pool : List ℕ) (r : ℕ) (w : ValueRo
       → (w .kind ≡ 8 → inBracket i (ltb (w .a) (countOf t r) && eqb (w .b) 0) q (takeChoice t r w us q o) ≡ wrong q)
       → takeRow i t pool r w us q o ≡ wrong q
   unfolding takeRow
-  row-wrong l x y z = go (eqb (w .kind) (kindOf t r)) refl
+  row-wrong l x y z = go (eqb (w .kind) (tagOf t r)) refl
     where
-      go : (c : Bool) → eqb (w .kind) (kindOf t r) ≡ c → takeRow i t pool r w us q o ≡ wrong q
+      go : (c : Bool) → eqb (w .kind) (tagOf t r) ≡ c → takeRow i t pool r w us q o ≡ wrong q
       go false e = rw (e, takeRow)
       go true e =
-          rw (e, takeRow) (pick-within (λ (k : Took Val). k ≡ wrong q) (w .kind) _ (wrong q)
+          let s : w .kind ≡ kindOf t r = eqb-true (w .kind) (tagOf t r) e ∙ sym (kind-tag t r) in
+          rw (e, takeRow) (pick-within (λ (k : Took Val). k ≡ wrong q) (kindOf t r) _ (wrong q)
           ((λ j. absurd (omega arith)) ⨾ (λ j. absurd (omega arith)) ⨾ (λ j. absurd (omega arith)) ⨾ (λ j. absurd (omega arith)) ⨾ (λ j. absurd (omega arith)) ⨾ (λ j. absurd (omega arith))
-          ⨾ (λ j. x (only j)) ⨾ (λ j. y (only j)) ⨾ (λ j. z (only j)) ⨾ tt)
+          ⨾ (λ j. x (s ∙ only j)) ⨾ (λ j. y (s ∙ only j)) ⨾ (λ j. z (s ∙ only j)) ⨾ tt)
           refl)
 
 -- ---- a row whose kind has parts, and is right so far
@@ -72,15 +74,15 @@ module _ (i : Option Taker) (t : Table) (pool : List ℕ) (r : ℕ) (w : ValueRo
 module _ (f : Taker) (t : Table) (pool : List ℕ) (r a n : ℕ) (us : List ValueRow) (q o : ℕ) where
   row-seq : {k b : ℕ} → k ≡ 6 → k ≡ kindOf t r → b ≡ 0 → takeRow (some f) t pool r (row k a b n) us q o ≡ takeSequence t r (row k a b n) us q o f
   unfolding takeRow pick inBracket
-  row-seq e h z = rw (e, z) (let m : kindOf t r ≡ 6 = omega arith in rw (m, takeRow))
+  row-seq {k} e h z = rw (eq-eqb k (tagOf t r) (h ∙ kind-tag t r), takeRow) (rw (sym h ∙ e) (rw z))
 
   row-list : {k b : ℕ} → k ≡ 7 → k ≡ kindOf t r → b ≡ 0 → takeRow (some f) t pool r (row k a b n) us q o ≡ takeList t r (row k a b n) us q o f
   unfolding takeRow pick inBracket
-  row-list e h z = rw (e, z) (let m : kindOf t r ≡ 7 = omega arith in rw (m, takeRow))
+  row-list {k} e h z = rw (eq-eqb k (tagOf t r) (h ∙ kind-tag t r), takeRow) (rw (sym h ∙ e) (rw z))
 
   row-choice : {k b : ℕ} → k ≡ 8 → k ≡ kindOf t r → b ≡ 0 → a < countOf t r → takeRow (some f) t pool r (row k a b n) us q o ≡ takeChoice t r (row k a b n) us q o f
   unfolding takeRow pick inBracket
-  row-choice e h z l = rw (e, z) (let m : kindOf t r ≡ 8 = omega arith in rw (m, takeRow) (rw (lt-ltb a (countOf t r) l, inBracket)))
+  row-choice {k} e h z l = rw (eq-eqb k (tagOf t r) (h ∙ kind-tag t r), takeRow) (rw (sym h ∙ e) (rw z (rw (lt-ltb a (countOf t r) l, inBracket))))
 
 inner-is : (d : ℕ) (t : Table) (pool : List ℕ) → (d ≡ 0 → ⊥) → inner d t pool ≡ some (takeValue (d - 1) t pool)
 unfolding inner

@@ -1,4 +1,4 @@
--- Made by tools/answers.py from answers/cycle/+array+choice+each_member+list+object+plain+value.ans: edit that. 60250a6900dc05c4
+-- Made by tools/answers.py from answers/cycle/+array+choice+each_member+list+object+plain+value.ans: edit that. d22de34f4f38ce37
 use Prim.Native.Nat.{ℕ, _<_, _≤_, _+_, _-_, _*_}
 use mathlib.Core.Path.{_≡_, refl, sym, ap, _∙_}
 use native.Mathlib.Omega.{arith}
@@ -15,13 +15,13 @@ use Rattle.scan.proofs.WithinLaws.{space-within}
 use Rattle.tokens.specs.Places.{pastSpace}
 use Rattle.tokens.specs.Strings.{denoted}
 use Rattle.typed.specs.Cycle.{limit, plainAt}
+use Rattle.types.proofs.RowLaws.{kind-of}
 use Rattle.typed.proofs.StoredLaws.{took, not-took, whole-list, whole-seq, whole-choice, closed, along, reads-no}
 use Rattle.typed.proofs.ListLaws.{Near, near-first, near-after, near-part, near-shut, Loop, loop-start, loop-shut, loop-full, loop-refused, loop-more}
 use Rattle.typed.proofs.SequenceLaws.{Elements, elements-start, elements-absent, elements-lost, elements-null, elements-refused, elements-more, near-absent, near-follows, near-there, InOrder, order-start, order-missing, order-absent, order-refused, order-more, order-end, object-ok, object-no, member-is, there-place, object-scanned, object-stopped, scan-near}
 use Rattle.typed.proofs.PlainLaws.{array-kind, object-kind, unwrapped-kind, value-plain, value-none, value-refused, value-picked, plain-leaf, plain-deep, plain-list, plain-array, plain-no-array, plain-choice, plain-object, plain-no-object, token-inside, token-array, token-object, string-not, string-code, positive, sequence-is, choice-not-one, choice-none, choice-refused, choice-picked, missing-small, missing-no, bounded-reads, bounded-near, leaf-near}
 use Rattle.typed.proofs.CycleLaws.{passed, failed, given-below, given-type, given-part, given-one, over-ok, over-no, list-ok, list-no, array-no, array-end, found-some, found-none, at-row, at-place, one-near, unknown-reads, unknown-over}
 use Rattle.places.proofs.MeaningNames.{alternative-found, position-found}
-use Rattle.types.specs.declared.row.Row.{Row}
 use borrow.Author.Needs.{needs}
 use borrow.Fn.Kinds.{In}
 use borrow.Fn.PlainCycle.{Measures, is, falls, and}
@@ -958,7 +958,7 @@ plain-at-requires t c κs = search needs
 plain-list-requires : (t : ℕ) → plain-lts.Need-list-requires (plain-calls t) (plain-at t) plain.Post
 plain-list-requires t c κs =
     let entry = (c .before .before .before .before .before .before .before .before .before .before .before .before .before) in
-    (omega arith, ((c .before .before .before .before .before .before .before .before .before .before .before .before .before .pre .1 .0), (token-inside (c .before .before .before .before .before .before .before .before .before .before .before .before .before .args .s .now) (c .before .before .before .before .before .before .before .before .before .before .before .before .before .args .p) (λ e. omega (arith, c .before .before .before .before .before .before .before .before .before .before .before .before .before .pre .1 .1, c .before .before .before .before .before .before .before .if1 .left, e)), positive (c .before .before .before .before .before .before .before .before .before .before .before .before .before .args .d) (c .before .before .before .before .before .before .if2 .left), ap (λ (w : Row). w .kind) (sym (c .before .before .before .before .before .at .ensures (c .before .before .before .before .before .before .before .before .before .before .before .before .before .args .names .now))) ∙ c .before .before .if4 .taken)))
+    (omega arith, ((c .before .before .before .before .before .before .before .before .before .before .before .before .before .pre .1 .0), (token-inside (c .before .before .before .before .before .before .before .before .before .before .before .before .before .args .s .now) (c .before .before .before .before .before .before .before .before .before .before .before .before .before .args .p) (λ e. omega (arith, c .before .before .before .before .before .before .before .before .before .before .before .before .before .pre .1 .1, c .before .before .before .before .before .before .before .if1 .left, e)), positive (c .before .before .before .before .before .before .before .before .before .before .before .before .before .args .d) (c .before .before .before .before .before .before .if2 .left), sym (kind-of _ (c .before .before .before .before .before .before .before .before .before .before .before .before .before .args .row) (c .before .before .before .before .before .at .ensures (c .before .before .before .before .before .before .before .before .before .before .before .before .before .args .names .now))) ∙ c .before .before .if4 .taken)))
 
 plain-same-length-3 : (t : ℕ) → plain-lts.Need-same-length-3 (plain-calls t) (plain-at t) plain.Post
 plain-same-length-3 t c = search needs
@@ -971,7 +971,7 @@ plain-returns-3 t c =
     let names = c .before .before .before .before .before .before .before .before .before .before .before .before .before .before .before .before .before .before .args .names .now in
     let tab = table (c .before .before .before .before .before .before .before .before .before .before .before .before .before .before .before .before .before .before .args .types .now) names in
     let s = c .before .before .before .before .before .before .before .before .before .before .before .before .before .before .before .before .before .before .args .s .now in
-    along (ap (λ (x : Res (Got Val)). bind x (within tab (c .before .before .before .before .before .before .before .before .before .before .before .before .before .before .before .before .before .before .args .row))) (plain-list tab s (c .before .before .before .before .before .before .before .before .before .before .before .before .before .before .before .before .before .before .args .row) (c .before .before .before .before .before .before .before .before .before .before .before .before .before .before .before .before .before .before .args .p) (c .before .before .before .before .before .before .before .before .before .before .before .before .before .before .before .before .before .before .args .d) (c .before .before .before .before .before .before .before .before .before .before .before .if2 .left) (token-array (tokenAt s (c .before .before .before .before .before .before .before .before .before .before .before .before .before .before .before .before .before .before .args .p)) (sym (c .before .before .before .before .before .before .before .before .before .before .before .before .before .before .before .before .before .before .pre .1 .1) ∙ c .before .before .before .before .before .before .before .before .before .if3 .taken)) (ap (λ (w : Row). w .kind) (sym (c .before .before .before .before .before .before .before .before .before .before .at .ensures names)) ∙ c .before .before .before .before .before .before .before .if4 .taken))) (c .before .before .before .before .list .ensures)
+    along (ap (λ (x : Res (Got Val)). bind x (within tab (c .before .before .before .before .before .before .before .before .before .before .before .before .before .before .before .before .before .before .args .row))) (plain-list tab s (c .before .before .before .before .before .before .before .before .before .before .before .before .before .before .before .before .before .before .args .row) (c .before .before .before .before .before .before .before .before .before .before .before .before .before .before .before .before .before .before .args .p) (c .before .before .before .before .before .before .before .before .before .before .before .before .before .before .before .before .before .before .args .d) (c .before .before .before .before .before .before .before .before .before .before .before .if2 .left) (token-array (tokenAt s (c .before .before .before .before .before .before .before .before .before .before .before .before .before .before .before .before .before .before .args .p)) (sym (c .before .before .before .before .before .before .before .before .before .before .before .before .before .before .before .before .before .before .pre .1 .1) ∙ c .before .before .before .before .before .before .before .before .before .if3 .taken)) (sym (kind-of _ (c .before .before .before .before .before .before .before .before .before .before .before .before .before .before .before .before .before .before .args .row) (c .before .before .before .before .before .before .before .before .before .before .at .ensures names)) ∙ c .before .before .before .before .before .before .before .if4 .taken))) (c .before .before .before .before .list .ensures)
 
 plain-is-array-requires : (t : ℕ) → plain-lts.Need-is-array-requires (plain-calls t) (plain-at t) plain.Post
 plain-is-array-requires t c κs = search needs
@@ -993,7 +993,7 @@ plain-returns-4 t c =
     let names = c .before .before .before .before .before .before .before .before .before .before .before .before .before .before .before .before .before .before .before .before .args .names .now in
     let tab = table (c .before .before .before .before .before .before .before .before .before .before .before .before .before .before .before .before .before .before .before .before .args .types .now) names in
     let s = c .before .before .before .before .before .before .before .before .before .before .before .before .before .before .before .before .before .before .before .before .args .s .now in
-    along (ap (λ (x : Res (Got Val)). bind x (within tab (c .before .before .before .before .before .before .before .before .before .before .before .before .before .before .before .before .before .before .before .before .args .row))) (plain-array tab s (c .before .before .before .before .before .before .before .before .before .before .before .before .before .before .before .before .before .before .before .before .args .row) (c .before .before .before .before .before .before .before .before .before .before .before .before .before .before .before .before .before .before .before .before .args .p) (c .before .before .before .before .before .before .before .before .before .before .before .before .before .before .before .before .before .before .before .before .args .d) (c .before .before .before .before .before .before .before .before .before .before .before .before .before .if2 .left) (token-array (tokenAt s (c .before .before .before .before .before .before .before .before .before .before .before .before .before .before .before .before .before .before .before .before .args .p)) (sym (c .before .before .before .before .before .before .before .before .before .before .before .before .before .before .before .before .before .before .before .before .pre .1 .1) ∙ c .before .before .before .before .before .before .before .before .before .before .before .if3 .taken)) (λ h. c .before .before .before .before .before .before .before .before .before .if4 .left (sym (ap (λ (w : Row). w .kind) (sym (c .before .before .before .before .before .before .before .before .before .before .before .before .at .ensures names))) ∙ h)) (sym (c .before .before .before .before .before .before .before .before .is-array .ensures _ _ (c .before .before .before .before .before .before .before .before .before .before .before .before .at .ensures names)) ∙ c .before .before .before .before .before .before .before .if5 .taken))) (c .before .before .before .before .array .ensures)
+    along (ap (λ (x : Res (Got Val)). bind x (within tab (c .before .before .before .before .before .before .before .before .before .before .before .before .before .before .before .before .before .before .before .before .args .row))) (plain-array tab s (c .before .before .before .before .before .before .before .before .before .before .before .before .before .before .before .before .before .before .before .before .args .row) (c .before .before .before .before .before .before .before .before .before .before .before .before .before .before .before .before .before .before .before .before .args .p) (c .before .before .before .before .before .before .before .before .before .before .before .before .before .before .before .before .before .before .before .before .args .d) (c .before .before .before .before .before .before .before .before .before .before .before .before .before .if2 .left) (token-array (tokenAt s (c .before .before .before .before .before .before .before .before .before .before .before .before .before .before .before .before .before .before .before .before .args .p)) (sym (c .before .before .before .before .before .before .before .before .before .before .before .before .before .before .before .before .before .before .before .before .pre .1 .1) ∙ c .before .before .before .before .before .before .before .before .before .before .before .if3 .taken)) (λ h. c .before .before .before .before .before .before .before .before .before .if4 .left (sym (sym (kind-of _ (c .before .before .before .before .before .before .before .before .before .before .before .before .before .before .before .before .before .before .before .before .args .row) (c .before .before .before .before .before .before .before .before .before .before .before .before .at .ensures names))) ∙ h)) (sym (c .before .before .before .before .before .before .before .before .is-array .ensures _ _ (c .before .before .before .before .before .before .before .before .before .before .before .before .at .ensures names)) ∙ c .before .before .before .before .before .before .before .if5 .taken))) (c .before .before .before .before .array .ensures)
 
 plain-refused-requires-2 : (t : ℕ) → plain-lts.Need-refused-requires-2 (plain-calls t) (plain-at t) plain.Post
 plain-refused-requires-2 t c κs = search needs
@@ -1003,12 +1003,12 @@ plain-returns-5 t c =
     let names = c .before .before .before .before .before .before .before .before .before .before .before .before .before .before .args .names .now in
     let tab = table (c .before .before .before .before .before .before .before .before .before .before .before .before .before .before .args .types .now) names in
     let s = c .before .before .before .before .before .before .before .before .before .before .before .before .before .before .args .s .now in
-    rw (c .refused2 .ensures) (reads-no (over-no tab (c .before .before .before .before .before .before .before .before .before .before .before .before .before .before .args .row) (plain-no-array tab s (c .before .before .before .before .before .before .before .before .before .before .before .before .before .before .args .row) (c .before .before .before .before .before .before .before .before .before .before .before .before .before .before .args .p) (c .before .before .before .before .before .before .before .before .before .before .before .before .before .before .args .d) (c .before .before .before .before .before .before .before .if2 .left) (token-array (tokenAt s (c .before .before .before .before .before .before .before .before .before .before .before .before .before .before .args .p)) (sym (c .before .before .before .before .before .before .before .before .before .before .before .before .before .before .pre .1 .1) ∙ c .before .before .before .before .before .if3 .taken)) (λ h. c .before .before .before .if4 .left (sym (ap (λ (w : Row). w .kind) (sym (c .before .before .before .before .before .before .at .ensures names))) ∙ h)) (sym (c .before .before .is-array .ensures _ _ (c .before .before .before .before .before .before .at .ensures names)) ∙ c .before .if5 .left))))
+    rw (c .refused2 .ensures) (reads-no (over-no tab (c .before .before .before .before .before .before .before .before .before .before .before .before .before .before .args .row) (plain-no-array tab s (c .before .before .before .before .before .before .before .before .before .before .before .before .before .before .args .row) (c .before .before .before .before .before .before .before .before .before .before .before .before .before .before .args .p) (c .before .before .before .before .before .before .before .before .before .before .before .before .before .before .args .d) (c .before .before .before .before .before .before .before .if2 .left) (token-array (tokenAt s (c .before .before .before .before .before .before .before .before .before .before .before .before .before .before .args .p)) (sym (c .before .before .before .before .before .before .before .before .before .before .before .before .before .before .pre .1 .1) ∙ c .before .before .before .before .before .if3 .taken)) (λ h. c .before .before .before .if4 .left (sym (sym (kind-of _ (c .before .before .before .before .before .before .before .before .before .before .before .before .before .before .args .row) (c .before .before .before .before .before .before .at .ensures names))) ∙ h)) (sym (c .before .before .is-array .ensures _ _ (c .before .before .before .before .before .before .at .ensures names)) ∙ c .before .if5 .left))))
 
 plain-choice-requires : (t : ℕ) → plain-lts.Need-choice-requires (plain-calls t) (plain-at t) plain.Post
 plain-choice-requires t c κs =
     let entry = (c .before .before .before .before .before .before .before .before .before .before .before .before .before) in
-    (omega arith, ((c .before .before .before .before .before .before .before .before .before .before .before .before .before .pre .1 .0), (token-inside (c .before .before .before .before .before .before .before .before .before .before .before .before .before .args .s .now) (c .before .before .before .before .before .before .before .before .before .before .before .before .before .args .p) (λ e. omega (arith, c .before .before .before .before .before .before .before .before .before .before .before .before .before .pre .1 .1, c .before .before .before .before .before .before .before .if1 .left, e)), positive (c .before .before .before .before .before .before .before .before .before .before .before .before .before .args .d) (c .before .before .before .before .before .before .if2 .left), ap (λ (w : Row). w .kind) (sym (c .before .before .before .before .before .at .ensures (c .before .before .before .before .before .before .before .before .before .before .before .before .before .args .names .now))) ∙ c .before .before .if6 .taken)))
+    (omega arith, ((c .before .before .before .before .before .before .before .before .before .before .before .before .before .pre .1 .0), (token-inside (c .before .before .before .before .before .before .before .before .before .before .before .before .before .args .s .now) (c .before .before .before .before .before .before .before .before .before .before .before .before .before .args .p) (λ e. omega (arith, c .before .before .before .before .before .before .before .before .before .before .before .before .before .pre .1 .1, c .before .before .before .before .before .before .before .if1 .left, e)), positive (c .before .before .before .before .before .before .before .before .before .before .before .before .before .args .d) (c .before .before .before .before .before .before .if2 .left), sym (kind-of _ (c .before .before .before .before .before .before .before .before .before .before .before .before .before .args .row) (c .before .before .before .before .before .at .ensures (c .before .before .before .before .before .before .before .before .before .before .before .before .before .args .names .now))) ∙ c .before .before .if6 .taken)))
 
 plain-same-length-7 : (t : ℕ) → plain-lts.Need-same-length-7 (plain-calls t) (plain-at t) plain.Post
 plain-same-length-7 t c = search needs
@@ -1022,7 +1022,7 @@ plain-returns-6 t c =
     let tab = table (c .before .before .before .before .before .before .before .before .before .before .before .before .before .before .before .before .before .before .args .types .now) names in
     let s = c .before .before .before .before .before .before .before .before .before .before .before .before .before .before .before .before .before .before .args .s .now in
     let pre = c .before .before .before .before .before .before .before .before .before .before .before .before .before .before .before .before .before .before .pre .1 .1 in
-    along (ap (λ (x : Res (Got Val)). bind x (within tab (c .before .before .before .before .before .before .before .before .before .before .before .before .before .before .before .before .before .before .args .row))) (plain-choice tab s (c .before .before .before .before .before .before .before .before .before .before .before .before .before .before .before .before .before .before .args .row) (c .before .before .before .before .before .before .before .before .before .before .before .before .before .before .before .before .before .before .args .p) (c .before .before .before .before .before .before .before .before .before .before .before .before .before .before .before .before .before .before .args .d) (c .before .before .before .before .before .before .before .before .before .before .before .if2 .left) (token-object (tokenAt s (c .before .before .before .before .before .before .before .before .before .before .before .before .before .before .before .before .before .before .args .p)) (rw (← pre) (c .before .before .before .before .before .before .before .before .before .before .before .before .if1 .left)) (λ h. c .before .before .before .before .before .before .before .before .before .if3 .left (pre ∙ h))) (ap (λ (w : Row). w .kind) (sym (c .before .before .before .before .before .before .before .before .before .before .at .ensures names)) ∙ c .before .before .before .before .before .before .before .if6 .taken))) (c .before .before .before .before .choice .ensures)
+    along (ap (λ (x : Res (Got Val)). bind x (within tab (c .before .before .before .before .before .before .before .before .before .before .before .before .before .before .before .before .before .before .args .row))) (plain-choice tab s (c .before .before .before .before .before .before .before .before .before .before .before .before .before .before .before .before .before .before .args .row) (c .before .before .before .before .before .before .before .before .before .before .before .before .before .before .before .before .before .before .args .p) (c .before .before .before .before .before .before .before .before .before .before .before .before .before .before .before .before .before .before .args .d) (c .before .before .before .before .before .before .before .before .before .before .before .if2 .left) (token-object (tokenAt s (c .before .before .before .before .before .before .before .before .before .before .before .before .before .before .before .before .before .before .args .p)) (rw (← pre) (c .before .before .before .before .before .before .before .before .before .before .before .before .if1 .left)) (λ h. c .before .before .before .before .before .before .before .before .before .if3 .left (pre ∙ h))) (sym (kind-of _ (c .before .before .before .before .before .before .before .before .before .before .before .before .before .before .before .before .before .before .args .row) (c .before .before .before .before .before .before .before .before .before .before .at .ensures names)) ∙ c .before .before .before .before .before .before .before .if6 .taken))) (c .before .before .before .before .choice .ensures)
 
 plain-is-array-requires-2 : (t : ℕ) → plain-lts.Need-is-array-requires-2 (plain-calls t) (plain-at t) plain.Post
 plain-is-array-requires-2 t c κs = search needs
@@ -1046,7 +1046,7 @@ plain-returns-7 t c =
     let tab = table (c .before .before .before .before .before .before .before .before .before .before .before .before .before .before .before .before .before .before .before .before .before .args .types .now) names in
     let s = c .before .before .before .before .before .before .before .before .before .before .before .before .before .before .before .before .before .before .before .before .before .args .s .now in
     let pre = c .before .before .before .before .before .before .before .before .before .before .before .before .before .before .before .before .before .before .before .before .before .pre .1 .1 in
-    along (ap (λ (x : Res (Got Val)). bind x (within tab (c .before .before .before .before .before .before .before .before .before .before .before .before .before .before .before .before .before .before .before .before .before .args .row))) (plain-object tab s (c .before .before .before .before .before .before .before .before .before .before .before .before .before .before .before .before .before .before .before .before .before .args .row) (c .before .before .before .before .before .before .before .before .before .before .before .before .before .before .before .before .before .before .before .before .before .args .p) (c .before .before .before .before .before .before .before .before .before .before .before .before .before .before .before .before .before .before .before .before .before .args .d) (c .before .before .before .before .before .before .before .before .before .before .before .before .before .before .if2 .left) (token-object (tokenAt s (c .before .before .before .before .before .before .before .before .before .before .before .before .before .before .before .before .before .before .before .before .before .args .p)) (rw (← pre) (c .before .before .before .before .before .before .before .before .before .before .before .before .before .before .before .if1 .left)) (λ h. c .before .before .before .before .before .before .before .before .before .before .before .before .if3 .left (pre ∙ h))) (λ h. c .before .before .before .before .before .before .before .before .before .before .if6 .left (sym (ap (λ (w : Row). w .kind) (sym (c .before .before .before .before .before .before .before .before .before .before .before .before .before .at .ensures names))) ∙ h)) (sequence-is tab (c .before .before .before .before .before .before .before .before .before .before .before .before .before .before .before .before .before .before .before .before .before .args .row) (c .before .before .before .before .before .before .before .before .before .before .before .before .before .at .ensures names) (c .before .before .before .before .before .before .before .before .is-array2 .ensures _ _ (c .before .before .before .before .before .before .before .before .before .before .before .before .before .at .ensures names)) ∙ c .before .before .before .before .before .before .before .if7 .taken))) (c .before .before .before .before .object .ensures)
+    along (ap (λ (x : Res (Got Val)). bind x (within tab (c .before .before .before .before .before .before .before .before .before .before .before .before .before .before .before .before .before .before .before .before .before .args .row))) (plain-object tab s (c .before .before .before .before .before .before .before .before .before .before .before .before .before .before .before .before .before .before .before .before .before .args .row) (c .before .before .before .before .before .before .before .before .before .before .before .before .before .before .before .before .before .before .before .before .before .args .p) (c .before .before .before .before .before .before .before .before .before .before .before .before .before .before .before .before .before .before .before .before .before .args .d) (c .before .before .before .before .before .before .before .before .before .before .before .before .before .before .if2 .left) (token-object (tokenAt s (c .before .before .before .before .before .before .before .before .before .before .before .before .before .before .before .before .before .before .before .before .before .args .p)) (rw (← pre) (c .before .before .before .before .before .before .before .before .before .before .before .before .before .before .before .if1 .left)) (λ h. c .before .before .before .before .before .before .before .before .before .before .before .before .if3 .left (pre ∙ h))) (λ h. c .before .before .before .before .before .before .before .before .before .before .if6 .left (sym (sym (kind-of _ (c .before .before .before .before .before .before .before .before .before .before .before .before .before .before .before .before .before .before .before .before .before .args .row) (c .before .before .before .before .before .before .before .before .before .before .before .before .before .at .ensures names))) ∙ h)) (sequence-is tab (c .before .before .before .before .before .before .before .before .before .before .before .before .before .before .before .before .before .before .before .before .before .args .row) (c .before .before .before .before .before .before .before .before .before .before .before .before .before .at .ensures names) (c .before .before .before .before .before .before .before .before .is-array2 .ensures _ _ (c .before .before .before .before .before .before .before .before .before .before .before .before .before .at .ensures names)) ∙ c .before .before .before .before .before .before .before .if7 .taken))) (c .before .before .before .before .object .ensures)
 
 plain-refused-requires-3 : (t : ℕ) → plain-lts.Need-refused-requires-3 (plain-calls t) (plain-at t) plain.Post
 plain-refused-requires-3 t c κs = search needs
@@ -1057,7 +1057,7 @@ plain-returns-8 t c =
     let tab = table (c .before .before .before .before .before .before .before .before .before .before .before .before .before .before .before .args .types .now) names in
     let s = c .before .before .before .before .before .before .before .before .before .before .before .before .before .before .before .args .s .now in
     let pre = c .before .before .before .before .before .before .before .before .before .before .before .before .before .before .before .pre .1 .1 in
-    rw (c .refused3 .ensures) (reads-no (over-no tab (c .before .before .before .before .before .before .before .before .before .before .before .before .before .before .before .args .row) (plain-no-object tab s (c .before .before .before .before .before .before .before .before .before .before .before .before .before .before .before .args .row) (c .before .before .before .before .before .before .before .before .before .before .before .before .before .before .before .args .p) (c .before .before .before .before .before .before .before .before .before .before .before .before .before .before .before .args .d) (c .before .before .before .before .before .before .before .before .if2 .left) (token-object (tokenAt s (c .before .before .before .before .before .before .before .before .before .before .before .before .before .before .before .args .p)) (rw (← pre) (c .before .before .before .before .before .before .before .before .before .if1 .left)) (λ h. c .before .before .before .before .before .before .if3 .left (pre ∙ h))) (λ h. c .before .before .before .before .if6 .left (sym (ap (λ (w : Row). w .kind) (sym (c .before .before .before .before .before .before .before .at .ensures names))) ∙ h)) (sequence-is tab (c .before .before .before .before .before .before .before .before .before .before .before .before .before .before .before .args .row) (c .before .before .before .before .before .before .before .at .ensures names) (c .before .before .is-array2 .ensures _ _ (c .before .before .before .before .before .before .before .at .ensures names)) ∙ c .before .if7 .left))))
+    rw (c .refused3 .ensures) (reads-no (over-no tab (c .before .before .before .before .before .before .before .before .before .before .before .before .before .before .before .args .row) (plain-no-object tab s (c .before .before .before .before .before .before .before .before .before .before .before .before .before .before .before .args .row) (c .before .before .before .before .before .before .before .before .before .before .before .before .before .before .before .args .p) (c .before .before .before .before .before .before .before .before .before .before .before .before .before .before .before .args .d) (c .before .before .before .before .before .before .before .before .if2 .left) (token-object (tokenAt s (c .before .before .before .before .before .before .before .before .before .before .before .before .before .before .before .args .p)) (rw (← pre) (c .before .before .before .before .before .before .before .before .before .if1 .left)) (λ h. c .before .before .before .before .before .before .if3 .left (pre ∙ h))) (λ h. c .before .before .before .before .if6 .left (sym (sym (kind-of _ (c .before .before .before .before .before .before .before .before .before .before .before .before .before .before .before .args .row) (c .before .before .before .before .before .before .before .at .ensures names))) ∙ h)) (sequence-is tab (c .before .before .before .before .before .before .before .before .before .before .before .before .before .before .before .args .row) (c .before .before .before .before .before .before .before .at .ensures names) (c .before .before .is-array2 .ensures _ _ (c .before .before .before .before .before .before .before .at .ensures names)) ∙ c .before .if7 .left))))
 
 value-token-at-requires : (t : ℕ) → value-lts.Need-token-at-requires (value-calls t) (value-at t) value.Post
 value-token-at-requires t c κs = search needs

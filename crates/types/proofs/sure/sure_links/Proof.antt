@@ -1,9 +1,8 @@
--- Made by tools/answers.py from answers/sure/sure_links.ans: edit that. a9e41fea7ca5fb6b
-use mathlib.Core.Logic.{inl, inr}
-use borrow.Author.Tests.{not-false}
+-- Made by tools/answers.py from answers/sure/sure_links.ans: edit that. b55ed48b5ac6b7b8
 use Rattle.jer.specs.Table.{table}
-use Rattle.types.proofs.SureLaws.{no-true, block-room, points-room}
-use Rattle.types.proofs.SureMembers.{links-type, links-enumerated, links-array, links-sequence, links-unwrapped, links-choice, links-none}
+use Rattle.types.proofs.RowLaws.{layout-told}
+use Rattle.types.proofs.SureLaws.{lists-room, names-room}
+use Rattle.types.proofs.SureMembers.{links-bare, links-element, links-member, links-unknown}
 use borrow.Author.Needs.{needs}
 use Rattle.types.proofs.sure.sure_links.Statement.{statement}
 use Rattle.types.proofs.sure.sure_links.Tie as tie
@@ -11,125 +10,108 @@ use Rattle.types.proofs.sure.sure_links.Tie as tie
 row-in-requires : tie.Need-row-in-requires
 row-in-requires c κs = search needs
 
+carries-requires : tie.Need-carries-requires
+carries-requires c κs = search needs
+
+enum-told : tie.Need-enum-told
+enum-told c = search needs
+
+enum-told-2 : tie.Need-enum-told-2
+enum-told-2 c = search needs
+
+sure-holder-requires : tie.Need-sure-holder-requires
+sure-holder-requires c κs = search needs
+
+enum-told-3 : tie.Need-enum-told-3
+enum-told-3 c = search needs
+
 wide-requires : tie.Need-wide-requires
 wide-requires c κs = search needs
 
 holds-type-requires : tie.Need-holds-type-requires
 holds-type-requires c κs =
-    let a = c .before .before .before .before .before .args in
+    let a = c .before .before .before .before .before .before .before .args in
     let ns = a .names .now in
     let t = table (a .rows .now) ns in
-    points-room t (a .r) (c .before .before .row-in .ensures ns) (c .before .before .before .before .before .pre .1 (a .r) (c .before .before .before .before .before .pre .0)) (c .before .match .keys1) (c .wide .ensures .0)
+    let e = c .before .before .before .before .row-in .ensures ns in
+    let l = layout-told t (a .r) e (c .before .before .before .carries .ensures) in
+    lists-room t (a .r) e (c .before .before .before .before .before .before .before .pre .1 (a .r) (c .before .before .before .before .before .before .before .pre .0)) l (c .before .enum-told3 .given .1) (c .wide .ensures .0)
 
-sure-members-requires : tie.Need-sure-members-requires
-sure-members-requires c κs =
-    let a = c .before .before .before .before .args in
-    let ns = a .names .now in
-    let t = table (a .rows .now) ns in
-    (c .before .before .before .before .pre .0, c .before .before .before .before .pre .1, block-room t (a .r) (c .before .row-in .ensures ns) (c .before .before .before .before .pre .1 (a .r) (c .before .before .before .before .pre .0)) (inl (c .match .keys2)))
+enum-told-4 : tie.Need-enum-told-4
+enum-told-4 c = search needs
 
-sure-members-requires-2 : tie.Need-sure-members-requires-2
-sure-members-requires-2 c κs =
-    let a = c .before .before .before .before .args in
+wide-requires-2 : tie.Need-wide-requires-2
+wide-requires-2 c κs = search needs
+
+holds-type-requires-2 : tie.Need-holds-type-requires-2
+holds-type-requires-2 c κs =
+    let a = c .before .before .before .before .before .before .before .args in
     let ns = a .names .now in
     let t = table (a .rows .now) ns in
-    (c .before .before .before .before .pre .0, c .before .before .before .before .pre .1, block-room t (a .r) (c .before .row-in .ensures ns) (c .before .before .before .before .pre .1 (a .r) (c .before .before .before .before .pre .0)) (inr (inl (c .match .keys3))))
+    let e = c .before .before .before .before .row-in .ensures ns in
+    let l = layout-told t (a .r) e (c .before .before .before .carries .ensures) in
+    names-room t (a .r) e (c .before .before .before .before .before .before .before .pre .1 (a .r) (c .before .before .before .before .before .before .before .pre .0)) l (c .before .enum-told4 .given .1) (c .wide2 .ensures .0)
+
+enum-told-5 : tie.Need-enum-told-5
+enum-told-5 c = search needs
 
 returns : tie.Need-returns
-returns c = λ q. no-true q
-
-is-array-requires : tie.Need-is-array-requires
-is-array-requires c κs = search needs
-
-good-array-requires : tie.Need-good-array-requires
-good-array-requires c κs = search needs
+returns c =
+    let a = c .before .before .before .before .before .before .args in
+    let ns = a .names .now in
+    let t = table (a .rows .now) ns in
+    let e = c .before .before .before .row-in .ensures ns in
+    let l = layout-told t (a .r) e (c .before .before .carries .ensures) in
+    λ q. links-bare t (a .r) e l (c .enum-told .given .1)
 
 returns-2 : tie.Need-returns-2
-returns-2 c =
-    let a = c .before .before .before .before .before .before .before .before .before .args in
-    let ns = a .names .now in
-    let t = table (a .rows .now) ns in
-    λ q. links-array t (a .r) (c .before .before .before .before .before .before .row-in .ensures ns) (c .before .before .before .before .before .match .keys3) (c .before .before .before .before .sure-members2 .ensures (not-false _ (c .before .before .before .if1 .left))) (c .before .before .is-array .ensures _ _ (c .before .before .before .before .before .before .row-in .ensures ns)) (c .before .if2 .taken) (c .good-array .ensures) q
-
-sure-members-requires-3 : tie.Need-sure-members-requires-3
-sure-members-requires-3 c κs =
-    let a = c .before .before .before .before .args in
-    let ns = a .names .now in
-    let t = table (a .rows .now) ns in
-    (c .before .before .before .before .pre .0, c .before .before .before .before .pre .1, block-room t (a .r) (c .before .row-in .ensures ns) (c .before .before .before .before .pre .1 (a .r) (c .before .before .before .before .pre .0)) (inr (inr (c .match .keys4))))
+returns-2 c = c .sure-holder .ensures
 
 returns-3 : tie.Need-returns-3
-returns-3 c = λ q. no-true q
-
-is-unwrapped-requires : tie.Need-is-unwrapped-requires
-is-unwrapped-requires c κs = search needs
-
-good-unwrapped-requires : tie.Need-good-unwrapped-requires
-good-unwrapped-requires c κs = search needs
+returns-3 c =
+    let a = c .before .before .before .before .before .before .before .before .args in
+    let ns = a .names .now in
+    let t = table (a .rows .now) ns in
+    let e = c .before .before .before .before .before .row-in .ensures ns in
+    let l = layout-told t (a .r) e (c .before .before .before .before .carries .ensures) in
+    λ q. links-element t (a .r) e l (c .before .wide .ensures .0) (c .holds-type .ensures ns) (c .before .before .enum-told3 .given .1) q
 
 returns-4 : tie.Need-returns-4
 returns-4 c =
-    let a = c .before .before .before .before .before .before .before .before .before .args in
+    let a = c .before .before .before .before .before .before .before .before .args in
     let ns = a .names .now in
     let t = table (a .rows .now) ns in
-    λ q. links-unwrapped t (a .r) (c .before .before .before .before .before .before .row-in .ensures ns) (c .before .before .before .before .before .match .keys4) (c .before .before .before .before .sure-members3 .ensures (not-false _ (c .before .before .before .if3 .left))) (c .before .before .is-unwrapped .ensures _ _ (c .before .before .before .before .before .before .row-in .ensures ns)) (c .before .if4 .taken) (c .good-unwrapped .ensures) q
+    let e = c .before .before .before .before .before .row-in .ensures ns in
+    let l = layout-told t (a .r) e (c .before .before .before .before .carries .ensures) in
+    λ q. links-member t (a .r) e l (c .before .wide2 .ensures .0) (c .holds-type2 .ensures ns) (c .before .before .enum-told4 .given .1) q
 
 returns-5 : tie.Need-returns-5
 returns-5 c =
     let a = c .before .before .before .before .before .before .args in
     let ns = a .names .now in
     let t = table (a .rows .now) ns in
-    λ q. links-type t (a .r) (c .before .before .before .row-in .ensures ns) (c .before .before .match .keys1) (c .before .wide .ensures .0) (c .holds-type .ensures ns) q
-
-returns-6 : tie.Need-returns-6
-returns-6 c =
-    let a = c .before .before .before .before .before .args in
-    let ns = a .names .now in
-    let t = table (a .rows .now) ns in
-    λ q. links-enumerated t (a .r) (c .before .before .row-in .ensures ns) (c .before .match .keys2) (c .sure-members .ensures q)
-
-returns-7 : tie.Need-returns-7
-returns-7 c =
-    let a = c .before .before .before .before .before .before .before .before .args in
-    let ns = a .names .now in
-    let t = table (a .rows .now) ns in
-    λ q. links-sequence t (a .r) (c .before .before .before .before .before .row-in .ensures ns) (c .before .before .before .before .match .keys3) (c .before .before .before .sure-members2 .ensures (not-false _ (c .before .before .if1 .left))) (c .before .is-array .ensures _ _ (c .before .before .before .before .before .row-in .ensures ns)) (c .if2 .left)
-
-returns-8 : tie.Need-returns-8
-returns-8 c =
-    let a = c .before .before .before .before .before .before .before .before .args in
-    let ns = a .names .now in
-    let t = table (a .rows .now) ns in
-    λ q. links-choice t (a .r) (c .before .before .before .before .before .row-in .ensures ns) (c .before .before .before .before .match .keys4) (c .before .before .before .sure-members3 .ensures (not-false _ (c .before .before .if3 .left))) (c .before .is-unwrapped .ensures _ _ (c .before .before .before .before .before .row-in .ensures ns)) (c .if4 .left)
-
-returns-9 : tie.Need-returns-9
-returns-9 c =
-    let a = c .before .before .before .before .args in
-    let ns = a .names .now in
-    let t = table (a .rows .now) ns in
-    let k = c .match .rest in
-    λ q. links-none t (a .r) (c .before .row-in .ensures ns) (k .0 .0 .0 .1) (k .0 .0 .1) (k .0 .1) (k .1)
+    let e = c .before .before .before .row-in .ensures ns in
+    let l = layout-told t (a .r) e (c .before .before .carries .ensures) in
+    λ q. links-unknown t (a .r) e l (c .enum-told5 .given .1)
 
 pub sure-links-spec : {M : Type 1} → statement M
 sure-links-spec =
     tie.close
     (tie.spec
     row-in-requires
+    carries-requires
+    enum-told
+    enum-told-2
+    sure-holder-requires
+    enum-told-3
     wide-requires
     holds-type-requires
-    sure-members-requires
-    sure-members-requires-2
+    enum-told-4
+    wide-requires-2
+    holds-type-requires-2
+    enum-told-5
     returns
-    is-array-requires
-    good-array-requires
     returns-2
-    sure-members-requires-3
     returns-3
-    is-unwrapped-requires
-    good-unwrapped-requires
     returns-4
-    returns-5
-    returns-6
-    returns-7
-    returns-8
-    returns-9)
+    returns-5)

@@ -1,7 +1,6 @@
--- Made by tools/answers.py from answers/rows/null_at.ans: edit that. 23a3c66d181c2fa2
-use mathlib.Core.Path.{ap}
+-- Made by tools/answers.py from answers/rows/null_at.ans: edit that. e9ac17c387ddbe5e
 use Rattle.jer.specs.Table.{table}
-use Rattle.types.specs.declared.row.Row.{Row}
+use Rattle.types.proofs.RowLaws.{kind-of}
 use Rattle.writing.proofs.RowLaws.{null-row, null-none}
 use borrow.Author.Needs.{needs}
 use Rattle.writing.proofs.rows.null_at.Statement.{statement}
@@ -33,7 +32,7 @@ returns c =
     let a = c .before .before .before .before .before .before .before .before .before .before .before .args in
     let found = rw (c .before .before .before .before .before .before .w .given .1) at (c .before .before .before .before .before .before .before .before .row-at .ensures) in
     let type = c .before .before .before .before .at .ensures in
-    λ ns. null-row (table (a .types .now) ns) (a .r) (found .0) (ap (λ (w : Row). w .kind) (type ns)) (c .is-unwrapped .ensures _ _ (type ns)) (c .before .before .kind-of .ensures ns) (c .before .before .before .type-at .ensures ns)
+    λ ns. null-row (table (a .types .now) ns) (a .r) (found .0) (kind-of _ (a .r) (type ns)) (c .is-unwrapped .ensures _ _ (type ns)) (c .before .before .kind-of .ensures ns) (c .before .before .before .type-at .ensures ns)
 
 returns-2 : tie.Need-returns-2
 returns-2 c =
