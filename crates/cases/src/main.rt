@@ -7,12 +7,12 @@ use lines::shown::put_judged;
 use lines::shown::put_reading;
 use lines::shown::put_writing;
 use lines::taken::first_numbers;
+use slices::part;
 use stdin::Input;
 use stdin::Line;
 use stdin::numbers;
 use stdin::octets;
 use stdin::single;
-use tokens::slices::part;
 
 // Kinds of parts; any other is of inputs to `jerwrite`.
 const TABLE: u32 = 0;

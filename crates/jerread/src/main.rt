@@ -1,8 +1,8 @@
 // `jerread`: three lines of hexadecimal on standard input, type table, names and text; prints the value rows and the pool, or the refusal.
 use libc::STDOUT_FILENO;
 use shell::reads::answer;
+use slices::part;
 use stdin::collect;
-use tokens::slices::part;
 
 // 4,096 rows, a pool of 16,384 bytes and their line feeds are 167,937 bytes at the most.
 fn main() {

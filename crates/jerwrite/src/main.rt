@@ -1,8 +1,8 @@
 // `jerwrite`: four lines of hexadecimal on standard input, type table, names, value rows and pool; prints the text, or the refusal.
 use libc::STDOUT_FILENO;
 use shell::writes::answer;
+use slices::part;
 use stdin::collect;
-use tokens::slices::part;
 
 // A text of 65,536 bytes and its line feed are 131,073 bytes.
 fn main() {

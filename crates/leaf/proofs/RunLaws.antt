@@ -18,7 +18,7 @@ use Rattle.jer.specs.declared.Refusal.{Refusal}
 use Rattle.jer.specs.declared.Refusal.the-variants.{Amounts}
 use Rattle.jer.specs.Rows.{ValueRow, row, absentRow, numbers, above, rowsOf, itemRows, partRows, poolOf, itemPool, partPool}
 use Rattle.jer.proofs.WeightMeasure.{rows-length}
-use Rattle.tokens.proofs.SliceLaws.{sets-append}
+use Rattle.slices.proofs.PartLaws.{sets-append}
 use Rattle.places.specs.ByPlaces.{Got, got, within}
 use Rattle.leaf.specs.declared.Step.the-variants.{Read, Refused}
 use Rattle.leaf.specs.Step.{stepOf, Stepped}

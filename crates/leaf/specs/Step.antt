@@ -4,6 +4,8 @@ use mathlib.Core.Path.{_≡_}
 use mathlib.Core.List.{List}
 use lib.ListN.{length}
 use lib.Seq.{sets}
+use Rattle.jer.specs.declared.Cause.{Cause}
+use Rattle.jer.specs.declared.Refusal.the-variants.{AtByte}
 use Rattle.jer.specs.Table.{Table, table, typeAt, position, Token}
 use Rattle.jer.specs.Value.{Val}
 use Rattle.jer.specs.Answer.{Res, ok, no}
@@ -11,6 +13,7 @@ use Rattle.jer.specs.Rows.{numbers, rowsOf, poolOf}
 use Rattle.jer.specs.Read.{readItem, missingElement}
 use Rattle.tokens.specs.Strings.{denoted, stringEnd}
 use Rattle.places.specs.ByPlaces.{Got, ending, leafAt}
+use Rattle.slices.specs.Lent.{Lent, before, after, tableIn}
 use Rattle.leaf.specs.declared.Step.{Step}
 use Rattle.leaf.specs.declared.Step.the-variants.{Read, Refused}
 
@@ -39,22 +42,29 @@ pub record Stepped (z : Step) (rows₁ rows₀ pool₁ pool₀ : List ℕ) (i o 
   pub rows : RowsStored rows₁ rows₀ i o t r x
   pub pool : PoolStored pool₁ pool₀ o x
 
+abbrev pub refusedAt : Cause → ℕ → Step
+refusedAt cause place = Refused (AtByte cause place)
+
 -- ---- what the readers of leaves do
 
--- a leaf of the token k is read at p and stored from the row i and the pool byte o on
-abbrev pub LeafRead : Token → Table → List ℕ → ℕ → ℕ → ℕ → ℕ → Step → List ℕ → List ℕ → List ℕ → List ℕ → Type 0
-LeafRead k t s row p i o z rows₁ rows₀ pool₁ pool₀ = Stepped z rows₁ rows₀ pool₁ pool₀ i o t row (leafAt t s k row p)
+-- a leaf of the token k is read at a place and stored from a slot of the rows and an offset of the pool on
+abbrev pub LeafRead : Token → Lent → Lent → Lent → ℕ → ℕ → ℕ → ℕ → Step → Lent → Lent → Type 0
+LeafRead k types names s row place slot offset z rows pool =
+    Stepped z (after rows) (before rows) (after pool) (before pool) slot offset (tableIn types names) row (leafAt (tableIn types names) (before s) k row place)
 
 -- one without bytes in the pool, whatever the names and the pool are
-abbrev pub RowRead : Token → List ℕ → List ℕ → ℕ → ℕ → ℕ → Step → List ℕ → List ℕ → Type 0
-RowRead k types s row p i z rows₁ rows₀ = (ns pool : List ℕ) (o : ℕ) → LeafRead k (table types ns) s row p i o z rows₁ rows₀ pool pool
+abbrev pub RowRead : Token → Lent → Lent → ℕ → ℕ → ℕ → Step → Lent → Type 0
+RowRead k types s row place slot z rows =
+    (ns pool : List ℕ) (offset : ℕ) → Stepped z (after rows) (before rows) pool pool slot offset (table (before types) ns) row (leafAt (table (before types) ns) (before s) k row place)
 
 -- an item of an ENUMERATED
-abbrev pub ItemRead : Table → List ℕ → ℕ → ℕ → ℕ → Step → List ℕ → List ℕ → Type 0
-ItemRead t s row p i z rows₁ rows₀ =
-    (pool : List ℕ) (o : ℕ) → Stepped z rows₁ rows₀ pool pool i o t row (ending (stringEnd s (p + 1)) (readItem t row p (position t row (denoted s (p + 1)))))
+abbrev pub ItemRead : Lent → Lent → Lent → ℕ → ℕ → ℕ → Step → Lent → Type 0
+ItemRead types names s row place slot z rows =
+    (pool : List ℕ) (offset : ℕ) → Stepped z (after rows) (before rows) pool pool slot offset (tableIn types names) row
+    (ending (stringEnd (before s) (place + 1)) (readItem (tableIn types names) row place (position (tableIn types names) row (denoted (before s) (place + 1)))))
 
--- a missing element of an array at p, after which next follows
-abbrev pub MissingRead : List ℕ → ℕ → ℕ → ℕ → ℕ → ℕ → Step → List ℕ → List ℕ → Type 0
-MissingRead types row member p i next z rows₁ rows₀ =
-    (ns pool : List ℕ) (o : ℕ) → Stepped z rows₁ rows₀ pool pool i o (table types ns) (typeAt (table types ns) row member) (ending next (missingElement (table types ns) row p member))
+-- a missing element of an array at a place, after which next follows
+abbrev pub MissingRead : Lent → ℕ → ℕ → ℕ → ℕ → ℕ → Step → Lent → Type 0
+MissingRead types row member place slot next z rows =
+    (ns pool : List ℕ) (offset : ℕ) → Stepped z (after rows) (before rows) pool pool slot offset (table (before types) ns) (typeAt (table (before types) ns) row member)
+    (ending next (missingElement (table (before types) ns) row place member))

@@ -36,14 +36,14 @@ pub fn read(next: usize, rows: usize, pool: usize) -> Step
     Step::Read(next, rows, pool)
 }
 
-// Refuses the text at p.
-pub fn refused(cause: Cause, p: usize) -> Step
-    ensures { λ r. ⌜ r ≡ step.Refused (AtByte cause p) ⌝ }
+// Refuses the text at a place.
+pub fn refused(cause: Cause, place: usize) -> Step
+    ensures { λ r. ⌜ r ≡ step.Refused (AtByte cause place) ⌝ }
 {
-    Step::Refused(Refusal::AtByte(cause, p))
+    Step::Refused(Refusal::AtByte(cause, place))
 }
 
-// The leaf of a token at p, of the type at `row`, which is not UNWRAPPED: its row is stored as row i, its bytes in the pool from o on.
+// The leaf of a token at a place, of the type at `row`, which is not UNWRAPPED: its row is stored at a slot, its bytes from an offset on.
 // Token 3, a string, stands in the text (`string-inside` of LeafLaws).
 pub fn leaf(
     types: &[u32],
@@ -53,18 +53,18 @@ pub fn leaf(
     pool: &mut [u8],
     row: usize,
     token: u32,
-    p: usize,
-    i: usize,
-    o: usize,
+    place: usize,
+    slot: usize,
+    offset: usize,
 ) -> Step
-    requires { ⌜ (length (now s) ≤ 65536) × (token ≡ 3 → p ≤ 65536) × (i ≤ 2 ^ 60) ⌝ }
-    ensures { λ r. ⌜ ((k : Token) → token ≡ tokenCode k → LeafRead k (table (now (types .entry)) (now (names .entry))) (now (s .entry)) row p i o r (now (rows .exit)) (now (rows .entry)) (now (pool .exit)) (now (pool .entry))) ⌝ }
+    requires { ⌜ (length (now s) ≤ 65536) × (token ≡ 3 → place ≤ 65536) × (slot ≤ 2 ^ 60) ⌝ }
+    ensures { λ r. ⌜ ((k : Token) → token ≡ tokenCode k → LeafRead k types names s row place slot offset r rows pool) ⌝ }
 {
     match token {
-        NULL => null(types, s, rows, row, p, i),
-        BOOLEAN => boolean(types, s, rows, row, p, i),
-        NUMBER => number(types, s, rows, row, p, i),
-        STRING => string(types, names, s, rows, pool, row, p, i, o),
-        _ => refused(Cause::OtherKind, p),
+        NULL => null(types, s, rows, row, place, slot),
+        BOOLEAN => boolean(types, s, rows, row, place, slot),
+        NUMBER => number(types, s, rows, row, place, slot),
+        STRING => string(types, names, s, rows, pool, row, place, slot, offset),
+        _ => refused(Cause::OtherKind, place),
     }
 }

@@ -13,39 +13,46 @@ use types::token::alternative;
 ghost use Prim.Native.Nat.{_^_, _<_};
 ghost use Rattle.leaf.specs.Step.{MissingRead};
 
-// The null value of the member at the position `member` of the type at `row`, as row i; the array opens at p, and `next` follows its last element.
+// The null value of the member at the position `member` of the type at `row`, at a slot; the array opens at the place, and `next` follows its last element.
 pub fn missing(
     types: &[u32],
     rows: &mut [u32],
     row: usize,
     member: u32,
-    p: usize,
+    place: usize,
     next: usize,
-    i: usize,
+    slot: usize,
 ) -> Step
-    requires { ⌜ i < 2 ^ 60 ⌝ }
-    ensures { λ r. ⌜ MissingRead (now (types .entry)) row member p i next r (now (rows .exit)) (now (rows .entry)) ⌝ }
+    requires { ⌜ slot < 2 ^ 60 ⌝ }
+    ensures { λ r. ⌜ MissingRead types row member place slot next r rows ⌝ }
 {
     let m = type_at(types, row, member);
     let w = Row::at(types, m);
     if w.is_unwrapped() {
         match alternative(types, m, NULL) {
             Found::At(k) => {
-                put_row(rows, i, w.kind, k, 0, 2);
-                put_row(rows, i + 1, kind_of(types, type_at(types, m, k)), 0, 0, 1);
+                put_row(rows, slot, w.kind, k, 0, 2);
+                put_row(
+                    rows,
+                    slot + 1,
+                    kind_of(types, type_at(types, m, k)),
+                    0,
+                    0,
+                    1,
+                );
                 return read(next, 2, 0);
             }
             Found::Nothing => {
                 if w.extensible() {
-                    return refused(Cause::Unknown, p);
+                    return refused(Cause::Unknown, place);
                 }
-                return refused(Cause::Missing(member), p);
+                return refused(Cause::Missing(member), place);
             }
         }
     }
     if w.kind == Row::NULL {
-        put_row(rows, i, w.kind, 0, 0, 1);
+        put_row(rows, slot, w.kind, 0, 0, 1);
         return read(next, 1, 0);
     }
-    refused(Cause::Missing(member), p)
+    refused(Cause::Missing(member), place)
 }

@@ -14,45 +14,11 @@ use Rattle.json.specs.Bytes.{In}
 use Rattle.json.proofs.SoundRows.{pick-within, _⨾_}
 use Rattle.jer.specs.Octets.{also, onlyIf, hexValue, unhex}
 use Rattle.jer.specs.Programs.{lineFrom, lineAt, octetsIn, numbersIn}
-use Rattle.octets.proofs.DigitLaws.{hex-decimal, hex-upper, hex-lower, hex-other}
 use Rattle.octets.proofs.PutLaws.{Putting, putting-next, putting-done}
-use Rattle.lines.specs.Taken.{orElse, digitOf, isHex, isSome, octetsOf, octetAt, numberAt, numbersLine, takenOf, after}
+use Rattle.slices.specs.Digit.{digitOf}
+use Rattle.slices.proofs.DigitLaws.{digit-some, digit-none}
+use Rattle.lines.specs.Taken.{isHex, isSome, octetsOf, octetAt, numberAt, numbersLine, takenOf, after}
 use Rattle.lines.specs.declared.taken.Taken.the-variants as taken
-
--- ---- digits
-
-module _ {b : ℕ} where
-  pub digit-decimal : In 0x30 0x39 b → b - 0x30 ≡ digitOf b
-  unfolding digitOf orElse
-  digit-decimal h = rw (hex-decimal h)
-
-  pub digit-upper : In 0x41 0x46 b → b - 0x37 ≡ digitOf b
-  unfolding digitOf orElse
-  digit-upper h = rw (hex-upper h)
-
-  pub digit-lower : In 0x61 0x66 b → b - 0x57 ≡ digitOf b
-  unfolding digitOf orElse
-  digit-lower h = rw (hex-lower h)
-
-  pub digit-other : (In 0x30 0x39 b → ⊥) → (In 0x41 0x46 b → ⊥) → (In 0x61 0x66 b → ⊥) → 16 ≡ digitOf b
-  unfolding digitOf orElse
-  digit-other h₁ h₂ h₃ = rw (hex-other h₁ h₂ h₃)
-
-module _ (b : ℕ) where
-  digit-some : (digitOf b ≡ 16 → ⊥) → hexValue b ≡ some (digitOf b)
-  unfolding digitOf orElse
-  digit-some h = go (hexValue b) refl
-    where
-      go : (o : Option ℕ) → hexValue b ≡ o → hexValue b ≡ some (digitOf b)
-      go none e = absurd (h (rw e))
-      go (some x) e = rw e
-
-  abbrev Sixteen : Option ℕ → Type 0
-  Sixteen o = orElse o 16 ≡ 16 → o ≡ none
-
-  digit-none : digitOf b ≡ 16 → hexValue b ≡ none
-  unfolding digitOf hexValue orElse
-  digit-none = pick-within Sixteen b _ none ((λ i e. absurd (omega arith)) ⨾ (λ i e. absurd (omega arith)) ⨾ (λ i e. absurd (omega arith)) ⨾ tt) (λ e. refl)
 
 -- ---- lines that are hexadecimal
 

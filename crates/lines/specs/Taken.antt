@@ -6,18 +6,11 @@ use mathlib.Core.Option.{Option, none, some}
 use lib.Dec.{eqb}
 use lib.ListN.{length, getD, drop}
 use lib.Seq.{sets}
-use Rattle.jer.specs.Octets.{also, hexValue}
+use Rattle.slices.specs.Digit.{digitOf}
+use Rattle.jer.specs.Octets.{also}
 use Rattle.jer.specs.Programs.{lineFrom, lineAt, numbersIn}
 use Rattle.lines.specs.declared.taken.Taken.{Taken}
 use Rattle.lines.specs.declared.taken.Taken.the-variants as taken
-
-unfoldable pub orElse : Option ℕ → ℕ → ℕ
-orElse none d = d
-orElse (some x) d = x
-
--- a hexadecimal digit's value, 16 for any other byte
-unfoldable pub digitOf : ℕ → ℕ
-digitOf b = orElse (hexValue b) 16
 
 unfoldable pub isHex : List ℕ → Bool
 isHex [] = true

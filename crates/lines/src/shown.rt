@@ -14,8 +14,8 @@ use jer::Refusal;
 use jer::Writing;
 use jer::report;
 use octets::encode::put_hex;
-use tokens::slices::part;
-use tokens::slices::put;
+use slices::part;
+use slices::put;
 
 // The four octets of a number.
 fn octets_of(x: u64) -> [u8; 4]

@@ -5,9 +5,11 @@ ghost use Prim.Native.Nat.{_+_, _*_, _<_, _≤_};
 ghost use lib.ListN.{length, take, drop, set};
 ghost use lib.Seq.{sets};
 ghost use Rattle.jer.specs.Programs.{lineFrom, octetsIn, lineAt, numbersIn};
-ghost use Rattle.lines.specs.Taken.{digitOf, octetsOf, octetAt, numberAt, isHex, isSome, numbersLine, takenOf, after};
-use tokens::slices::part;
-use tokens::slices::put;
+ghost use Rattle.lines.specs.Taken.{octetsOf, octetAt, numberAt, isHex, isSome, numbersLine, takenOf, after};
+use slices::digit;
+use slices::part;
+use slices::put;
+use slices::put_number;
 
 pub enum Taken {
     // So many octets or numbers, and the place after the line.
@@ -34,25 +36,13 @@ fn line_len(s: &[u8], at: usize) -> usize
     i - at
 }
 
-// A hexadecimal digit's value, 16 for any other byte.
-fn digit(b: u8) -> u8
-    ensures { λ r. ⌜ (r ≡ digitOf b) × (r ≤ 16) ⌝ }
-{
-    match b {
-        0x30..=0x39 => b - 0x30,
-        0x41..=0x46 => b - 0x37,
-        0x61..=0x66 => b - 0x57,
-        _ => 16,
-    }
-}
-
 // Whether all bytes are hexadecimal digits.
 fn is_hex(line: &[u8]) -> bool
     ensures { λ r. ⌜ r ≡ isHex (now (line .entry)) ⌝ }
 {
     let mut i = 0;
     while i < line.len() {
-        if digit(line[i]) == 16 {
+        if digit(line[i] as u32) == 16 {
             return false;
         }
         i += 1;
@@ -82,7 +72,7 @@ fn octet(line: &[u8], i: usize) -> u8
     requires { ⌜ (isHex (now line) ≡ true) × (i + 1 < length (now line)) ⌝ }
     ensures { λ r. ⌜ r ≡ octetAt (now (line .entry)) i ⌝ }
 {
-    digit(line[i]) * 16 + digit(line[i + 1])
+    (digit(line[i] as u32) * 16 + digit(line[i + 1] as u32)) as u8
 }
 
 // The number whose eight digits stand at i.
@@ -109,15 +99,6 @@ fn store_octets(line: &[u8], out: &mut [u8])
         put(out, k, x);
         k += 1;
         i += 2;
-    }
-}
-
-// Stores a number, if there is room.
-fn put_number(out: &mut [u32], i: usize, x: u32)
-    ensures { λ _. ⌜ now (out .exit) ≡ set (now (out .entry)) i x ⌝ }
-{
-    if i < out.len() {
-        out[i] = x;
     }
 }
 

@@ -93,22 +93,6 @@ digit-wide h d = record { char = d .char; rest = d .rest; here = d .here; is = h
 -- ---- the values of digits, by the ends of their ranges
 
 module _ {b : ℕ} where
-  pub hex-decimal : In 0x30 0x39 b → hexValue b ≡ some (b - 0x30)
-  unfolding hexValue
-  hex-decimal h = pick-row 0 b _ none h
-
-  pub hex-upper : In 0x41 0x46 b → hexValue b ≡ some (b - 0x37)
-  unfolding hexValue
-  hex-upper h = pick-row 1 b _ none ((λ i. omega arith) ⨾ h)
-
-  pub hex-lower : In 0x61 0x66 b → hexValue b ≡ some (b - 0x57)
-  unfolding hexValue
-  hex-lower h = pick-row 2 b _ none ((λ i. omega arith) ⨾ (λ i. omega arith) ⨾ h)
-
-  pub hex-other : (In 0x30 0x39 b → ⊥) → (In 0x41 0x46 b → ⊥) → (In 0x61 0x66 b → ⊥) → hexValue b ≡ none
-  unfolding hexValue
-  hex-other h₁ h₂ h₃ = pick-none b _ none (h₁ ⨾ h₂ ⨾ h₃ ⨾ tt)
-
   pub base64-upper : In 0x41 0x5A b → base64Value b ≡ some (b - 0x41)
   unfolding base64Value
   base64-upper h = pick-row 0 b _ none h

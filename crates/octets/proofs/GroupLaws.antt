@@ -17,7 +17,7 @@ use Rattle.jer.specs.Octets.{also, onlyIf, hexValue, unhex, base64Value, lastGr
 use Rattle.jer.specs.Table.{sameBytes}
 use Rattle.jer.proofs.ValidLaws.{sameBytes-eq}
 use Rattle.tokens.specs.Strings.{denoted}
-use Rattle.tokens.proofs.SliceLaws.{sets-append}
+use Rattle.slices.proofs.PartLaws.{sets-append}
 use Rattle.tokens.proofs.StringLaws.{piece-past, denoted-close}
 use Rattle.octets.specs.declared.decode.Found.the-variants as found
 use Rattle.octets.specs.declared.decode.Next.{Next}

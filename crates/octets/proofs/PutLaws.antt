@@ -6,7 +6,7 @@ use native.Mathlib.Nat.{add-zero}
 use native.Mathlib.Omega.{arith}
 use lib.ListN.{length, set, length-append}
 use lib.Seq.{sets, set-comm}
-use Rattle.tokens.proofs.SliceLaws.{sets-append}
+use Rattle.slices.proofs.PartLaws.{sets-append}
 
 -- the same bytes, said otherwise
 pub sets-as : (l : List ℕ) (k : ℕ) {xs ys after : List ℕ} → xs ≡ ys → after ≡ sets l k xs → after ≡ sets l k ys

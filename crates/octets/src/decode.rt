@@ -5,7 +5,8 @@ ghost use lib.ListN.{length};
 ghost use Rattle.jer.specs.Octets.{hexValue, unhex, base64Value, unbase64};
 ghost use Rattle.tokens.specs.Strings.{denoted};
 ghost use Rattle.octets.specs.Decode.{foundOf, Stored, asciiValue, Reads, Groups, Tail, decoding};
-use tokens::slices::put_all;
+use slices::digit;
+use slices::put_all;
 use tokens::strings::Piece;
 use tokens::strings::piece_at;
 use tokens::strings::same_as;
@@ -70,12 +71,13 @@ fn hex_digit(s: &[u8], i: usize) -> Next
     match next_char(s, i) {
         Next::End => Next::End,
         Next::Other => Next::Other,
-        Next::Is(b, q) => match b {
-            0x30..=0x39 => Next::Is(b - 0x30, q),
-            0x41..=0x46 => Next::Is(b - 0x37, q),
-            0x61..=0x66 => Next::Is(b - 0x57, q),
-            _ => Next::Other,
-        },
+        Next::Is(b, q) => {
+            let x = digit(b as u32);
+            if x == 16 {
+                return Next::Other;
+            }
+            Next::Is(x as u8, q)
+        }
     }
 }
 

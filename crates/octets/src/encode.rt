@@ -6,7 +6,7 @@ ghost use lib.ListN.{length};
 ghost use lib.Seq.{sets};
 ghost use Rattle.jer.specs.Octets.{hexDigit, hex, base64Digit, base64};
 ghost use Rattle.jer.specs.Calls.{amount};
-use tokens::slices::put_all;
+use slices::put_all;
 
 // A hexadecimal digit in upper case.
 pub fn hex_digit(x: u8) -> u8

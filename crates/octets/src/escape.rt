@@ -8,8 +8,8 @@ ghost use Rattle.jer.specs.Calls.{amount};
 ghost use Rattle.octets.specs.Encode.{letterFor};
 use crate::amount::add;
 use crate::encode::hex_digit;
-use tokens::slices::put;
-use tokens::slices::put_all;
+use slices::put;
+use slices::put_all;
 
 // The letter of a byte's short escape, 0 if it has none.
 fn letter_for(b: u8) -> u8

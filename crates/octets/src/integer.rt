@@ -5,7 +5,7 @@ ghost use Prim.Native.Nat.{_+_, _*_, _≤_, _^_};
 ghost use lib.ListN.{length};
 ghost use lib.Seq.{sets};
 ghost use Rattle.jer.specs.Write.{digits, intText};
-use tokens::slices::put;
+use slices::put;
 
 // How many decimal digits n has.
 fn digit_count(n: u64) -> usize

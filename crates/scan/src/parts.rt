@@ -1,7 +1,7 @@
 // What stands at a place, and what follows the opening bracket or a part of a bracket.
 use places::Follows;
+use slices::byte_at;
 use tokens::cursor::Cursor;
-use tokens::cursor::byte_at;
 use types::token::ARRAY;
 use types::token::BOOLEAN;
 use types::token::NULL;

@@ -8,7 +8,7 @@ use lines::taken::Taken;
 use lines::taken::first_numbers;
 use lines::taken::numbers_line;
 use lines::taken::octets_line;
-use tokens::slices::part;
+use slices::part;
 
 // What is printed of a text. 4,096 rows and 16,384 pool bytes are lent.
 fn show(types: &[u32], names: &[u8], text: &[u8], out: &mut [u8]) -> usize

@@ -8,7 +8,7 @@ use lines::taken::Taken;
 use lines::taken::first_numbers;
 use lines::taken::numbers_line;
 use lines::taken::octets_line;
-use tokens::slices::part;
+use slices::part;
 
 // What is printed of a value table. 65,536 bytes of text are lent.
 fn show(types: &[u32], names: &[u8], values: &[u32], pool: &[u8], out: &mut [u8]) -> usize

@@ -6,6 +6,7 @@ ghost use mathlib.Core.Path.{_≡_};
 ghost use lib.ListN.{length};
 use libc::STDIN_FILENO;
 use lines::taken::DIGITS;
+use slices::byte_at;
 
 // Where in its buffer the input stands.
 pub struct Input {
@@ -26,11 +27,6 @@ pub struct Line {
     pub input: Input,
 }
 
-// The byte at a place, 0 past the end.
-fn byte_at(s: &[u8], i: usize) -> u8 {
-    if i < s.len() { s[i] } else { 0 }
-}
-
 // The next byte of standard input, which is read anew where the buffer is used up.
 fn next_byte(buf: &mut [u8], input: Input) -> Next
     ensures { λ r. ⌜ r .byte ≤ 256 ⌝ }
@@ -43,7 +39,7 @@ fn next_byte(buf: &mut [u8], input: Input) -> Next
             end: end,
         };
         return Next {
-            byte: byte_at(buf, at) as u32,
+            byte: byte_at(buf, at),
             input: i,
         };
     }
@@ -57,7 +53,7 @@ fn next_byte(buf: &mut [u8], input: Input) -> Next
     }
     let i = Input { at: 1, end: n };
     Next {
-        byte: byte_at(buf, 0) as u32,
+        byte: byte_at(buf, 0),
         input: i,
     }
 }
@@ -100,12 +96,7 @@ pub fn collect(lines: u32, out: &mut [u8]) -> usize
 fn digit(b: u32) -> u32
     ensures { λ r. ⌜ r ≤ 15 ⌝ }
 {
-    match b {
-        0x30..=0x39 => b - 0x30,
-        0x41..=0x46 => b - 0x37,
-        0x61..=0x66 => b - 0x57,
-        _ => 0,
-    }
+    slices::digit(b) % 16
 }
 
 // Whether a line ends at a byte.

@@ -1,4 +1,4 @@
--- Parts of lists, how they begin, and runs of stores.
+-- How lists begin, and equal bytes.
 use mathlib.Core.Path.{_≡_, refl, sym, ap, _∙_}
 use mathlib.Core.List.{List, [], _∷_, _++_}
 use mathlib.Core.Bool.{Bool, true, false}
@@ -11,29 +11,9 @@ use lib.Dec.{eqb}
 use lib.ListN.{length, getD, take, drop, set, drop-of-length-le, length-drop}
 use lib.Seq.{drop-cons, drop-drop, take-all, take-nil, sets}
 use Rattle.jer.specs.Table.{sameBytes}
+use Rattle.slices.proofs.PartLaws.{part-past}
 use Rattle.tokens.specs.Places.{byteAt}
 use Rattle.tokens.specs.Strings.{begins}
-
--- ---- a part
-
-module _ (l : List ℕ) (from len : ℕ) where
-  pub part-past : length l ≤ from → [] ≡ take len (drop from l)
-  part-past h = rw (drop-of-length-le l h) (sym (take-nil len))
-
-  rest : List ℕ
-  rest = take (length l - from) (drop from l)
-
-  rest-all : rest ≡ drop from l
-  unfolding rest
-  rest-all = take-all (length l - from) (drop from l) (omega (arith, length-drop from l))
-
-  pub part-all : length (take (length l - from) (drop from l)) ≤ len → take (length l - from) (drop from l) ≡ take len (drop from l)
-  unfolding rest
-  part-all h = rest-all ∙ sym (take-all len (drop from l) (omega (arith, ap length rest-all)))
-
-  pub part-cut : take len (take (length l - from) (drop from l)) ≡ take len (drop from l)
-  unfolding rest
-  part-cut = ap (take len) rest-all
 
 -- ---- beginnings
 
@@ -124,15 +104,3 @@ module _ (l : List ℕ) (k : ℕ) (x ys : List ℕ) where
 
   pub same-other : begins x (drop k l) ≡ false → false ≡ sameBytes (drop k l) (x ++ ys)
   same-other h = same-not x (drop k l) ys h
-
--- ---- runs of stores
-
-pub sets-one : (l : List ℕ) (i : ℕ) (x : List ℕ) (j : ℕ) → j < length x → sets l (i + j) (drop j x) ≡ sets (set l (i + j) (getD x j 0)) (i + (j + 1)) (drop (j + 1) x)
-sets-one l i x j h = rw (drop-cons x j 0 h, add-one j, add-suc i j)
-
-pub sets-done : (l : List ℕ) (i : ℕ) (x : List ℕ) (j : ℕ) → length x ≤ j → l ≡ sets l (i + j) (drop j x)
-sets-done l i x j h = rw (drop-of-length-le x h)
-
-pub sets-append : (l : List ℕ) (i : ℕ) (xs ys : List ℕ) → sets l i (xs ++ ys) ≡ sets (sets l i xs) (i + length xs) ys
-sets-append l i [] ys = ap (λ (k : ℕ). sets l k ys) (sym (add-zero i))
-sets-append l i (x ∷ xs) ys = sets-append (set l i x) (suc i) xs ys ∙ ap (λ (k : ℕ). sets (sets (set l i x) (suc i) xs) k ys) (let e : suc i + length xs ≡ i + suc (length xs) = omega arith in e)

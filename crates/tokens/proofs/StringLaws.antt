@@ -19,7 +19,8 @@ use Rattle.tokens.specs.Places.{byteAt}
 use Rattle.tokens.specs.Strings.{digitAt, unitAt, letterOf, isHigh, Piece, Close, Bare, Escaped, unitPiece, escapeAt, pieceAt, denotedIn, denoted, closeIn, stringEnd, begins}
 use Rattle.tokens.specs.Enums.{Encodes}
 use Rattle.tokens.proofs.PlaceLaws.{byte-inside, byte-past, inside}
-use Rattle.tokens.proofs.SliceLaws.{same-end, same-short, same-more, same-differ, same-first, same-begins, same-room, same-other, sets-append}
+use Rattle.slices.proofs.PartLaws.{sets-append}
+use Rattle.tokens.proofs.SliceLaws.{same-end, same-short, same-more, same-differ, same-first, same-begins, same-room, same-other}
 
 -- ---- rows of a table
 
@@ -52,38 +53,7 @@ pick-not b k f rs d h = go (leb k b) refl
     go true e = pick-above b k k f rs d (omega (arith, leb-true k b e))
     go false e = pick-below b k k f rs d (leb-false k b e)
 
--- ---- digits, by the tests that the code makes
-
-module _ (s : List ℕ) (p b : ℕ) (e : b ≡ byteAt s p) where
-  pub digit-low : b < 0x30 → 0 ≡ digitAt s p
-  unfolding digitAt
-  digit-low h = rw (← e, pick-below b 0x30 0x39 _ _ _ h, pick-below b 0x41 0x46 _ _ _ (omega arith), pick-below b 0x61 0x66 _ _ _ (omega arith), pick-none)
-
-  pub digit-decimal : 0x30 ≤ b → b < 0x3A → b - 0x30 ≡ digitAt s p
-  unfolding digitAt
-  digit-decimal h k = rw (← e, pick-in b 0x30 0x39 _ _ _ h (omega arith))
-
-  module _ (h₁ : 0x39 < b) where
-    pub digit-between : b < 0x41 → 0 ≡ digitAt s p
-    unfolding digitAt
-    digit-between h = rw (← e, pick-above b 0x30 0x39 _ _ _ h₁, pick-below b 0x41 0x46 _ _ _ h, pick-below b 0x61 0x66 _ _ _ (omega arith), pick-none)
-
-    pub digit-upper : 0x41 ≤ b → b < 0x47 → b - 0x37 ≡ digitAt s p
-    unfolding digitAt
-    digit-upper h k = rw (← e, pick-above b 0x30 0x39 _ _ _ h₁, pick-in b 0x41 0x46 _ _ _ h (omega arith))
-
-    module _ (h₂ : 0x46 < b) where
-      pub digit-middle : b < 0x61 → 0 ≡ digitAt s p
-      unfolding digitAt
-      digit-middle h = rw (← e, pick-above b 0x30 0x39 _ _ _ h₁, pick-above b 0x41 0x46 _ _ _ h₂, pick-below b 0x61 0x66 _ _ _ h, pick-none)
-
-      pub digit-lower : 0x61 ≤ b → b < 0x67 → b - 0x57 ≡ digitAt s p
-      unfolding digitAt
-      digit-lower h k = rw (← e, pick-above b 0x30 0x39 _ _ _ h₁, pick-above b 0x41 0x46 _ _ _ h₂, pick-in b 0x61 0x66 _ _ _ h (omega arith))
-
-      pub digit-high : 0x66 < b → 0 ≡ digitAt s p
-      unfolding digitAt
-      digit-high h = rw (← e, pick-above b 0x30 0x39 _ _ _ h₁, pick-above b 0x41 0x46 _ _ _ h₂, pick-above b 0x61 0x66 _ _ _ h, pick-none)
+-- ---- four digits
 
 pub unit-is : (s : List ℕ) (p i j k l : ℕ) → i ≡ digitAt s p → j ≡ digitAt s (p + 1) → k ≡ digitAt s (p + 2) → l ≡ digitAt s (p + 3)
     → ((i * 16 + j) * 16 + k) * 16 + l ≡ unitAt s p

@@ -3,6 +3,7 @@ use Prim.Native.Nat.{ℕ, zero, suc, _+_, _≤_, _<_}
 use mathlib.Core.Path.{_≡_, refl, ap, _∙_}
 use mathlib.Core.List.{List, [], _∷_, _++_, append-assoc}
 use mathlib.Core.Bool.{false}
+use native.Mathlib.Nat.{mod-eq-of-lt}
 use native.Mathlib.Numerals.{add-one, add-two}
 use native.Mathlib.Omega.{arith}
 use borrow.Author.Tests.{ne-eqb}
@@ -14,6 +15,7 @@ use Rattle.json.specs.Grammar.{Hex, digit, upper, lower, Four, four, Escape, qu
 use Rattle.json.proofs.Feed.{pick-row, in-true, in-false}
 use Rattle.tokens.specs.Places.{byteAt}
 use Rattle.tokens.specs.declared.strings.Piece.the-variants as piece
+use Rattle.slices.proofs.DigitLaws.{digit-hex}
 use Rattle.tokens.specs.Strings.{digitAt, unitAt, letterOf, unitPiece, escapeAt, pieceAt, denotedIn, denoted, closeIn, stringEnd}
 use Rattle.tokens.proofs.TiePlace.{byte-on, byte-here, drop-next, drop-past, past-append, length-left}
 
@@ -150,9 +152,7 @@ letter-piece {b = b} s p ws x h =
 
 hex-at : {x b : ℕ} (s : List ℕ) (p : ℕ) → Hex x b → byteAt s p ≡ b → digitAt s p ≡ x
 unfolding digitAt
-hex-at s p (digit h e) q = rw (q, e) (pick-row 0 _ _ _ (omega arith))
-hex-at s p (upper h e) q = rw (q, e) (pick-row 1 _ _ _ (omega arith))
-hex-at s p (lower h e) q = rw (q, e) (pick-row 2 _ _ _ (omega arith))
+hex-at {x = x} s p h q = let d = digit-hex h in rw (q, d .0) (mod-eq-of-lt (d .1))
 
 four-at : {x : ℕ} {fs : List ℕ} (s : List ℕ) (p : ℕ) (ws : List ℕ) → Four x fs → drop p s ≡ fs ++ ws → unitAt s p ≡ x
 unfolding unitAt

@@ -1,5 +1,5 @@
 -- The characters that a string denotes, from the place after its opening quotation mark.
-use Prim.Native.Nat.{ℕ, zero, suc, _+_, _-_, _*_}
+use Prim.Native.Nat.{ℕ, zero, suc, _+_, _-_, _*_, _%_}
 use mathlib.Core.List.{List, [], _∷_, _++_}
 use mathlib.Core.Bool.{Bool, true, false, _&&_, _||_}
 use lib.Dec.{eqb, leb}
@@ -7,13 +7,14 @@ use lib.ListN.{length}
 use Rattle.json.specs.Bytes.{on, pick}
 use Rattle.json.specs.Utf8.{encode}
 use Rattle.json.specs.Grammar.{paired}
+use Rattle.slices.specs.Digit.{digitOf}
 use Rattle.tokens.specs.Places.{byteAt}
 pub use Rattle.tokens.specs.declared.strings.Piece.{Piece}
 pub use Rattle.tokens.specs.declared.strings.Piece.the-variants.{Close, Bare, Escaped}
 
--- a hexadecimal digit's value, from the ends of its range; 0 for any other byte
+-- a hexadecimal digit's value; 0 for any other byte
 unfoldable pub digitAt : List ℕ → ℕ → ℕ
-digitAt s p = pick (byteAt s p) (on 0x30 0x39 (λ b. b - 0x30) ∷ on 0x41 0x46 (λ b. b - 0x37) ∷ on 0x61 0x66 (λ b. b - 0x57) ∷ []) 0
+digitAt s p = digitOf (byteAt s p) % 16
 
 -- four hexadecimal digits
 unfoldable pub unitAt : List ℕ → ℕ → ℕ

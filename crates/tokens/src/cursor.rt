@@ -6,14 +6,6 @@ ghost use Rattle.tokens.specs.Skip.{isEnd, isBetween};
 ghost use Rattle.tokens.specs.Numbers.{isDigit};
 ghost use Rattle.tokens.specs.Enums.{passes};
 
-// The byte at a place, or 256 past the end.
-pub fn byte_at(s: &[u8], p: usize) -> u32
-    ensures { λ r. ⌜ r ≡ byteAt (now (s .entry)) p ⌝ }
-    ensures { λ r. ⌜ r ≤ 256 ⌝ }
-{
-    if p < s.len() { s[p] as u32 } else { 256 }
-}
-
 // The bytes that a run passes.
 pub enum Class {
     // White space.

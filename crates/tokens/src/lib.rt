@@ -3,5 +3,5 @@
 pub mod cursor;
 pub mod numbers;
 pub mod skip;
-pub mod slices;
+pub mod starts;
 pub mod strings;

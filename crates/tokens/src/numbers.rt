@@ -4,8 +4,8 @@ ghost use Prim.Native.Nat.{_-_, _^_, _≤_};
 ghost use Rattle.tokens.specs.Numbers.{digitsAt, wholeAt, integerAt, complement};
 ghost use Rattle.tokens.specs.Enums.{within, integerOf};
 use crate::cursor::Class;
-use crate::cursor::byte_at;
 use crate::cursor::run;
+use slices::byte_at;
 
 pub enum Integer {
     // The halves of its 64-bit two's complement.

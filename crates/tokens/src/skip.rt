@@ -4,9 +4,9 @@ ghost use Prim.Native.Nat.{_≤_};
 ghost use lib.ListN.{length};
 ghost use Rattle.tokens.specs.Skip.{pastValue, pastBracket};
 use crate::cursor::Class;
-use crate::cursor::byte_at;
 use crate::cursor::run;
 use crate::strings::string_end;
+use slices::byte_at;
 
 // The place after the value at p, in which `depth` brackets may be open; the text's end at one more.
 pub fn skip_value(s: &[u8], p: usize, depth: u32) -> usize

@@ -10,11 +10,11 @@ ghost use Rattle.json.specs.Grammar.{paired};
 ghost use Rattle.jer.specs.Table.{sameBytes};
 ghost use Rattle.tokens.specs.Strings.{digitAt, unitAt, letterOf, Bare, Escaped, escapeAt, pieceAt, denoted, stringEnd};
 ghost use Rattle.tokens.specs.Enums.{Coded, Encodes};
-use crate::cursor::byte_at;
-use crate::slices::part;
-use crate::slices::put;
-use crate::slices::put_all;
-use crate::slices::starts;
+use crate::starts::starts;
+use slices::byte_at;
+use slices::part;
+use slices::put;
+use slices::put_all;
 
 // One piece of a string.
 pub enum Piece {
@@ -50,13 +50,7 @@ pub fn string_end(s: &[u8], p: usize) -> usize
 fn digit(s: &[u8], p: usize) -> u32
     ensures { λ r. ⌜ (r ≡ digitAt (now (s .entry)) p) × (r ≤ 15) ⌝ }
 {
-    let b = byte_at(s, p);
-    match b {
-        0x30..=0x39 => b - 0x30,
-        0x41..=0x46 => b - 0x37,
-        0x61..=0x66 => b - 0x57,
-        _ => 0,
-    }
+    slices::digit(byte_at(s, p)) % 16
 }
 
 // Four hexadecimal digits.

@@ -53,18 +53,18 @@ module _ {z : Step} {rows₁ rows₀ pool₁ pool₀ : List ℕ} {i o b : ℕ} {
 
 module _ {t : Table} {s : List ℕ} {r p i o d : ℕ} where
   pub given-below : Given t s r p (i + 1) o d → Given t s r p i o d
-  given-below f = record { sane = f .sane; typed = f .typed; short = f .short; place = f .place; rowRoom = omega (arith, f .rowRoom); byteRoom = f .byteRoom }
+  given-below f = record { sane = f .sane; typed = f .typed; short = f .short; near = f .near; rowRoom = omega (arith, f .rowRoom); byteRoom = f .byteRoom }
 
   pub given-type : {q : ℕ} → Given t s r p i o d → isType t q ≡ true → Given t s q p i o d
-  given-type f h = record { sane = f .sane; typed = h; short = f .short; place = f .place; rowRoom = f .rowRoom; byteRoom = f .byteRoom }
+  given-type f h = record { sane = f .sane; typed = h; short = f .short; near = f .near; rowRoom = f .rowRoom; byteRoom = f .byteRoom }
 
   -- a part, after n rows and m bytes of those before it
   pub given-part : {q u n m : ℕ} → Given t s r p i o d → 0 < d → isType t q ≡ true → u ≤ 4294967295 → n ≤ 281474976710656 → m ≤ 281474976710656 → Given t s q u (i + 1 + n + 1) (o + m) (d - 1)
-  given-part f l h k a b = record { sane = f .sane; typed = h; short = f .short; place = k; rowRoom = omega (arith, f .rowRoom); byteRoom = omega (arith, f .byteRoom) }
+  given-part f l h k a b = record { sane = f .sane; typed = h; short = f .short; near = k; rowRoom = omega (arith, f .rowRoom); byteRoom = omega (arith, f .byteRoom) }
 
   -- the one part of a choice
   pub given-one : {q u : ℕ} → Given t s r p i o d → 0 < d → isType t q ≡ true → u ≤ 4294967295 → Given t s q u (i + 1 + 1) o (d - 1)
-  given-one f l h k = record { sane = f .sane; typed = h; short = f .short; place = k; rowRoom = omega (arith, f .rowRoom); byteRoom = omega (arith, f .byteRoom) }
+  given-one f l h k = record { sane = f .sane; typed = h; short = f .short; near = k; rowRoom = omega (arith, f .rowRoom); byteRoom = omega (arith, f .byteRoom) }
 
 -- ---- a bracket's result, counted
 

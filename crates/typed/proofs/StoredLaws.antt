@@ -21,7 +21,7 @@ use Rattle.jer.specs.Value.{Val, vSeq, vList, vChoice, Vals, vnil, vcons, Parts
 use Rattle.jer.specs.Answer.{Res, ok, no}
 use Rattle.jer.specs.Rows.{ValueRow, row, absentRow, numbers, above, rowsOf, itemRows, partRows, poolOf, itemPool, partPool}
 use Rattle.jer.proofs.WeightMeasure.{rows-length}
-use Rattle.tokens.proofs.SliceLaws.{sets-append}
+use Rattle.slices.proofs.PartLaws.{sets-append}
 use Rattle.places.specs.ByPlaces.{Got, got, within, withBit}
 use Rattle.leaf.specs.declared.Step.{Step}
 use Rattle.leaf.specs.declared.Step.the-variants.{Read, Refused}

@@ -17,18 +17,19 @@ use Rattle.places.specs.declared.Ended.{Ended}
 use Rattle.places.specs.declared.Ended.the-variants.{Closed, Stopped}
 use Rattle.places.specs.declared.Scanned.{Scanned}
 use Rattle.places.specs.ByPlaces.{Got, Reader, shallowAt, bracketAt, readAt, tokenAt, listAt, arrayAt, objectAt, choiceAt, within, afterScan}
+use Rattle.slices.specs.Lent.{Lent, before, after, tableIn}
 use Rattle.leaf.specs.declared.Step.{Step}
 use Rattle.leaf.specs.declared.Step.the-variants.{Read, Refused}
 use Rattle.leaf.specs.Step.{Stepped}
 
 -- a good table, a type's row, a text and a place within the sizes; and room to count: each bracket adds less than 2^49 rows and bytes
-pub record Given (t : Table) (s : List ℕ) (row p i o depth : ℕ) : Type 0 where
+pub record Given (t : Table) (s : List ℕ) (row place slot offset depth : ℕ) : Type 0 where
   pub sane : Sane t
   pub typed : isType t row ≡ true
   pub short : length s ≤ 65536
-  pub place : p ≤ 4294967295
-  pub rowRoom : i + depth * 562949953421312 ≤ 72057594037927936
-  pub byteRoom : o + depth * 562949953421312 ≤ 72057594037927936
+  pub near : place ≤ 4294967295
+  pub rowRoom : slot + depth * 562949953421312 ≤ 72057594037927936
+  pub byteRoom : offset + depth * 562949953421312 ≤ 72057594037927936
 
 -- a value at p ends here, or one place further for each bracket that the text leaves open
 abbrev pub limit : ℕ → ℕ
@@ -93,6 +94,7 @@ members x d t s r p = afterScan (λ q u. inside d t s q u) t s r p x
 abbrev pub choice : Way
 choice d t s r p = choiceAt (λ q u. inside d t s q u) (d - 1) t s r p
 
--- it is read so, and stored from the row i and the pool byte o on
-abbrev pub ReadsAs : Way → Table → List ℕ → ℕ → ℕ → ℕ → ℕ → ℕ → Step → List ℕ → List ℕ → List ℕ → List ℕ → Type 0
-ReadsAs x t s row p i o d z rows₁ rows₀ pool₁ pool₀ = Reads z rows₁ rows₀ pool₁ pool₀ i o (limit p + d) t row (x d t s row p)
+-- it is read so at a place, and stored from a slot of the rows and an offset of the pool on
+abbrev pub ReadsAs : Way → Lent → Lent → Lent → ℕ → ℕ → ℕ → ℕ → ℕ → Step → Lent → Lent → Type 0
+ReadsAs x types names s row place slot offset depth z rows pool =
+    Reads z (after rows) (before rows) (after pool) (before pool) slot offset (limit place + depth) (tableIn types names) row (x depth (tableIn types names) (before s) row place)

@@ -46,34 +46,42 @@ pub fn bounded(z: Step) -> Step
     }
 }
 
-// The row i of a value whose parts, n rows and m pool bytes, stand after it.
-pub fn close(rows: &mut [u32], i: usize, kind: u32, a: u32, n: usize, m: usize, next: usize) -> Step
-    requires { ⌜ (i ≤ 2 ^ 60) × (n ≤ 2 ^ 60) ⌝ }
+// The row of a value whose parts, n rows and m pool bytes, stand after it.
+pub fn close(
+    rows: &mut [u32],
+    slot: usize,
+    kind: u32,
+    a: u32,
+    n: usize,
+    m: usize,
+    next: usize,
+) -> Step
+    requires { ⌜ (slot ≤ 2 ^ 60) × (n ≤ 2 ^ 60) ⌝ }
     ensures { λ r. ⌜ r ≡ bounded (step.Read next (n + 1) m) ⌝ }
-    ensures { λ _. ⌜ (n + 1 < 2 ^ 32 → now (rows .exit) ≡ sets (now (rows .entry)) (i * 4) (kind ∷ a ∷ 0 ∷ (n + 1) ∷ [])) ⌝ }
+    ensures { λ _. ⌜ (n + 1 < 2 ^ 32 → now (rows .exit) ≡ sets (now (rows .entry)) (slot * 4) (kind ∷ a ∷ 0 ∷ (n + 1) ∷ [])) ⌝ }
 {
-    put_row(rows, i, kind, a, 0, narrow(n + 1));
+    put_row(rows, slot, kind, a, 0, narrow(n + 1));
     bounded(Step::Read(next, n + 1, m))
 }
 
-// The row i of an array, in which `d` brackets may be open, after its last member: what is surplus is passed over or refused.
+// The row of an array, in which `depth` brackets may be open, after its last member: what is surplus is passed over or refused.
 pub fn close_array(
     types: &[u32],
     s: &[u8],
     rows: &mut [u32],
     row: usize,
     next: Follows,
-    i: usize,
+    slot: usize,
     a: u32,
     n: usize,
     m: usize,
-    d: u32,
+    depth: u32,
 ) -> Step
-    requires { ⌜ (length (now s) ≤ 65536) × (0 < d) × (i ≤ 2 ^ 60) × (n ≤ 2 ^ 60) ⌝ }
-    ensures { λ r. ⌜ ((ns : List ℕ) → ArrayEnd r (now (rows .exit)) (now (rows .entry)) i a n m (surplusAt (d - 1) (table (now (types .entry)) ns) (now (s .entry)) row next)) ⌝ }
+    requires { ⌜ (length (now s) ≤ 65536) × (0 < depth) × (slot ≤ 2 ^ 60) × (n ≤ 2 ^ 60) ⌝ }
+    ensures { λ r. ⌜ ((ns : List ℕ) → ArrayEnd r (now (rows .exit)) (now (rows .entry)) slot a n m (surplusAt (depth - 1) (table (now (types .entry)) ns) (now (s .entry)) row next)) ⌝ }
 {
-    match surplus(types, s, row, next, d) {
+    match surplus(types, s, row, next, depth) {
         Ended::Stopped(e) => Step::Refused(e),
-        Ended::Closed(q) => close(rows, i, Row::SEQUENCE, a, n, m, q),
+        Ended::Closed(q) => close(rows, slot, Row::SEQUENCE, a, n, m, q),
     }
 }

@@ -1,5 +1,5 @@
-// The readers that call one another: each reads the value of the type at `row` from the place p on, and stores it as row i and the pool
-// bytes from o on; `d` brackets may be open in it.
+// The readers that call one another: each reads the value of the type at `row` from a place of the text on, and stores it from a slot of
+// the rows and an offset of the pool on; so many brackets may be open in it (`depth`).
 use crate::close::bounded;
 use crate::close::close;
 use crate::close::close_array;
@@ -55,31 +55,55 @@ pub fn value(
     rows: &mut [u32],
     pool: &mut [u8],
     row: usize,
-    p: usize,
-    i: usize,
-    o: usize,
-    d: u32,
+    place: usize,
+    slot: usize,
+    offset: usize,
+    depth: u32,
 ) -> Step
-    requires { ⌜ Given (table (now types) (now names)) (now s) row p (i + 1) o d ⌝ }
-    ensures { λ r. ⌜ ReadsAs readAt (table (now (types .entry)) (now (names .entry))) (now (s .entry)) row p i o d r (now (rows .exit)) (now (rows .entry)) (now (pool .exit)) (now (pool .entry)) ⌝ }
+    requires { ⌜ Given (table (now types) (now names)) (now s) row place (slot + 1) offset depth ⌝ }
+    ensures { λ r. ⌜ ReadsAs readAt types names s row place slot offset depth r rows pool ⌝ }
 {
-    let token = token_at(s, p);
+    let token = token_at(s, place);
     if !Row::at(types, row).is_unwrapped() {
-        return plain(types, names, s, rows, pool, row, token, p, i, o, d);
+        return plain(
+            types,
+            names,
+            s,
+            rows,
+            pool,
+            row,
+            token,
+            place,
+            slot,
+            offset,
+            depth,
+        );
     }
     match alternative(types, row, token) {
-        Found::Nothing => unknown(types, row, p, Cause::OtherKind, p),
+        Found::Nothing => unknown(types, row, place, Cause::OtherKind, place),
         Found::At(k) => {
             let m = type_at(types, row, k);
-            match plain(types, names, s, rows, pool, m, token, p, i + 1, o, d) {
+            match plain(
+                types,
+                names,
+                s,
+                rows,
+                pool,
+                m,
+                token,
+                place,
+                slot + 1,
+                offset,
+                depth,
+            ) {
                 Step::Refused(e) => Step::Refused(e),
-                Step::Read(next, n, b) => close(rows, i, Row::CHOICE, k, n, b, next),
+                Step::Read(next, n, b) => close(rows, slot, Row::CHOICE, k, n, b, next),
             }
         }
     }
 }
 
-// A type that is not UNWRAPPED, by the token at p.
+// A type that is not UNWRAPPED, by the token at the place.
 fn plain(
     types: &[u32],
     names: &[u8],
@@ -88,38 +112,38 @@ fn plain(
     pool: &mut [u8],
     row: usize,
     token: u32,
-    p: usize,
-    i: usize,
-    o: usize,
-    d: u32,
+    place: usize,
+    slot: usize,
+    offset: usize,
+    depth: u32,
 ) -> Step
-    requires { ⌜ Given (table (now types) (now names)) (now s) row p i o d ⌝ }
-    requires { ⌜ token ≡ tokenCode (tokenAt (now s) p) ⌝ }
-    ensures { λ r. ⌜ ReadsAs (counted byToken) (table (now (types .entry)) (now (names .entry))) (now (s .entry)) row p i o d r (now (rows .exit)) (now (rows .entry)) (now (pool .exit)) (now (pool .entry)) ⌝ }
+    requires { ⌜ Given (table (now types) (now names)) (now s) row place slot offset depth ⌝ }
+    requires { ⌜ token ≡ tokenCode (tokenAt (now s) place) ⌝ }
+    ensures { λ r. ⌜ ReadsAs (counted byToken) types names s row place slot offset depth r rows pool ⌝ }
 {
     if token < ARRAY {
-        return bounded(leaf(types, names, s, rows, pool, row, token, p, i, o));
+        return bounded(leaf(types, names, s, rows, pool, row, token, place, slot, offset));
     }
-    if d == 0 {
-        return refused(Cause::TooDeep, p);
+    if depth == 0 {
+        return refused(Cause::TooDeep, place);
     }
     let w = Row::at(types, row);
     if token == ARRAY {
         if w.kind == Row::SEQUENCE_OF {
-            return list(types, names, s, rows, pool, row, p, i, o, d);
+            return list(types, names, s, rows, pool, row, place, slot, offset, depth);
         }
         if w.is_array() {
-            return array(types, names, s, rows, pool, row, p, i, o, d);
+            return array(types, names, s, rows, pool, row, place, slot, offset, depth);
         }
-        return refused(Cause::OtherKind, p);
+        return refused(Cause::OtherKind, place);
     }
     if w.kind == Row::CHOICE {
-        return choice(types, names, s, rows, pool, row, p, i, o, d);
+        return choice(types, names, s, rows, pool, row, place, slot, offset, depth);
     }
     if (w.kind == Row::SEQUENCE) & !w.is_array() {
-        return object(types, names, s, rows, pool, row, p, i, o, d);
+        return object(types, names, s, rows, pool, row, place, slot, offset, depth);
     }
-    refused(Cause::OtherKind, p)
+    refused(Cause::OtherKind, place)
 }
 
 // SEQUENCE OF. A text has no more items than bytes.
@@ -130,30 +154,41 @@ fn list(
     rows: &mut [u32],
     pool: &mut [u8],
     row: usize,
-    p: usize,
-    i: usize,
-    o: usize,
-    d: u32,
+    place: usize,
+    slot: usize,
+    offset: usize,
+    depth: u32,
 ) -> Step
-    requires { ⌜ Given (table (now types) (now names)) (now s) row p i o d ⌝ }
-    requires { ⌜ (p < length (now s)) × (0 < d) × (kindOf (table (now types) (now names)) row ≡ SEQUENCE-OF) ⌝ }
-    ensures { λ r. ⌜ ReadsAs (counted list) (table (now (types .entry)) (now (names .entry))) (now (s .entry)) row p i o d r (now (rows .exit)) (now (rows .entry)) (now (pool .exit)) (now (pool .entry)) ⌝ }
+    requires { ⌜ Given (table (now types) (now names)) (now s) row place slot offset depth ⌝ }
+    requires { ⌜ (place < length (now s)) × (0 < depth) × (kindOf (table (now types) (now names)) row ≡ SEQUENCE-OF) ⌝ }
+    ensures { λ r. ⌜ ReadsAs (counted list) types names s row place slot offset depth r rows pool ⌝ }
 {
     let t = element_of(types, row);
-    let mut next = first_part(s, 0x5D, p);
+    let mut next = first_part(s, 0x5D, place);
     let mut count: usize = 0;
     let mut n: usize = 0;
     let mut m: usize = 0;
     loop {
         match next {
             Follows::Shut(q) => {
-                return close(rows, i, Row::SEQUENCE_OF, narrow(count), n, m, q);
+                return close(rows, slot, Row::SEQUENCE_OF, narrow(count), n, m, q);
             }
             Follows::Part(q) => {
                 if s.len() <= count {
-                    return close(rows, i, Row::SEQUENCE_OF, narrow(count), n, m, q);
+                    return close(rows, slot, Row::SEQUENCE_OF, narrow(count), n, m, q);
                 }
-                match value(types, names, s, rows, pool, t, q, i + 1 + n, o + m, d - 1) {
+                match value(
+                    types,
+                    names,
+                    s,
+                    rows,
+                    pool,
+                    t,
+                    q,
+                    slot + 1 + n,
+                    offset + m,
+                    depth - 1,
+                ) {
                     Step::Refused(e) => return Step::Refused(e),
                     Step::Read(end, a, b) => {
                         next = after_part(s, end);
@@ -175,17 +210,17 @@ fn array(
     rows: &mut [u32],
     pool: &mut [u8],
     row: usize,
-    p: usize,
-    i: usize,
-    o: usize,
-    d: u32,
+    place: usize,
+    slot: usize,
+    offset: usize,
+    depth: u32,
 ) -> Step
-    requires { ⌜ Given (table (now types) (now names)) (now s) row p i o d ⌝ }
-    requires { ⌜ (p < length (now s)) × (0 < d) × (kindOf (table (now types) (now names)) row ≡ SEQUENCE) ⌝ }
-    ensures { λ r. ⌜ ReadsAs (counted array) (table (now (types .entry)) (now (names .entry))) (now (s .entry)) row p i o d r (now (rows .exit)) (now (rows .entry)) (now (pool .exit)) (now (pool .entry)) ⌝ }
+    requires { ⌜ Given (table (now types) (now names)) (now s) row place slot offset depth ⌝ }
+    requires { ⌜ (place < length (now s)) × (0 < depth) × (kindOf (table (now types) (now names)) row ≡ SEQUENCE) ⌝ }
+    ensures { λ r. ⌜ ReadsAs (counted array) types names s row place slot offset depth r rows pool ⌝ }
 {
     let count = count_of(types, row);
-    let mut next = first_part(s, 0x5D, p);
+    let mut next = first_part(s, 0x5D, place);
     let mut k: u32 = 0;
     let mut present: u64 = 0;
     let mut n: usize = 0;
@@ -193,12 +228,12 @@ fn array(
     while k < count {
         match element_found(types, s, row, k, next) {
             Element::Absent(f) => {
-                put_row(rows, i + 1 + n, ABSENT, 0, 0, 1);
+                put_row(rows, slot + 1 + n, ABSENT, 0, 0, 1);
                 next = f;
                 n += 1;
                 k += 1;
             }
-            Element::Missing(q) => match missing(types, rows, row, k, p, q, i + 1 + n) {
+            Element::Missing(q) => match missing(types, rows, row, k, place, q, slot + 1 + n) {
                 Step::Refused(e) => return Step::Refused(e),
                 Step::Read(_, a, b) => {
                     present = with(present, k);
@@ -209,7 +244,18 @@ fn array(
             },
             Element::There(q) => {
                 let t = type_at(types, row, k);
-                match value(types, names, s, rows, pool, t, q, i + 1 + n, o + m, d - 1) {
+                match value(
+                    types,
+                    names,
+                    s,
+                    rows,
+                    pool,
+                    t,
+                    q,
+                    slot + 1 + n,
+                    offset + m,
+                    depth - 1,
+                ) {
                     Step::Refused(e) => return Step::Refused(e),
                     Step::Read(end, a, b) => {
                         next = after_part(s, end);
@@ -222,7 +268,7 @@ fn array(
             }
         }
     }
-    close_array(types, s, rows, row, next, i, ones(present), n, m, d)
+    close_array(types, s, rows, row, next, slot, ones(present), n, m, depth)
 }
 
 // A SEQUENCE as an object: its names in text order, then its members.
@@ -233,16 +279,16 @@ fn object(
     rows: &mut [u32],
     pool: &mut [u8],
     row: usize,
-    p: usize,
-    i: usize,
-    o: usize,
-    d: u32,
+    place: usize,
+    slot: usize,
+    offset: usize,
+    depth: u32,
 ) -> Step
-    requires { ⌜ Given (table (now types) (now names)) (now s) row p i o d ⌝ }
-    requires { ⌜ (p < length (now s)) × (0 < d) × (kindOf (table (now types) (now names)) row ≡ SEQUENCE) ⌝ }
-    ensures { λ r. ⌜ ReadsAs (counted object) (table (now (types .entry)) (now (names .entry))) (now (s .entry)) row p i o d r (now (rows .exit)) (now (rows .entry)) (now (pool .exit)) (now (pool .entry)) ⌝ }
+    requires { ⌜ Given (table (now types) (now names)) (now s) row place slot offset depth ⌝ }
+    requires { ⌜ (place < length (now s)) × (0 < depth) × (kindOf (table (now types) (now names)) row ≡ SEQUENCE) ⌝ }
+    ensures { λ r. ⌜ ReadsAs (counted object) types names s row place slot offset depth r rows pool ⌝ }
 {
-    let found = scan(types, names, s, row, p, d - 1);
+    let found = scan(types, names, s, row, place, depth - 1);
     let end = found.end;
     let met = found.met;
     let places = found.places;
@@ -257,16 +303,16 @@ fn object(
             places,
             met,
             row,
-            p,
+            place,
             next,
-            i,
-            o,
-            d,
+            slot,
+            offset,
+            depth,
         ),
     }
 }
 
-// The members of the object at p in table order, wherever their values stand.
+// The members of the object at the place, in table order, wherever their values stand.
 fn each_member(
     types: &[u32],
     names: &[u8],
@@ -276,15 +322,15 @@ fn each_member(
     places: [u32; 64],
     met: u64,
     row: usize,
-    p: usize,
+    place: usize,
     next: usize,
-    i: usize,
-    o: usize,
-    d: u32,
+    slot: usize,
+    offset: usize,
+    depth: u32,
 ) -> Step
-    requires { ⌜ Given (table (now types) (now names)) (now s) row p i o d ⌝ }
-    requires { ⌜ (0 < d) × (next ≤ limit p + d) × (kindOf (table (now types) (now names)) row ≡ SEQUENCE) ⌝ }
-    ensures { λ r. ⌜ ReadsAs (counted (members (scanned (Closed next) met places))) (table (now (types .entry)) (now (names .entry))) (now (s .entry)) row p i o d r (now (rows .exit)) (now (rows .entry)) (now (pool .exit)) (now (pool .entry)) ⌝ }
+    requires { ⌜ Given (table (now types) (now names)) (now s) row place slot offset depth ⌝ }
+    requires { ⌜ (0 < depth) × (next ≤ limit place + depth) × (kindOf (table (now types) (now names)) row ≡ SEQUENCE) ⌝ }
+    ensures { λ r. ⌜ ReadsAs (counted (members (scanned (Closed next) met places))) types names s row place slot offset depth r rows pool ⌝ }
 {
     let count = count_of(types, row);
     let mut k: u32 = 0;
@@ -295,15 +341,26 @@ fn each_member(
         let j = wide(k);
         let there = wide(places[j]);
         match member_found(types, s, row, k, bit(met, k), there) {
-            Member::Missing => return refused(Cause::Missing(k), p),
+            Member::Missing => return refused(Cause::Missing(k), place),
             Member::Absent => {
-                put_row(rows, i + 1 + n, ABSENT, 0, 0, 1);
+                put_row(rows, slot + 1 + n, ABSENT, 0, 0, 1);
                 n += 1;
                 k += 1;
             }
             Member::There(q) => {
                 let t = type_at(types, row, k);
-                match value(types, names, s, rows, pool, t, q, i + 1 + n, o + m, d - 1) {
+                match value(
+                    types,
+                    names,
+                    s,
+                    rows,
+                    pool,
+                    t,
+                    q,
+                    slot + 1 + n,
+                    offset + m,
+                    depth - 1,
+                ) {
                     Step::Refused(e) => return Step::Refused(e),
                     Step::Read(_, a, b) => {
                         present = with(present, k);
@@ -315,7 +372,7 @@ fn each_member(
             }
         }
     }
-    close(rows, i, Row::SEQUENCE, ones(present), n, m, next)
+    close(rows, slot, Row::SEQUENCE, ones(present), n, m, next)
 }
 
 // A wrapped CHOICE: an object of exactly one member.
@@ -326,28 +383,39 @@ fn choice(
     rows: &mut [u32],
     pool: &mut [u8],
     row: usize,
-    p: usize,
-    i: usize,
-    o: usize,
-    d: u32,
+    place: usize,
+    slot: usize,
+    offset: usize,
+    depth: u32,
 ) -> Step
-    requires { ⌜ Given (table (now types) (now names)) (now s) row p i o d ⌝ }
-    requires { ⌜ (p < length (now s)) × (0 < d) × (kindOf (table (now types) (now names)) row ≡ CHOICE) ⌝ }
-    ensures { λ r. ⌜ ReadsAs (counted choice) (table (now (types .entry)) (now (names .entry))) (now (s .entry)) row p i o d r (now (rows .exit)) (now (rows .entry)) (now (pool .exit)) (now (pool .entry)) ⌝ }
+    requires { ⌜ Given (table (now types) (now names)) (now s) row place slot offset depth ⌝ }
+    requires { ⌜ (place < length (now s)) × (0 < depth) × (kindOf (table (now types) (now names)) row ≡ CHOICE) ⌝ }
+    ensures { λ r. ⌜ ReadsAs (counted choice) types names s row place slot offset depth r rows pool ⌝ }
 {
-    match one_at(s, p, d - 1) {
-        One::NotOne => refused(Cause::NotOne, p),
+    match one_at(s, place, depth - 1) {
+        One::NotOne => refused(Cause::NotOne, place),
         One::At(q) => match position(types, names, s, row, q) {
-            Found::Nothing => unknown(types, row, p, Cause::UnknownName, q),
+            Found::Nothing => unknown(types, row, place, Cause::UnknownName, q),
             Found::At(k) => {
                 let t = type_at(types, row, k);
                 let at = value_place(s, q);
-                match value(types, names, s, rows, pool, t, at, i + 1, o, d - 1) {
+                match value(
+                    types,
+                    names,
+                    s,
+                    rows,
+                    pool,
+                    t,
+                    at,
+                    slot + 1,
+                    offset,
+                    depth - 1,
+                ) {
                     Step::Refused(e) => Step::Refused(e),
                     Step::Read(next, n, m) => {
                         let end = Cursor { at: next };
                         let c = end.skip_space(s).advance(1);
-                        close(rows, i, Row::CHOICE, k, n, m, c.at)
+                        close(rows, slot, Row::CHOICE, k, n, m, c.at)
                     }
                 }
             }

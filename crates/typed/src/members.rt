@@ -12,9 +12,9 @@ use scan::names::value_place;
 use scan::parts::after_part;
 use scan::parts::first_part;
 use scan::parts::null_at;
+use slices::byte_at;
 use tokens::cursor::Class;
 use tokens::cursor::Cursor;
-use tokens::cursor::byte_at;
 use tokens::cursor::run;
 use tokens::skip::skip_bracket;
 use tokens::skip::skip_value;
@@ -34,8 +34,7 @@ ghost use Rattle.jer.specs.Read.{nullAbsent};
 ghost use Rattle.jer.specs.Answer.{at};
 ghost use Rattle.places.specs.ByPlaces.{firstPart, followsAt, memberFound, elementFound, surplusAt, oneAt};
 ghost use Rattle.leaf.specs.declared.Step.{Step};
-ghost use Rattle.leaf.specs.declared.Step.the-variants as step;
-ghost use Rattle.jer.specs.declared.Refusal.the-variants.{AtByte};
+ghost use Rattle.leaf.specs.Step.{refusedAt};
 
 // The member at k of the type at `row`, given whether it was met and where its value stands.
 pub fn member_found(types: &[u32], s: &[u8], row: usize, k: u32, met: bool, q: usize) -> Member
@@ -122,7 +121,7 @@ pub fn one_at(s: &[u8], p: usize, depth: u32) -> One
 
 // No such alternative: 11 at p if the type is extensible, else the cause at q.
 pub fn unknown(types: &[u32], row: usize, p: usize, cause: Cause, q: usize) -> Step
-    ensures { λ r. ⌜ ((ns : List ℕ) → r ≡ (elim (extensible (table (now (types .entry)) ns) row) as (λ b. Step) [ true ↦ step.Refused (AtByte Unknown p) | false ↦ step.Refused (AtByte cause q) ])) ⌝ }
+    ensures { λ r. ⌜ ((ns : List ℕ) → r ≡ (elim (extensible (table (now (types .entry)) ns) row) as (λ b. Step) [ true ↦ refusedAt Unknown p | false ↦ refusedAt cause q ])) ⌝ }
 {
     if Row::at(types, row).extensible() {
         return refused(Cause::Unknown, p);

@@ -1,4 +1,4 @@
--- Parts of a slice, equal bytes, and UTF-8, one byte at a time. Assumes nothing.
+-- Equal bytes, and UTF-8, one byte at a time. Assumes nothing.
 use mathlib.Core.Path.{_≡_, refl, sym, ap, _∙_}
 use mathlib.Core.List.{List, [], _∷_}
 use mathlib.Core.Bool.{Bool, true, false, _&&_}
@@ -15,20 +15,6 @@ use Rattle.jer.specs.Table.{sameBytes}
 use Rattle.types.specs.declared.bytes.Due.{Due as State}
 use Rattle.types.specs.declared.bytes.Due.the-variants.{Next}
 use Rattle.types.specs.Bytes.{dueOf, Ascii}
-
--- ---- parts
-
-module _ (s : List ℕ) (at n : ℕ) where
-  pub part-none : length s ≤ at → take (length s - length s) (drop (length s) s) ≡ take n (drop at s)
-  part-none h = rw (drop-length s, drop-of-length-le s h, take-nil (length s - length s), take-nil n)
-
-  pub part-rest : length s - at ≤ n → take (length s - at) (drop at s) ≡ take n (drop at s)
-  part-rest h =
-      take-all (length s - at) (drop at s) (omega (arith, length-drop at s))
-      ∙ sym (take-all n (drop at s) (omega (arith, length-drop at s)))
-
-  pub part-whole : take (at + n - at) (drop at s) ≡ take n (drop at s)
-  part-whole = let g : at + n - at ≡ n = omega arith in rw g
 
 -- ---- equal bytes
 

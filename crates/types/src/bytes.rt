@@ -1,25 +1,9 @@
-// Bytes: a part of a slice, whether two slices hold the same, and UTF-8.
+// Bytes: whether two slices hold the same, and UTF-8.
 ghost use mathlib.Core.Path.{_≡_};
 ghost use mathlib.Core.Bool.{true};
-ghost use lib.ListN.{take, drop};
 ghost use Rattle.json.specs.Utf8.{utf8, start, dueStep, dueNext, dueEnd};
 ghost use Rattle.jer.specs.Table.{sameBytes};
 ghost use Rattle.types.specs.Bytes.{dueOf, Ascii};
-
-// The n bytes from `at` on, or as many of them as there are.
-pub fn part(s: &[u8], at: usize, n: usize) -> &[u8]
-    ensures { λ r. ⌜ now r ≡ take n (drop at (now (s .entry))) ⌝ }
-{
-    let end = s.len();
-    if end <= at {
-        return &s[end..end];
-    }
-    if end - at <= n {
-        return &s[at..end];
-    }
-    let stop = at + n;
-    &s[at..stop]
-}
 
 pub fn same_bytes(a: &[u8], b: &[u8]) -> bool
     ensures { λ r. ⌜ r ≡ sameBytes (now (a .entry)) (now (b .entry)) ⌝ }

@@ -1,7 +1,7 @@
 // A row of the type table: its fields by name, its kinds and marks, the tests of its marks, and the rows that it points to.
-use crate::bytes::part;
 use crate::token;
 use jer::Layout;
+use slices::part;
 ghost use mathlib.Core.Path.{_≡_};
 ghost use mathlib.Core.List.{List};
 ghost use Prim.Native.Nat.{ℕ, _<_, _/_};

@@ -16,7 +16,7 @@ use Rattle.jer.specs.Write.{nullText}
 use Rattle.octets.proofs.AmountLaws.{amount-within, amount-over, amount-add}
 use Rattle.octets.proofs.EncodeLaws.{hex-length, base64-length}
 use Rattle.octets.proofs.EscapeLaws.{escapes-few}
-use Rattle.tokens.proofs.SliceLaws.{sets-append}
+use Rattle.slices.proofs.PartLaws.{sets-append}
 use Rattle.writing.specs.Text.{Puts, spelled, comma, nulls, nameText, lead}
 use Rattle.writing.specs.declared.put.Form.{Form}
 use Rattle.writing.specs.declared.put.Form.the-variants.{Escaped, Hexadecimal, Base64}

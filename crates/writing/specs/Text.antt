@@ -7,6 +7,7 @@ use mathlib.Core.Option.{Option}
 use lib.Dec.{eqb}
 use lib.ListN.{length}
 use lib.Seq.{sets}
+use Rattle.slices.specs.Lent.{Lent, before, after, tableIn}
 use Rattle.jer.specs.Table.{Table, UTF8String, kindOf, isBase64, isUnwrapped, countOf, typeAt, nameAt}
 use Rattle.jer.specs.Value.{Val}
 use Rattle.jer.specs.Rows.{ValueRow}
@@ -114,20 +115,27 @@ valueWritten t ns pool = bind (judge t ns pool) (λ v. ok (write v t 0))
 
 -- ---- what the members of the cycle write
 
--- the value from the row q and the pool byte o on, of the type at r, into the text from k on
-abbrev pub WritesValue : ℕ → Table → List ℕ → List ℕ → ℕ → ℕ → ℕ → ℕ → List ℕ → List ℕ → Taken → Type 0
-WritesValue depth t values pool r q o k before after a = Writes (valueText depth t pool (rowsFrom values q) r q o) k before after a
+-- the value from a slot of the value table and an offset of the pool on, of the type at a row, into the text from a place on
+abbrev pub WritesValue : ℕ → Lent → Lent → Lent → Lent → ℕ → ℕ → ℕ → ℕ → Lent → Taken → Type 0
+WritesValue depth types names values pool row slot offset place text a =
+    Writes (valueText depth (tableIn types names) (before pool) (rowsFrom (before values) slot) row slot offset) place (before text) (after text) a
+
+-- the same with no text to write into: it is measured
+abbrev pub Measures : ℕ → Lent → Lent → Lent → Lent → ℕ → ℕ → ℕ → Taken → Type 0
+Measures depth types names values pool row slot offset a = Writes (valueText depth (tableIn types names) (before pool) (rowsFrom (before values) slot) row slot offset) 0 [] [] a
 
 -- a value with a bracket, whose row is w and whose parts are taken so
-abbrev pub WritesParts : (Table → ℕ → ValueRow → List ValueRow → ℕ → ℕ → Taker → Took Val) → ℕ → Table → List ℕ → List ℕ → ℕ → ValueRow → ℕ → ℕ → ℕ → List ℕ → List ℕ → Taken → Type 0
-WritesParts parts depth t values pool r w q o k before after a = Writes (bracketText (parts t r w (rowsFrom values (suc q)) q o) depth t pool r) k before after a
+abbrev pub WritesParts : (Table → ℕ → ValueRow → List ValueRow → ℕ → ℕ → Taker → Took Val) → ℕ → Lent → Lent → Lent → Lent → ℕ → ValueRow → ℕ → ℕ → ℕ → Lent → Taken → Type 0
+WritesParts parts depth types names values pool row w slot offset place text a =
+    Writes (bracketText (parts (tableIn types names) row w (rowsFrom (before values) (suc slot)) slot offset) depth (tableIn types names) (before pool) row) place (before text) (after text) a
 
 -- a leaf, whose row is w
-abbrev pub WritesLeaf : Table → List ℕ → ℕ → ValueRow → ℕ → ℕ → ℕ → List ℕ → List ℕ → Taken → Type 0
-WritesLeaf t pool r w q o k before after a =
-    (i : Option Taker) (ws : List ValueRow) → Writes (textOf (λ v. write v t r) (takeRow i t pool r w ws q o)) k before after a
+abbrev pub WritesLeaf : Lent → Lent → Lent → ℕ → ValueRow → ℕ → ℕ → ℕ → Lent → Taken → Type 0
+WritesLeaf types names pool row w slot offset place text a =
+    (i : Option Taker) (ws : List ValueRow)
+    → Writes (textOf (λ v. write v (tableIn types names) row) (takeRow i (tableIn types names) (before pool) row w ws slot offset)) place (before text) (after text) a
 
 -- what `jer` says of a written text: the answer a, and the lent text, before and after
-pub record Answers (x : Res (List ℕ)) (before after : List ℕ) (a : Writing) : Type 0 where
-  pub answer : a ≡ writeAnswer (length before) x
-  pub text : after ≡ textAfter before x
+pub record Answers (x : Res (List ℕ)) (text₀ text₁ : List ℕ) (a : Writing) : Type 0 where
+  pub answer : a ≡ writeAnswer (length text₀) x
+  pub text : text₁ ≡ textAfter text₀ x

@@ -8,7 +8,7 @@ use crate::put::put_string;
 use crate::rows::ValueRow;
 use crate::taken::Taken;
 use crate::taken::ended;
-use types::bytes::part;
+use slices::part;
 use types::bytes::utf8;
 use types::row::Row;
 use types::row::count_of;
@@ -22,15 +22,15 @@ ghost use Rattle.jer.specs.Table.{kindOf, table};
 ghost use Rattle.writing.specs.Rows.{valueRow};
 ghost use Rattle.writing.specs.Text.{formOf, Writes, WritesLeaf};
 
-// How a string of the type at r is spelled.
-fn form_of(types: &[u32], r: usize) -> Form
-    ensures { λ f. ⌜ ((ns : List ℕ) → f ≡ formOf (table (now (types .entry)) ns) r) ⌝ }
+// How a string of the type at `row` is spelled.
+fn form_of(types: &[u32], row: usize) -> Form
+    ensures { λ f. ⌜ ((ns : List ℕ) → f ≡ formOf (table (now (types .entry)) ns) row) ⌝ }
 {
-    let row = Row::at(types, r);
-    if row.kind == Row::UTF8_STRING {
+    let type_row = Row::at(types, row);
+    if type_row.kind == Row::UTF8_STRING {
         return Form::Escaped;
     }
-    if row.is_base64() {
+    if type_row.is_base64() {
         return Form::Base64;
     }
     Form::Hexadecimal
@@ -43,21 +43,21 @@ fn string(
     pool: &[u8],
     text: &mut [u8],
     w: ValueRow,
-    r: usize,
-    q: usize,
-    o: usize,
-    k: usize,
+    row: usize,
+    slot: usize,
+    offset: usize,
+    place: usize,
 ) -> Taken
-    requires { ⌜ (w .kind ≡ kindOf (table (now types) (now names)) r) × (4 ≤ w .kind) × (w .kind ≤ 5) × (q < 18446744073709551615) ⌝ }
-    ensures { λ a. ⌜ WritesLeaf (table (now (types .entry)) (now (names .entry))) (now (pool .entry)) r (valueRow w) q o k (now (text .entry)) (now (text .exit)) a ⌝ }
+    requires { ⌜ (w .kind ≡ kindOf (table (now types) (now names)) row) × (4 ≤ w .kind) × (w .kind ≤ 5) × (slot < 18446744073709551615) ⌝ }
+    ensures { λ a. ⌜ WritesLeaf types names pool row (valueRow w) slot offset place text a ⌝ }
 {
     let start = wide(w.a);
     let len = wide(w.b);
-    let s = part(pool, o, len);
-    let end = put_string(text, k, form_of(types, r), s);
-    let inside = (start == o) & (start + len <= pool.len());
+    let s = part(pool, offset, len);
+    let end = put_string(text, place, form_of(types, row), s);
+    let inside = (start == offset) & (start + len <= pool.len());
     let good = inside & ((w.kind == Row::OCTET_STRING) | utf8(s));
-    ended(good, w.size, q, q + 1, add(o, len), end)
+    ended(good, w.size, slot, slot + 1, add(offset, len), end)
 }
 
 pub fn leaf(
@@ -66,40 +66,40 @@ pub fn leaf(
     pool: &[u8],
     text: &mut [u8],
     w: ValueRow,
-    r: usize,
-    q: usize,
-    o: usize,
-    k: usize,
+    row: usize,
+    slot: usize,
+    offset: usize,
+    place: usize,
 ) -> Taken
-    requires { ⌜ (w .kind ≡ kindOf (table (now types) (now names)) r) × (w .kind ≤ 5) × (q < 18446744073709551615) ⌝ }
-    ensures { λ a. ⌜ WritesLeaf (table (now (types .entry)) (now (names .entry))) (now (pool .entry)) r (valueRow w) q o k (now (text .entry)) (now (text .exit)) a ⌝ }
+    requires { ⌜ (w .kind ≡ kindOf (table (now types) (now names)) row) × (w .kind ≤ 5) × (slot < 18446744073709551615) ⌝ }
+    ensures { λ a. ⌜ WritesLeaf types names pool row (valueRow w) slot offset place text a ⌝ }
 {
     let kind = w.kind;
     match kind {
         Row::BOOLEAN => {
-            let end = put_bool(text, k, w.a == 1);
-            ended((w.a < 2) & (w.b == 0), w.size, q, q + 1, o, end)
+            let end = put_bool(text, place, w.a == 1);
+            ended((w.a < 2) & (w.b == 0), w.size, slot, slot + 1, offset, end)
         }
         Row::INTEGER => {
-            let end = put_integer(text, k, w.a, w.b);
-            ended(true, w.size, q, q + 1, o, end)
+            let end = put_integer(text, place, w.a, w.b);
+            ended(true, w.size, slot, slot + 1, offset, end)
         }
         Row::ENUMERATED => {
-            let name = name_in(types, names, member_row(types, r, w.a));
-            let end = put_string(text, k, Form::Escaped, name);
+            let name = name_in(types, names, member_row(types, row, w.a));
+            let end = put_string(text, place, Form::Escaped, name);
             ended(
-                (w.a < count_of(types, r)) & (w.b == 0),
+                (w.a < count_of(types, row)) & (w.b == 0),
                 w.size,
-                q,
-                q + 1,
-                o,
+                slot,
+                slot + 1,
+                offset,
                 end,
             )
         }
         Row::NULL => {
-            let end = put_null(text, k);
-            ended((w.a == 0) & (w.b == 0), w.size, q, q + 1, o, end)
+            let end = put_null(text, place);
+            ended((w.a == 0) & (w.b == 0), w.size, slot, slot + 1, offset, end)
         }
-        _ => string(types, names, pool, text, w, r, q, o, k),
+        _ => string(types, names, pool, text, w, row, slot, offset, place),
     }
 }

@@ -35,11 +35,11 @@ fn write_value(types: &[u32], names: &[u8], values: &[u32], pool: &[u8], text: &
     ensures { λ r. ⌜ Answers (valueWritten (table (now (types .entry)) (now (names .entry))) (now (values .entry)) (now (pool .entry))) (now (text .entry)) (now (text .exit)) r ⌝ }
 {
     match judged(types, names, values, pool, 0, 0, 0, json::BRACKETS) {
-        Taken::Wrong(q) => Writing::Refused(Refusal::AtRow(Which::ValueTable, q)),
-        Taken::Took { row, used, end } => {
-            let rows = (values.len() % 4 == 0) & (values.len() / 4 == row);
+        Taken::Wrong(slot) => Writing::Refused(Refusal::AtRow(Which::ValueTable, slot)),
+        Taken::Took { next, used, end } => {
+            let rows = (values.len() % 4 == 0) & (values.len() / 4 == next);
             if !(rows & (pool.len() == used)) {
-                return Writing::Refused(Refusal::AtRow(Which::ValueTable, row));
+                return Writing::Refused(Refusal::AtRow(Which::ValueTable, next));
             }
             if json::TEXT < end {
                 return Writing::Refused(Refusal::Amounts(Limit::HouseSize, end as u64, 0));

@@ -3,7 +3,7 @@ use octets::amount;
 use octets::encode;
 use octets::escape;
 use octets::integer;
-use tokens::slices::put;
+use slices::put;
 use types::row::member_row;
 use types::row::name_in;
 ghost use mathlib.Core.Path.{_≡_};

@@ -7,28 +7,32 @@ ghost use lib.Dec.{eqb};
 ghost use Rattle.writing.specs.Text.{endedAs};
 
 pub enum Taken {
-    // The next row, how far the pool is used, and where the text ends.
-    Took { row: usize, used: usize, end: usize },
-    // The first bad row.
+    // The next slot, how far the pool is used, and where the text ends.
+    Took {
+        next: usize,
+        used: usize,
+        end: usize,
+    },
+    // The first bad slot.
     Wrong(usize),
 }
 
-fn rows_between(q: usize, next: usize) -> usize
-    ensures { λ n. ⌜ n ≡ next - q ⌝ }
+fn rows_between(slot: usize, next: usize) -> usize
+    ensures { λ n. ⌜ n ≡ next - slot ⌝ }
 {
-    if next < q { 0 } else { next - q }
+    if next < slot { 0 } else { next - slot }
 }
 
-// Taken up to the next row, if the row q is right, its size too.
-pub fn ended(good: bool, size: u32, q: usize, next: usize, used: usize, end: usize) -> Taken
-    ensures { λ t. ⌜ t ≡ endedAs (good && eqb size (next - q)) q next used end ⌝ }
+// Taken up to the next slot, if the row at `slot` is right, its size too.
+pub fn ended(good: bool, size: u32, slot: usize, next: usize, used: usize, end: usize) -> Taken
+    ensures { λ t. ⌜ t ≡ endedAs (good && eqb size (next - slot)) slot next used end ⌝ }
 {
-    if good & (wide(size) == rows_between(q, next)) {
+    if good & (wide(size) == rows_between(slot, next)) {
         return Taken::Took {
-            row: next,
+            next: next,
             used: used,
             end: end,
         };
     }
-    Taken::Wrong(q)
+    Taken::Wrong(slot)
 }

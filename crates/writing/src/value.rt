@@ -29,38 +29,60 @@ ghost use lib.ListN.{length};
 ghost use Rattle.jer.specs.Table.{isUnwrapped, table};
 ghost use Rattle.jer.specs.Judge.{takeSequence, takeList, takeChoice};
 ghost use Rattle.writing.specs.Rows.{valueRow};
-ghost use Rattle.writing.specs.Text.{WritesValue, WritesParts, Wrapped};
+ghost use Rattle.writing.specs.Text.{WritesValue, Measures, WritesParts, Wrapped};
 
-// The value of the type at r that begins at the row q, with the pool used up to o; its text from k on.
+// The value of the type at `row` whose rows begin at `slot`, with the pool used up to `offset`; its text from `place` on.
 pub fn value(
     types: &[u32],
     names: &[u8],
     values: &[u32],
     pool: &[u8],
     text: &mut [u8],
-    r: usize,
-    q: usize,
-    o: usize,
-    k: usize,
+    row: usize,
+    slot: usize,
+    offset: usize,
+    place: usize,
     depth: u32,
 ) -> Taken
     requires { ⌜ Wrapped (table (now types) (now names)) ⌝ }
-    ensures { λ a. ⌜ WritesValue depth (table (now (types .entry)) (now (names .entry))) (now (values .entry)) (now (pool .entry)) r q o k (now (text .entry)) (now (text .exit)) a ⌝ }
+    ensures { λ a. ⌜ WritesValue depth types names values pool row slot offset place text a ⌝ }
 {
-    if !Row::at(types, r).is_unwrapped() {
-        return plain(types, names, values, pool, text, r, q, o, k, depth);
+    if !Row::at(types, row).is_unwrapped() {
+        return plain(
+            types,
+            names,
+            values,
+            pool,
+            text,
+            row,
+            slot,
+            offset,
+            place,
+            depth,
+        );
     }
-    let Found::Row(w) = row_at(values, q) else {
-        return Taken::Wrong(q);
+    let Found::Row(w) = row_at(values, slot) else {
+        return Taken::Wrong(slot);
     };
-    let right = (w.kind == Row::CHOICE) & ((w.a < count_of(types, r)) & (w.b == 0));
+    let right = (w.kind == Row::CHOICE) & ((w.a < count_of(types, row)) & (w.b == 0));
     if !right {
-        return Taken::Wrong(q);
+        return Taken::Wrong(slot);
     }
-    let e = type_at(types, r, w.a);
-    match plain(types, names, values, pool, text, e, q + 1, o, k, depth) {
+    let e = type_at(types, row, w.a);
+    match plain(
+        types,
+        names,
+        values,
+        pool,
+        text,
+        e,
+        slot + 1,
+        offset,
+        place,
+        depth,
+    ) {
         Taken::Wrong(b) => Taken::Wrong(b),
-        Taken::Took { row, used, end } => ended(true, w.size, q, row, used, end),
+        Taken::Took { next, used, end } => ended(true, w.size, slot, next, used, end),
     }
 }
 
@@ -71,44 +93,80 @@ fn plain(
     values: &[u32],
     pool: &[u8],
     text: &mut [u8],
-    r: usize,
-    q: usize,
-    o: usize,
-    k: usize,
+    row: usize,
+    slot: usize,
+    offset: usize,
+    place: usize,
     depth: u32,
 ) -> Taken
-    requires { ⌜ Wrapped (table (now types) (now names)) × (isUnwrapped (table (now types) (now names)) r ≡ false) ⌝ }
-    ensures { λ a. ⌜ WritesValue depth (table (now (types .entry)) (now (names .entry))) (now (values .entry)) (now (pool .entry)) r q o k (now (text .entry)) (now (text .exit)) a ⌝ }
+    requires { ⌜ Wrapped (table (now types) (now names)) × (isUnwrapped (table (now types) (now names)) row ≡ false) ⌝ }
+    ensures { λ a. ⌜ WritesValue depth types names values pool row slot offset place text a ⌝ }
 {
-    let Found::Row(w) = row_at(values, q) else {
-        return Taken::Wrong(q);
+    let Found::Row(w) = row_at(values, slot) else {
+        return Taken::Wrong(slot);
     };
     let kind = w.kind;
-    if kind != kind_of(types, r) {
-        return Taken::Wrong(q);
+    if kind != kind_of(types, row) {
+        return Taken::Wrong(slot);
     }
     if kind < Row::SEQUENCE {
-        return leaf(types, names, pool, text, w, r, q, o, k);
+        return leaf(types, names, pool, text, w, row, slot, offset, place);
     }
     if depth == 0 {
-        return Taken::Wrong(q);
+        return Taken::Wrong(slot);
     }
     if w.b != 0 {
-        return Taken::Wrong(q);
+        return Taken::Wrong(slot);
     }
     if kind == Row::SEQUENCE {
-        return sequence(types, names, values, pool, text, w, r, q, o, k, depth - 1);
+        return sequence(
+            types,
+            names,
+            values,
+            pool,
+            text,
+            w,
+            row,
+            slot,
+            offset,
+            place,
+            depth - 1,
+        );
     }
     if kind == Row::SEQUENCE_OF {
-        return list(types, names, values, pool, text, w, r, q, o, k, depth - 1);
+        return list(
+            types,
+            names,
+            values,
+            pool,
+            text,
+            w,
+            row,
+            slot,
+            offset,
+            place,
+            depth - 1,
+        );
     }
     if kind != Row::CHOICE {
-        return Taken::Wrong(q);
+        return Taken::Wrong(slot);
     }
-    if count_of(types, r) <= w.a {
-        return Taken::Wrong(q);
+    if count_of(types, row) <= w.a {
+        return Taken::Wrong(slot);
     }
-    choice(types, names, values, pool, text, w, r, q, o, k, depth - 1)
+    choice(
+        types,
+        names,
+        values,
+        pool,
+        text,
+        w,
+        row,
+        slot,
+        offset,
+        place,
+        depth - 1,
+    )
 }
 
 // A SEQUENCE OF whose row is w. `depth` brackets may be opened inside.
@@ -119,26 +177,30 @@ fn list(
     pool: &[u8],
     text: &mut [u8],
     w: ValueRow,
-    r: usize,
-    q: usize,
-    o: usize,
-    k: usize,
+    row: usize,
+    slot: usize,
+    offset: usize,
+    place: usize,
     depth: u32,
 ) -> Taken
-    requires { ⌜ Wrapped (table (now types) (now names)) × (q < length (now values)) ⌝ }
-    ensures { λ a. ⌜ WritesParts takeList depth (table (now (types .entry)) (now (names .entry))) (now (values .entry)) (now (pool .entry)) r (valueRow w) q o k (now (text .entry)) (now (text .exit)) a ⌝ }
+    requires { ⌜ Wrapped (table (now types) (now names)) × (slot < length (now values)) ⌝ }
+    ensures { λ a. ⌜ WritesParts takeList depth types names values pool row (valueRow w) slot offset place text a ⌝ }
 {
-    let e = element_of(types, r);
+    let e = element_of(types, row);
     let mut i: u32 = 0;
-    let mut next = q + 1;
-    let mut used = o;
-    let mut p = put_byte(text, k, 0x5B);
+    let mut next = slot + 1;
+    let mut used = offset;
+    let mut p = put_byte(text, place, 0x5B);
     while i < w.a {
         let s = put_comma(text, p, i);
         match value(types, names, values, pool, text, e, next, used, s, depth) {
             Taken::Wrong(b) => return Taken::Wrong(b),
-            Taken::Took { row, used: u, end } => {
-                next = row;
+            Taken::Took {
+                next: n,
+                used: u,
+                end,
+            } => {
+                next = n;
                 used = u;
                 p = end;
                 i += 1;
@@ -146,7 +208,7 @@ fn list(
         }
     }
     let end = put_byte(text, p, 0x5D);
-    ended(true, w.size, q, next, used, end)
+    ended(true, w.size, slot, next, used, end)
 }
 
 // A SEQUENCE, as an ARRAY or an object: nulls of an ARRAY wait until another element follows.
@@ -157,44 +219,54 @@ fn sequence(
     pool: &[u8],
     text: &mut [u8],
     w: ValueRow,
-    r: usize,
-    q: usize,
-    o: usize,
-    k: usize,
+    row: usize,
+    slot: usize,
+    offset: usize,
+    place: usize,
     depth: u32,
 ) -> Taken
-    requires { ⌜ Wrapped (table (now types) (now names)) × (q < length (now values)) ⌝ }
-    ensures { λ a. ⌜ WritesParts takeSequence depth (table (now (types .entry)) (now (names .entry))) (now (values .entry)) (now (pool .entry)) r (valueRow w) q o k (now (text .entry)) (now (text .exit)) a ⌝ }
+    requires { ⌜ Wrapped (table (now types) (now names)) × (slot < length (now values)) ⌝ }
+    ensures { λ a. ⌜ WritesParts takeSequence depth types names values pool row (valueRow w) slot offset place text a ⌝ }
 {
-    let array = Row::at(types, r).is_array();
-    let count = count_of(types, r);
+    let array = Row::at(types, row).is_array();
+    let count = count_of(types, row);
     let mut i: u32 = 0;
     let mut present: u32 = 0;
     let mut kept: u32 = 0;
-    let mut next = q + 1;
-    let mut used = o;
-    let mut p = put_opening(text, k, array);
+    let mut next = slot + 1;
+    let mut used = offset;
+    let mut p = put_opening(text, place, array);
     while i < count {
-        let e = type_at(types, r, i);
-        if absent_at(types, values, r, i, next) {
+        let e = type_at(types, row, i);
+        if absent_at(types, values, row, i, next) {
             next += 1;
             i += 1;
         } else if array & null_at(types, values, e, next) {
             let t = judged(types, names, values, pool, e, next, used, depth);
-            let Taken::Took { row, used: u, .. } = t else {
+            let Taken::Took {
+                next: n,
+                used: u,
+                ..
+            } = t
+            else {
                 return t;
             };
-            next = row;
+            next = n;
             used = u;
             present += 1;
             i += 1;
         } else {
-            let s = put_lead(types, names, text, r, i, kept, p, array);
+            let s = put_lead(types, names, text, row, i, kept, p, array);
             let t = value(types, names, values, pool, text, e, next, used, s, depth);
-            let Taken::Took { row, used: u, end } = t else {
+            let Taken::Took {
+                next: n,
+                used: u,
+                end,
+            } = t
+            else {
                 return t;
             };
-            next = row;
+            next = n;
             used = u;
             p = end;
             kept = kept_after(array, i, kept);
@@ -203,7 +275,7 @@ fn sequence(
         }
     }
     let end = put_closing(text, p, array);
-    ended(w.a == present, w.size, q, next, used, end)
+    ended(w.a == present, w.size, slot, next, used, end)
 }
 
 // A value whose text is measured and not kept.
@@ -212,16 +284,27 @@ pub fn judged(
     names: &[u8],
     values: &[u32],
     pool: &[u8],
-    r: usize,
-    q: usize,
-    o: usize,
+    row: usize,
+    slot: usize,
+    offset: usize,
     depth: u32,
 ) -> Taken
     requires { ⌜ Wrapped (table (now types) (now names)) ⌝ }
-    ensures { λ a. ⌜ WritesValue depth (table (now (types .entry)) (now (names .entry))) (now (values .entry)) (now (pool .entry)) r q o 0 [] [] a ⌝ }
+    ensures { λ a. ⌜ Measures depth types names values pool row slot offset a ⌝ }
 {
     let mut one = [0u8; 1];
-    value(types, names, values, pool, &mut one, r, q, o, 0, depth)
+    value(
+        types,
+        names,
+        values,
+        pool,
+        &mut one,
+        row,
+        slot,
+        offset,
+        0,
+        depth,
+    )
 }
 
 // A CHOICE that is not UNWRAPPED: an object of one member.
@@ -232,23 +315,34 @@ fn choice(
     pool: &[u8],
     text: &mut [u8],
     w: ValueRow,
-    r: usize,
-    q: usize,
-    o: usize,
-    k: usize,
+    row: usize,
+    slot: usize,
+    offset: usize,
+    place: usize,
     depth: u32,
 ) -> Taken
-    requires { ⌜ Wrapped (table (now types) (now names)) × (q < length (now values)) × (isUnwrapped (table (now types) (now names)) r ≡ false) ⌝ }
-    ensures { λ a. ⌜ WritesParts takeChoice depth (table (now (types .entry)) (now (names .entry))) (now (values .entry)) (now (pool .entry)) r (valueRow w) q o k (now (text .entry)) (now (text .exit)) a ⌝ }
+    requires { ⌜ Wrapped (table (now types) (now names)) × (slot < length (now values)) × (isUnwrapped (table (now types) (now names)) row ≡ false) ⌝ }
+    ensures { λ a. ⌜ WritesParts takeChoice depth types names values pool row (valueRow w) slot offset place text a ⌝ }
 {
-    let p = put_byte(text, k, 0x7B);
-    let start = put_name(text, p, name_in(types, names, member_row(types, r, w.a)));
-    let e = type_at(types, r, w.a);
-    match value(types, names, values, pool, text, e, q + 1, o, start, depth) {
+    let p = put_byte(text, place, 0x7B);
+    let start = put_name(text, p, name_in(types, names, member_row(types, row, w.a)));
+    let e = type_at(types, row, w.a);
+    match value(
+        types,
+        names,
+        values,
+        pool,
+        text,
+        e,
+        slot + 1,
+        offset,
+        start,
+        depth,
+    ) {
         Taken::Wrong(b) => Taken::Wrong(b),
-        Taken::Took { row, used, end } => {
+        Taken::Took { next, used, end } => {
             let last = put_byte(text, end, 0x7D);
-            ended(true, w.size, q, row, used, last)
+            ended(true, w.size, slot, next, used, last)
         }
     }
 }

@@ -1,4 +1,4 @@
--- Made by tools/answers.py from answers/missing/missing.ans: edit that. 330ce8c8a4de6d51
+-- Made by tools/answers.py from answers/missing/missing.ans: edit that. b9803703e120239a
 use mathlib.Core.Path.{refl, sym, _∙_}
 use Rattle.jer.specs.Table.{tNull, tokenCode, table}
 use Rattle.leaf.proofs.LeafLaws.{missing-choice, missing-open, missing-closed, missing-null, missing-other, missing-refused, missing-one, missing-two}
@@ -49,7 +49,7 @@ returns c =
     let w = c .before .before .before .before .before .before .before .before .before .before .before .before .before .before .before .before .before .at in
     let m = c .before .before .before .before .before .before .before .before .before .before .before .before .before .before .before .before .before .before .type-at in
     λ ns pool o. let t = table (a .types .now) ns in
-    missing-two t (a .row) (a .p) (a .member) (a .next) (m .ensures ns) (missing-choice t (m .result) (a .p) (a .member) (c .before .before .before .before .before .before .before .before .before .before .before .before .before .before .before .before .is-unwrapped .ensures t (m .result) (w .ensures ns)) (c .before .before .before .before .before .before .before .before .before .before .before .before .before .before .before .if1 .taken) (sym (c .before .before .before .before .before .before .before .before .before .before .before .before .k .given .1) ∙ c .before .before .before .before .before .before .before .before .before .before .before .before .before .before .alternative .ensures ns tNull refl)) (w .ensures ns) (c .before .before .before .before .before .type-at2 .ensures ns) (c .before .before .before .before .kind-of .ensures ns) (c .before .before .before .before .before .before .before .before .before .put-row .ensures) (c .before .before .before .put-row2 .ensures) (c .read .ensures)
+    missing-two t (a .row) (a .place) (a .member) (a .next) (m .ensures ns) (missing-choice t (m .result) (a .place) (a .member) (c .before .before .before .before .before .before .before .before .before .before .before .before .before .before .before .before .is-unwrapped .ensures t (m .result) (w .ensures ns)) (c .before .before .before .before .before .before .before .before .before .before .before .before .before .before .before .if1 .taken) (sym (c .before .before .before .before .before .before .before .before .before .before .before .before .k .given .1) ∙ c .before .before .before .before .before .before .before .before .before .before .before .before .before .before .alternative .ensures ns tNull refl)) (w .ensures ns) (c .before .before .before .before .before .type-at2 .ensures ns) (c .before .before .before .before .kind-of .ensures ns) (c .before .before .before .before .before .before .before .before .before .put-row .ensures) (c .before .before .before .put-row2 .ensures) (c .read .ensures)
 
 enum-told : tie.Need-enum-told
 enum-told c = search needs
@@ -67,7 +67,7 @@ returns-2 c =
     let m = c .before .before .before .before .before .before .before .before .before .type-at in
     let w = c .before .before .before .before .before .before .before .before .at in
     λ ns pool o. let t = table (a .types .now) ns in
-    missing-refused t (a .row) (a .p) (a .member) (a .next) (m .ensures ns) (missing-open t (m .result) (a .p) (a .member) (c .before .before .before .before .before .before .before .is-unwrapped .ensures t (m .result) (w .ensures ns)) (c .before .before .before .before .before .before .if1 .taken) (sym (c .before .before .before .enum-told .given .1) ∙ c .before .before .before .before .before .alternative .ensures ns tNull refl) (c .before .before .extensible .ensures t (m .result) (w .ensures ns)) (c .before .if2 .taken)) (c .refused .ensures)
+    missing-refused t (a .row) (a .place) (a .member) (a .next) (m .ensures ns) (missing-open t (m .result) (a .place) (a .member) (c .before .before .before .before .before .before .before .is-unwrapped .ensures t (m .result) (w .ensures ns)) (c .before .before .before .before .before .before .if1 .taken) (sym (c .before .before .before .enum-told .given .1) ∙ c .before .before .before .before .before .alternative .ensures ns tNull refl) (c .before .before .extensible .ensures t (m .result) (w .ensures ns)) (c .before .if2 .taken)) (c .refused .ensures)
 
 refused-requires-2 : tie.Need-refused-requires-2
 refused-requires-2 c κs = search needs
@@ -79,7 +79,7 @@ returns-3 c =
     let m = c .before .before .before .before .before .before .before .before .before .type-at in
     let w = c .before .before .before .before .before .before .before .before .at in
     λ ns pool o. let t = table (a .types .now) ns in
-    missing-refused t (a .row) (a .p) (a .member) (a .next) (m .ensures ns) (missing-closed t (m .result) (a .p) (a .member) (c .before .before .before .before .before .before .before .is-unwrapped .ensures t (m .result) (w .ensures ns)) (c .before .before .before .before .before .before .if1 .taken) (sym (c .before .before .before .enum-told .given .1) ∙ c .before .before .before .before .before .alternative .ensures ns tNull refl) (c .before .before .extensible .ensures t (m .result) (w .ensures ns)) (c .before .if2 .left)) (c .refused2 .ensures)
+    missing-refused t (a .row) (a .place) (a .member) (a .next) (m .ensures ns) (missing-closed t (m .result) (a .place) (a .member) (c .before .before .before .before .before .before .before .is-unwrapped .ensures t (m .result) (w .ensures ns)) (c .before .before .before .before .before .before .if1 .taken) (sym (c .before .before .before .enum-told .given .1) ∙ c .before .before .before .before .before .alternative .ensures ns tNull refl) (c .before .before .extensible .ensures t (m .result) (w .ensures ns)) (c .before .if2 .left)) (c .refused2 .ensures)
 
 put-row-requires-3 : tie.Need-put-row-requires-3
 put-row-requires-3 c κs = search needs
@@ -96,7 +96,7 @@ returns-4 c =
     let m = c .before .before .before .before .before .before .before .before .before .before .type-at in
     let w = c .before .before .before .before .before .before .before .before .before .at in
     λ ns pool o. let t = table (a .types .now) ns in
-    missing-one t (a .row) (a .p) (a .member) (a .next) (m .ensures ns) (missing-null t (m .result) (a .p) (a .member) (c .before .before .before .before .before .before .before .before .is-unwrapped .ensures t (m .result) (w .ensures ns)) (c .before .before .before .before .before .before .before .if1 .left) (w .ensures ns) (c .before .before .before .before .before .if3 .taken)) (w .ensures ns) (c .before .before .before .put-row3 .ensures) (c .read2 .ensures)
+    missing-one t (a .row) (a .place) (a .member) (a .next) (m .ensures ns) (missing-null t (m .result) (a .place) (a .member) (c .before .before .before .before .before .before .before .before .is-unwrapped .ensures t (m .result) (w .ensures ns)) (c .before .before .before .before .before .before .before .if1 .left) (w .ensures ns) (c .before .before .before .before .before .if3 .taken)) (w .ensures ns) (c .before .before .before .put-row3 .ensures) (c .read2 .ensures)
 
 refused-requires-3 : tie.Need-refused-requires-3
 refused-requires-3 c κs = search needs
@@ -107,7 +107,7 @@ returns-5 c =
     let m = c .before .before .before .before .before .before .type-at in
     let w = c .before .before .before .before .before .at in
     λ ns pool o. let t = table (a .types .now) ns in
-    missing-refused t (a .row) (a .p) (a .member) (a .next) (m .ensures ns) (missing-other t (m .result) (a .p) (a .member) (c .before .before .before .before .is-unwrapped .ensures t (m .result) (w .ensures ns)) (c .before .before .before .if1 .left) (w .ensures ns) (c .before .if3 .left)) (c .refused3 .ensures)
+    missing-refused t (a .row) (a .place) (a .member) (a .next) (m .ensures ns) (missing-other t (m .result) (a .place) (a .member) (c .before .before .before .before .is-unwrapped .ensures t (m .result) (w .ensures ns)) (c .before .before .before .if1 .left) (w .ensures ns) (c .before .if3 .left)) (c .refused3 .ensures)
 
 pub missing-spec : {M : Type 1} → statement M
 missing-spec =

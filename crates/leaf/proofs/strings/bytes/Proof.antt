@@ -1,4 +1,4 @@
--- Made by tools/answers.py from answers/strings/bytes.ans: edit that. f0b256c9ae5114be
+-- Made by tools/answers.py from answers/strings/bytes.ans: edit that. 7b923e93f175a4c3
 use Prim.Native.Nat.{_*_}
 use native.Mathlib.Omega.{arith}
 use Rattle.leaf.proofs.LeafLaws.{same-row}
@@ -24,7 +24,7 @@ same-length c = search needs
 returns : tie.Need-returns
 returns c =
     let a = c .before .before .before .before .before .before .before .before .args in
-    (c .read .ensures, λ h. same-row (a .rows .now) (a .i * 4) (a .kind) (c .before .before .before .put-row .ensures) (c .before .before .before .before .before .narrow .ensures (omega arith)) (c .before .before .before .before .narrow2 .ensures (omega arith)))
+    (c .read .ensures, λ h. same-row (a .rows .now) (a .slot * 4) (a .kind) (c .before .before .before .put-row .ensures) (c .before .before .before .before .before .narrow .ensures (omega arith)) (c .before .before .before .before .narrow2 .ensures (omega arith)))
 
 pub bytes-spec : {M : Type 1} → statement M
 bytes-spec =

@@ -1,4 +1,4 @@
--- Made by tools/answers.py from answers/strings/item.ans: edit that. de1bec13d65c5da0
+-- Made by tools/answers.py from answers/strings/item.ans: edit that. 99f010f73485bf8b
 use mathlib.Core.Path.{sym, _∙_}
 use Prim.Native.Nat.{_+_}
 use Rattle.jer.specs.Table.{position, table}
@@ -49,19 +49,19 @@ returns : tie.Need-returns
 returns c =
     let a = c .before .before .before .before .before .before .before .before .before .before .before .before .before .before .before .args in
     let t = table (a .types .now) (a .names .now) in
-    λ pool o. item-read t (a .row) (a .p) (stringEnd (a .s .now) (a .p + 1)) (position t (a .row) (denoted (a .s .now) (a .p + 1))) (c .before .before .before .before .before .before .before .before .before .before .at .ensures (a .names .now)) (sym (c .before .before .before .before .before .before .before .k .given .1) ∙ c .before .before .before .before .before .before .before .before .before .position .ensures) (c .before .string-end .ensures) (c .before .before .before .before .put-row .ensures) (c .read .ensures)
+    λ pool o. item-read t (a .row) (a .place) (stringEnd (a .s .now) (a .place + 1)) (position t (a .row) (denoted (a .s .now) (a .place + 1))) (c .before .before .before .before .before .before .before .before .before .before .at .ensures (a .names .now)) (sym (c .before .before .before .before .before .before .before .k .given .1) ∙ c .before .before .before .before .before .before .before .before .before .position .ensures) (c .before .string-end .ensures) (c .before .before .before .before .put-row .ensures) (c .read .ensures)
 
 returns-2 : tie.Need-returns-2
 returns-2 c =
     let a = c .before .before .before .before .before .before .before .before .before .before .before .args in
     let t = table (a .types .now) (a .names .now) in
-    λ pool o. refuses (item-none t (a .row) (a .p) (stringEnd (a .s .now) (a .p + 1)) (position t (a .row) (denoted (a .s .now) (a .p + 1))) (sym (c .before .before .before .enum-told .given .1) ∙ c .before .before .before .before .before .position .ensures) (c .before .before .extensible .ensures t (a .row) (c .before .before .before .before .before .before .at .ensures (a .names .now))) (c .before .if1 .taken)) (c .refused .ensures)
+    λ pool o. refuses (item-none t (a .row) (a .place) (stringEnd (a .s .now) (a .place + 1)) (position t (a .row) (denoted (a .s .now) (a .place + 1))) (sym (c .before .before .before .enum-told .given .1) ∙ c .before .before .before .before .before .position .ensures) (c .before .before .extensible .ensures t (a .row) (c .before .before .before .before .before .before .at .ensures (a .names .now))) (c .before .if1 .taken)) (c .refused .ensures)
 
 returns-3 : tie.Need-returns-3
 returns-3 c =
     let a = c .before .before .before .before .before .before .before .before .before .before .before .args in
     let t = table (a .types .now) (a .names .now) in
-    λ pool o. refuses (item-bad t (a .row) (a .p) (stringEnd (a .s .now) (a .p + 1)) (position t (a .row) (denoted (a .s .now) (a .p + 1))) (sym (c .before .before .before .enum-told .given .1) ∙ c .before .before .before .before .before .position .ensures) (c .before .before .extensible .ensures t (a .row) (c .before .before .before .before .before .before .at .ensures (a .names .now))) (c .before .if1 .left)) (c .refused2 .ensures)
+    λ pool o. refuses (item-bad t (a .row) (a .place) (stringEnd (a .s .now) (a .place + 1)) (position t (a .row) (denoted (a .s .now) (a .place + 1))) (sym (c .before .before .before .enum-told .given .1) ∙ c .before .before .before .before .before .position .ensures) (c .before .before .extensible .ensures t (a .row) (c .before .before .before .before .before .before .at .ensures (a .names .now))) (c .before .if1 .left)) (c .refused2 .ensures)
 
 pub item-spec : {M : Type 1} → statement M
 item-spec =

@@ -1,4 +1,4 @@
--- Made by tools/answers.py from answers/strings/octets_at.ans: edit that. df240cb097b53820
+-- Made by tools/answers.py from answers/strings/octets_at.ans: edit that. 56f5c1388b257495
 use mathlib.Core.Path.{ap, _∙_}
 use Prim.Native.Nat.{_+_}
 use Rattle.tokens.specs.Strings.{denoted}
@@ -33,7 +33,7 @@ same-length c = search needs
 returns : tie.Need-returns
 returns c =
     let a = c .before .before .before .before .before .before .before .before .before .before .before .before .args in
-    let d = denoted (a .s .now) (a .p + 1) in
+    let d = denoted (a .s .now) (a .place + 1) in
     let f = c .before .before .base64-octets in (
       λ ns. f .ensures .0 ∙ ap foundOf (base64-of (table (a .types .now) ns) (a .row) d (c .before .before .before .before .before .is-base64 .ensures _ _ (c .before .before .before .before .before .before .at .ensures ns)) (c .before .before .before .before .if1 .taken)),
       λ ns h. stored-at _ _ (base64-of (table (a .types .now) ns) (a .row) d (c .before .before .before .before .before .is-base64 .ensures _ _ (c .before .before .before .before .before .before .at .ensures ns)) (c .before .before .before .before .if1 .taken)) (c .before .before .before .before .before .before .before .wide .ensures .0 ∙ c .before .before .before .before .before .before .before .before .narrow .ensures h) (f .ensures .1),
@@ -51,7 +51,7 @@ same-length-2 c = search needs
 returns-2 : tie.Need-returns-2
 returns-2 c =
     let a = c .before .before .before .before .before .before .before .before .before .before .before .before .args in
-    let d = denoted (a .s .now) (a .p + 1) in
+    let d = denoted (a .s .now) (a .place + 1) in
     let f = c .before .before .hex-octets in (
       λ ns. f .ensures .0 ∙ ap foundOf (hex-of (table (a .types .now) ns) (a .row) d (c .before .before .before .before .before .is-base64 .ensures _ _ (c .before .before .before .before .before .before .at .ensures ns)) (c .before .before .before .before .if1 .left)),
       λ ns h. stored-at _ _ (hex-of (table (a .types .now) ns) (a .row) d (c .before .before .before .before .before .is-base64 .ensures _ _ (c .before .before .before .before .before .before .at .ensures ns)) (c .before .before .before .before .if1 .left)) (c .before .before .before .before .before .before .before .wide .ensures .0 ∙ c .before .before .before .before .before .before .before .before .narrow .ensures h) (f .ensures .1),

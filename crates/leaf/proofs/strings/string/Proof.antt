@@ -1,4 +1,4 @@
--- Made by tools/answers.py from answers/strings/string.ans: edit that. 1fad448aee6a860a
+-- Made by tools/answers.py from answers/strings/string.ans: edit that. 686b3e2e8a536176
 use mathlib.Core.Path.{sym, _∙_}
 use Rattle.jer.specs.Table.{table}
 use Rattle.leaf.proofs.StoreLaws.{stepped, refuses}
@@ -62,7 +62,7 @@ returns : tie.Need-returns
 returns c =
     let a = c .before .before .before .before .before .before .before .before .before .before .before .args in
     let ns = a .names .now in
-    stepped (string-item (table (a .types .now) ns) (a .s .now) (a .row) (a .p) (c .before .before .before .before .before .kind-of .ensures ns) (c .before .before .before .before .match .keys1)) (c .before .before .item .ensures (a .pool .now) (a .o))
+    stepped (string-item (table (a .types .now) ns) (a .s .now) (a .row) (a .place) (c .before .before .before .before .before .kind-of .ensures ns) (c .before .before .before .before .match .keys1)) (c .before .before .item .ensures (a .pool .now) (a .offset))
 
 same-length-2 : tie.Need-same-length-2
 same-length-2 c = search needs
@@ -71,7 +71,7 @@ returns-2 : tie.Need-returns-2
 returns-2 c =
     let a = c .before .before .before .before .before .before .before .before .before .before .before .before .before .before .args in
     let ns = a .names .now in
-    refuses (octets-bad (table (a .types .now) ns) (a .s .now) (a .row) (a .p) (c .before .before .before .before .before .before .before .before .kind-of .ensures ns) (c .before .before .before .before .before .before .before .match .keys2) (sym (c .before .enum-told .given .1) ∙ c .before .before .before .before .before .octets-at .ensures .0 ns)) (c .refused .ensures)
+    refuses (octets-bad (table (a .types .now) ns) (a .s .now) (a .row) (a .place) (c .before .before .before .before .before .before .before .before .kind-of .ensures ns) (c .before .before .before .before .before .before .before .match .keys2) (sym (c .before .enum-told .given .1) ∙ c .before .before .before .before .before .octets-at .ensures .0 ns)) (c .refused .ensures)
 
 same-length-3 : tie.Need-same-length-3
 same-length-3 c = search needs
@@ -83,7 +83,7 @@ returns-3 : tie.Need-returns-3
 returns-3 c =
     let a = c .before .before .before .before .before .before .before .before .before .before .before .before .before .before .before .before .before .before .before .args in
     let ns = a .names .now in
-    octets-read (table (a .types .now) ns) (a .s .now) (a .row) (a .p) (c .before .before .before .before .before .before .before .before .before .before .before .before .before .kind-of .ensures ns) (c .before .before .before .string-end .ensures) (c .before .before .bytes .ensures .0) (c .before .before .bytes .ensures .1) (c .before .before .before .before .before .before .before .before .before .before .before .before .match .keys2) (sym (c .before .before .before .before .before .before .n .given .1) ∙ c .before .before .before .before .before .before .before .before .before .before .octets-at .ensures .0 ns) (c .before .before .before .before .before .before .before .before .before .before .octets-at .ensures .1 ns)
+    octets-read (table (a .types .now) ns) (a .s .now) (a .row) (a .place) (c .before .before .before .before .before .before .before .before .before .before .before .before .before .kind-of .ensures ns) (c .before .before .before .string-end .ensures) (c .before .before .bytes .ensures .0) (c .before .before .bytes .ensures .1) (c .before .before .before .before .before .before .before .before .before .before .before .before .match .keys2) (sym (c .before .before .before .before .before .before .n .given .1) ∙ c .before .before .before .before .before .before .before .before .before .before .octets-at .ensures .0 ns) (c .before .before .before .before .before .before .before .before .before .before .octets-at .ensures .1 ns)
 
 same-length-5 : tie.Need-same-length-5
 same-length-5 c = search needs
@@ -95,14 +95,14 @@ returns-4 : tie.Need-returns-4
 returns-4 c =
     let a = c .before .before .before .before .before .before .before .before .before .before .before .before .before .before .before .before .before .before .args in
     let ns = a .names .now in
-    utf8-read (table (a .types .now) ns) (a .s .now) (a .row) (a .p) (c .before .before .before .before .before .before .before .before .before .before .before .before .kind-of .ensures ns) (c .before .before .before .string-end2 .ensures ∙ c .before .before .before .before .before .before .before .copy .ensures .1 .0) (c .before .before .bytes2 .ensures .0) (c .before .before .bytes2 .ensures .1) (c .before .before .before .before .before .before .before .before .before .before .before .match .keys3) (c .before .before .before .before .before .before .before .copy .ensures .0) (λ h. c .before .before .before .before .before .before .before .before .wide .ensures .0 ∙ c .before .before .before .before .before .before .before .before .before .narrow .ensures h) (c .before .before .before .before .before .before .before .copy .ensures .1 .1)
+    utf8-read (table (a .types .now) ns) (a .s .now) (a .row) (a .place) (c .before .before .before .before .before .before .before .before .before .before .before .before .kind-of .ensures ns) (c .before .before .before .string-end2 .ensures ∙ c .before .before .before .before .before .before .before .copy .ensures .1 .0) (c .before .before .bytes2 .ensures .0) (c .before .before .bytes2 .ensures .1) (c .before .before .before .before .before .before .before .before .before .before .before .match .keys3) (c .before .before .before .before .before .before .before .copy .ensures .0) (λ h. c .before .before .before .before .before .before .before .before .wide .ensures .0 ∙ c .before .before .before .before .before .before .before .before .before .narrow .ensures h) (c .before .before .before .before .before .before .before .copy .ensures .1 .1)
 
 returns-5 : tie.Need-returns-5
 returns-5 c =
     let a = c .before .before .before .before .before .before .before .before .args in
     let ns = a .names .now in
     let m = c .before .match .rest in
-    refuses (string-other (table (a .types .now) ns) (a .s .now) (a .row) (a .p) (c .before .before .kind-of .ensures ns) (m .0 .0 .1) (m .0 .1) (m .1)) (c .refused2 .ensures)
+    refuses (string-other (table (a .types .now) ns) (a .s .now) (a .row) (a .place) (c .before .before .kind-of .ensures ns) (m .0 .0 .1) (m .0 .1) (m .1)) (c .refused2 .ensures)
 
 pub string-spec : {M : Type 1} → statement M
 string-spec =

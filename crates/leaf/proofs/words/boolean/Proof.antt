@@ -1,4 +1,4 @@
--- Made by tools/answers.py from answers/words/boolean.ans: edit that. 084f6186a2b6e58f
+-- Made by tools/answers.py from answers/words/boolean.ans: edit that. 69f81e19d000d958
 use Rattle.jer.specs.Table.{table}
 use Rattle.leaf.proofs.StoreLaws.{refuses}
 use Rattle.leaf.proofs.LeafLaws.{boolean-other, boolean-read}
@@ -15,7 +15,7 @@ refused-requires c κs = search needs
 returns : tie.Need-returns
 returns c =
     let a = c .before .before .before .before .before .before .args in
-    λ ns pool o. refuses (boolean-other (table (a .types .now) ns) (a .s .now) (a .row) (a .p) (c .before .before .kind-of .ensures ns) (c .before .if1 .taken)) (c .refused .ensures)
+    λ ns pool o. refuses (boolean-other (table (a .types .now) ns) (a .s .now) (a .row) (a .place) (c .before .before .kind-of .ensures ns) (c .before .if1 .taken)) (c .refused .ensures)
 
 byte-at-requires : tie.Need-byte-at-requires
 byte-at-requires c κs = search needs
@@ -38,7 +38,7 @@ same-length c = search needs
 returns-2 : tie.Need-returns-2
 returns-2 c =
     let a = c .before .before .before .before .before .before .before .before .before .before .before .before .args in
-    λ ns pool o. boolean-read (table (a .types .now) ns) (a .s .now) (a .row) (a .p) (c .before .before .before .before .before .before .before .before .kind-of .ensures ns) (c .before .run .ensures) (c .read .ensures) (c .before .before .before .before .before .before .before .if1 .left) (c .before .before .before .before .before .before .byte-at .ensures .0) (c .before .before .before .before .put-row .ensures)
+    λ ns pool o. boolean-read (table (a .types .now) ns) (a .s .now) (a .row) (a .place) (c .before .before .before .before .before .before .before .before .kind-of .ensures ns) (c .before .run .ensures) (c .read .ensures) (c .before .before .before .before .before .before .before .if1 .left) (c .before .before .before .before .before .before .byte-at .ensures .0) (c .before .before .before .before .put-row .ensures)
 
 pub boolean-spec : {M : Type 1} → statement M
 boolean-spec =

@@ -1,4 +1,4 @@
--- Made by tools/answers.py from answers/words/null.ans: edit that. 6c83b72f11a268b2
+-- Made by tools/answers.py from answers/words/null.ans: edit that. 767a2509f9650678
 use Rattle.jer.specs.Table.{table}
 use Rattle.leaf.proofs.StoreLaws.{refuses}
 use Rattle.leaf.proofs.LeafLaws.{null-other, null-read}
@@ -15,7 +15,7 @@ refused-requires c κs = search needs
 returns : tie.Need-returns
 returns c =
     let a = c .before .before .before .before .before .before .args in
-    λ ns pool o. refuses (null-other (table (a .types .now) ns) (a .s .now) (a .row) (a .p) (c .before .before .kind-of .ensures ns) (c .before .if1 .taken)) (c .refused .ensures)
+    λ ns pool o. refuses (null-other (table (a .types .now) ns) (a .s .now) (a .row) (a .place) (c .before .before .kind-of .ensures ns) (c .before .if1 .taken)) (c .refused .ensures)
 
 put-row-requires : tie.Need-put-row-requires
 put-row-requires c κs = search needs
@@ -32,7 +32,7 @@ same-length c = search needs
 returns-2 : tie.Need-returns-2
 returns-2 c =
     let a = c .before .before .before .before .before .before .before .before .before .before .before .args in
-    λ ns pool o. null-read (table (a .types .now) ns) (a .s .now) (a .row) (a .p) (c .before .before .before .before .before .before .before .kind-of .ensures ns) (c .before .run .ensures) (c .read .ensures) (c .before .before .before .before .before .before .if1 .left) (c .before .before .before .before .put-row .ensures)
+    λ ns pool o. null-read (table (a .types .now) ns) (a .s .now) (a .row) (a .place) (c .before .before .before .before .before .before .before .kind-of .ensures ns) (c .before .run .ensures) (c .read .ensures) (c .before .before .before .before .before .before .if1 .left) (c .before .before .before .before .put-row .ensures)
 
 pub null-spec : {M : Type 1} → statement M
 null-spec =

@@ -1,4 +1,4 @@
--- Made by tools/answers.py from answers/skip/+skip_bracket+skip_value.ans: edit that. 8bc06b073ae4a518
+-- Made by tools/answers.py from answers/skip/+skip_bracket+skip_value.ans: edit that. 1dbd2d258e77ba3d
 use Prim.Native.Nat.{ℕ, _<_, _+_, _-_}
 use mathlib.Core.Path.{_∙_}
 use native.Mathlib.Omega.{arith}
@@ -14,7 +14,7 @@ use Rattle.tokens.proofs.skip.+skip_bracket+skip_value.Lts-skip_bracket
 use Rattle.tokens.proofs.skip.skip_value.Reads as skip-value
 use Rattle.tokens.proofs.skip.skip_value.Kinds as skip-value-kinds
 use Rattle.tokens.proofs.skip.+skip_bracket+skip_value.Lts-skip_value as skip-value-lts
-use Rattle.tokens.proofs.cursor.byte_at.Reads as byte-at-reads
+use Rattle.slices.proofs.byte_at.Reads as byte-at-reads
 use Rattle.tokens.proofs.cursor.run.Reads as run-reads
 use Rattle.tokens.proofs.strings.string_end.Reads as string-end-reads
 use Rattle.tokens.proofs.skip.+skip_bracket+skip_value.{statement}

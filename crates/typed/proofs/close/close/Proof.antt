@@ -1,4 +1,4 @@
--- Made by tools/answers.py from answers/close/close.ans: edit that. 247f38dfb46b0250
+-- Made by tools/answers.py from answers/close/close.ans: edit that. 882df9d1dfdf0ead
 use mathlib.Core.Path.{ap, _∙_}
 use mathlib.Core.List.{[], _∷_}
 use Prim.Native.Nat.{ℕ, _*_}
@@ -26,7 +26,7 @@ same-length : tie.Need-same-length
 same-length c = search needs
 
 returns : tie.Need-returns
-returns c = (c .bounded .ensures, λ l. c .before .before .before .put-row .ensures ∙ ap (λ (x : ℕ). sets (c .before .before .before .before .before .before .before .args .rows .now) (c .before .before .before .before .before .before .before .args .i * 4) (c .before .before .before .before .before .before .before .args .kind ∷ c .before .before .before .before .before .before .before .args .a ∷ 0 ∷ x ∷ [])) (c .before .before .before .before .narrow .ensures l))
+returns c = (c .bounded .ensures, λ l. c .before .before .before .put-row .ensures ∙ ap (λ (x : ℕ). sets (c .before .before .before .before .before .before .before .args .rows .now) (c .before .before .before .before .before .before .before .args .slot * 4) (c .before .before .before .before .before .before .before .args .kind ∷ c .before .before .before .before .before .before .before .args .a ∷ 0 ∷ x ∷ [])) (c .before .before .before .before .narrow .ensures l))
 
 pub close-spec : {M : Type 1} → statement M
 close-spec =

@@ -1,4 +1,4 @@
--- Made by tools/answers.py from answers/cycle/+array+choice+each_member+list+object+plain+value.ans: edit that. d22de34f4f38ce37
+-- Made by tools/answers.py from answers/cycle/+array+choice+each_member+list+object+plain+value.ans: edit that. ef383a4f4cf75ca3
 use Prim.Native.Nat.{ℕ, _<_, _≤_, _+_, _-_, _*_}
 use mathlib.Core.Path.{_≡_, refl, sym, ap, _∙_}
 use native.Mathlib.Omega.{arith}
@@ -165,10 +165,10 @@ abbrev value-calls : ℕ → value-lts.Claims
 value-calls t = (token-at-reads.Asked, token-at-reads.Learnt, at-reads.Asked, at-reads.Learnt, is-unwrapped-reads.Asked, is-unwrapped-reads.Learnt, plain-below t, plain.Post, alternative-reads.Asked, alternative-reads.Learnt, unknown-reads.Asked, unknown-reads.Learnt, type-at-reads.Asked, type-at-reads.Learnt, close-reads.Asked, close-reads.Learnt)
 
 abbrev array-Inv-loop : array-lts.InvT-loop
-array-Inv-loop types names s rows₀ pool₀ row p i o d count next₀ k₀ present₀ n₀ m₀ rows pool next k present n m = (count ≡ countOf (table types names) row) × (count ≤ 64) × Near (65539 + d) next × Elements (λ q u. readAt (d - 1) (table types names) s q u) (d - 1) (table types names) s row p (elementsAt (λ q u. readAt (d - 1) (table types names) s q u) (d - 1) (table types names) s row p 0 (countOf (table types names) row) (firstPart s 0x5D p)) next i o n m k present rows rows₀ pool pool₀ × (k ≤ count)
+array-Inv-loop types names s rows₀ pool₀ row place slot offset depth count next₀ k₀ present₀ n₀ m₀ rows pool next k present n m = (count ≡ countOf (table types names) row) × (count ≤ 64) × Near (65539 + depth) next × Elements (λ q u. readAt (depth - 1) (table types names) s q u) (depth - 1) (table types names) s row place (elementsAt (λ q u. readAt (depth - 1) (table types names) s q u) (depth - 1) (table types names) s row place 0 (countOf (table types names) row) (firstPart s 0x5D place)) next slot offset n m k present rows rows₀ pool pool₀ × (k ≤ count)
 
 abbrev array-μ-loop : array-lts.MeasureT-loop
-array-μ-loop types names s rows₀ pool₀ row p i o d count next₀ k₀ present₀ n₀ m₀ rows pool next k present n m = count - k
+array-μ-loop types names s rows₀ pool₀ row place slot offset depth count next₀ k₀ present₀ n₀ m₀ rows pool next k present n m = count - k
 
 array-count-of-requires : (t : ℕ) → array-lts.Need-count-of-requires (array-calls t) (array-at t) array.Post array-Inv-loop array-μ-loop
 array-count-of-requires t c κs = search needs
@@ -181,16 +181,16 @@ array-loop-holds t c =
     let names = c .before .before .before .before .before .before .before .args .names .now in
     let tab = table (c .before .before .before .before .before .before .before .args .types .now) names in
     let s = c .before .before .before .before .before .before .before .args .s .now in
-    let d = c .before .before .before .before .before .before .before .args .d in
+    let d = c .before .before .before .before .before .before .before .args .depth in
     let first = c .first-part .result in
     let first-part-said = c .first-part .ensures in
     let entry = (c .before .before .before .before .before .before .before) in
-    (c .before .count-of .ensures names, omega (arith, (c .before .before .before .before .before .before .before .pre .1 .0) .sane .few (c .before .before .before .before .before .before .before .args .row) ((c .before .before .before .before .before .before .before .pre .1 .0) .typed), c .before .count-of .ensures names), near-first s 0x5D (c .before .before .before .before .before .before .before .args .p) (65539 + d) first ((c .before .before .before .before .before .before .before .pre .1 .0) .short) (c .before .before .before .before .before .before .before .pre .1 .1 .0) (omega (arith, c .before .before .before .before .before .before .before .pre .1 .1 .1)) first-part-said, elements-start (λ q u. readAt (d - 1) tab s q u) (d - 1) tab s (c .before .before .before .before .before .before .before .args .row) (c .before .before .before .before .before .before .before .args .p) (firstPart s 0x5D (c .before .before .before .before .before .before .before .args .p)) first (c .before .before .before .before .before .before .before .args .i) (c .before .before .before .before .before .before .before .args .o) (c .before .before .before .before .before .before .before .args .rows .now) (c .before .before .before .before .before .before .before .args .pool .now) first-part-said, omega arith)
+    (c .before .count-of .ensures names, omega (arith, (c .before .before .before .before .before .before .before .pre .1 .0) .sane .few (c .before .before .before .before .before .before .before .args .row) ((c .before .before .before .before .before .before .before .pre .1 .0) .typed), c .before .count-of .ensures names), near-first s 0x5D (c .before .before .before .before .before .before .before .args .place) (65539 + d) first ((c .before .before .before .before .before .before .before .pre .1 .0) .short) (c .before .before .before .before .before .before .before .pre .1 .1 .0) (omega (arith, c .before .before .before .before .before .before .before .pre .1 .1 .1)) first-part-said, elements-start (λ q u. readAt (d - 1) tab s q u) (d - 1) tab s (c .before .before .before .before .before .before .before .args .row) (c .before .before .before .before .before .before .before .args .place) (firstPart s 0x5D (c .before .before .before .before .before .before .before .args .place)) first (c .before .before .before .before .before .before .before .args .slot) (c .before .before .before .before .before .before .before .args .offset) (c .before .before .before .before .before .before .before .args .rows .now) (c .before .before .before .before .before .before .before .args .pool .now) first-part-said, omega arith)
 
 array-element-found-requires : (t : ℕ) → array-lts.Need-element-found-requires (array-calls t) (array-at t) array.Post array-Inv-loop array-μ-loop
 array-element-found-requires t c κs =
     let entry = (c .before .before .before .before .before .before .before .before .before) in
-    ((c .before .before .before .before .before .before .before .before .before .pre .1 .0) .short, near-follows (65539 + c .before .before .before .before .before .before .before .before .before .args .d) 4294967295 (c .before .loop .next) (omega (arith, (c .before .before .before .before .before .before .before .before .before .pre .1 .0) .rowRoom)) (omega arith) (c .before .loop .inv .2))
+    ((c .before .before .before .before .before .before .before .before .before .pre .1 .0) .short, near-follows (65539 + c .before .before .before .before .before .before .before .before .before .args .depth) 4294967295 (c .before .loop .next) (omega (arith, (c .before .before .before .before .before .before .before .before .before .pre .1 .0) .rowRoom)) (omega arith) (c .before .loop .inv .2))
 
 array-enum-known-f : (t : ℕ) → array-lts.Need-enum-known-f (array-calls t) (array-at t) array.Post array-Inv-loop array-μ-loop
 array-enum-known-f t c = search needs
@@ -218,14 +218,14 @@ array-loop-again t c =
     let names = c .before .before .before .before .before .before .before .before .before .before .before .before .before .before .before .before .before .args .names .now in
     let tab = table (c .before .before .before .before .before .before .before .before .before .before .before .before .before .before .before .before .before .args .types .now) names in
     let s = c .before .before .before .before .before .before .before .before .before .before .before .before .before .before .before .before .before .args .s .now in
-    let d = c .before .before .before .before .before .before .before .before .before .before .before .before .before .before .before .before .before .args .d in
+    let d = c .before .before .before .before .before .before .before .before .before .before .before .before .before .before .before .before .before .args .depth in
     let loop = c .before .before .before .before .before .before .before .before .before .loop in
     let loop-inv = loop .inv .0 in
     let loop-test-yes = c .before .before .before .before .before .before .before .before .loop-test .taken in
     let entry = (c .before .before .before .before .before .before .before .before .before .before .before .before .before .before .before .before .before) in
     let f = c .before .before .before .before .before .f in
     let back = sym (f .given .1) ∙ c .before .before .before .before .before .before .before .element-found .ensures names in
-    (loop-inv, loop .inv .1, near-absent tab s (c .before .before .before .before .before .before .before .before .before .before .before .before .before .before .before .before .before .args .row) (loop .k) (65539 + d) (loop .next) (f .given .0 .0) ((c .before .before .before .before .before .before .before .before .before .before .before .before .before .before .before .before .before .pre .1 .0) .short) (omega (arith, c .before .before .before .before .before .before .before .before .before .before .before .before .before .before .before .before .before .pre .1 .1 .1)) (loop .inv .2) back, elements-absent (λ q u. readAt (d - 1) tab s q u) (d - 1) tab s (c .before .before .before .before .before .before .before .before .before .before .before .before .before .before .before .before .before .args .row) (c .before .before .before .before .before .before .before .before .before .before .before .before .before .before .before .before .before .args .p) (loop .inv .3) (rw (← loop-inv) (c .before .before .before .before .before .before .before .before .loop-test .taken)) back (c .before .before .put-row .ensures) (c .before .before .put-row .kept .0), omega (arith, loop-test-yes))
+    (loop-inv, loop .inv .1, near-absent tab s (c .before .before .before .before .before .before .before .before .before .before .before .before .before .before .before .before .before .args .row) (loop .k) (65539 + d) (loop .next) (f .given .0 .0) ((c .before .before .before .before .before .before .before .before .before .before .before .before .before .before .before .before .before .pre .1 .0) .short) (omega (arith, c .before .before .before .before .before .before .before .before .before .before .before .before .before .before .before .before .before .pre .1 .1 .1)) (loop .inv .2) back, elements-absent (λ q u. readAt (d - 1) tab s q u) (d - 1) tab s (c .before .before .before .before .before .before .before .before .before .before .before .before .before .before .before .before .before .args .row) (c .before .before .before .before .before .before .before .before .before .before .before .before .before .before .before .before .before .args .place) (loop .inv .3) (rw (← loop-inv) (c .before .before .before .before .before .before .before .before .loop-test .taken)) back (c .before .before .put-row .ensures) (c .before .before .put-row .kept .0), omega (arith, loop-test-yes))
 
 array-enum-known-q : (t : ℕ) → array-lts.Need-enum-known-q (array-calls t) (array-at t) array.Post array-Inv-loop array-μ-loop
 array-enum-known-q t c = search needs
@@ -255,7 +255,7 @@ array-returns t c =
     let s = c .before .before .before .before .before .before .before .before .before .before .before .before .before .before .before .before .before .before .before .before .args .s .now in
     let loop = c .before .before .before .before .before .before .before .before .before .before .before .before .loop in
     let q₂ = c .before .before .before .before .before .before .before .before .q in
-    reads-no (over-no tab (c .before .before .before .before .before .before .before .before .before .before .before .before .before .before .before .before .before .before .before .before .args .row) (array-no (λ q u. readAt (c .before .before .before .before .before .before .before .before .before .before .before .before .before .before .before .before .before .before .before .before .args .d - 1) tab s q u) tab s (c .before .before .before .before .before .before .before .before .before .before .before .before .before .before .before .before .before .before .before .before .args .row) (c .before .before .before .before .before .before .before .before .before .before .before .before .before .before .before .before .before .before .before .before .args .p) (c .before .before .before .before .before .before .before .before .before .before .before .before .before .before .before .before .before .before .before .before .args .d - 1) (elements-lost (λ q u. readAt (c .before .before .before .before .before .before .before .before .before .before .before .before .before .before .before .before .before .before .before .before .args .d - 1) tab s q u) (c .before .before .before .before .before .before .before .before .before .before .before .before .before .before .before .before .before .before .before .before .args .d - 1) tab s (c .before .before .before .before .before .before .before .before .before .before .before .before .before .before .before .before .before .before .before .before .args .row) (c .before .before .before .before .before .before .before .before .before .before .before .before .before .before .before .before .before .before .before .before .args .p) (loop .inv .3) (rw (← loop .inv .0) (c .before .before .before .before .before .before .before .before .before .before .before .loop-test .taken)) (sym (q₂ .given .1) ∙ c .before .before .before .before .before .before .before .before .before .before .element-found .ensures names) (missing-no tab (c .before .before .before .before .before .before .before .before .before .before .before .before .before .before .before .before .before .before .before .before .args .row) (c .before .before .before .before .before .before .before .before .before .before .before .before .before .before .before .before .before .before .before .before .args .p) (loop .k) (q₂ .given .0 .0) (not-took tab (typeAt tab (c .before .before .before .before .before .before .before .before .before .before .before .before .before .before .before .before .before .before .before .before .args .row) (loop .k)) _ (c .before .e .given .0 .0) (sym (c .before .e .given .1) ∙ (c .before .before .before .before .before .missing .ensures names (loop .pool) (c .before .before .before .before .before .before .before .before .before .before .before .before .before .before .before .before .before .before .before .before .args .o + loop .m)) .answer))))))
+    reads-no (over-no tab (c .before .before .before .before .before .before .before .before .before .before .before .before .before .before .before .before .before .before .before .before .args .row) (array-no (λ q u. readAt (c .before .before .before .before .before .before .before .before .before .before .before .before .before .before .before .before .before .before .before .before .args .depth - 1) tab s q u) tab s (c .before .before .before .before .before .before .before .before .before .before .before .before .before .before .before .before .before .before .before .before .args .row) (c .before .before .before .before .before .before .before .before .before .before .before .before .before .before .before .before .before .before .before .before .args .place) (c .before .before .before .before .before .before .before .before .before .before .before .before .before .before .before .before .before .before .before .before .args .depth - 1) (elements-lost (λ q u. readAt (c .before .before .before .before .before .before .before .before .before .before .before .before .before .before .before .before .before .before .before .before .args .depth - 1) tab s q u) (c .before .before .before .before .before .before .before .before .before .before .before .before .before .before .before .before .before .before .before .before .args .depth - 1) tab s (c .before .before .before .before .before .before .before .before .before .before .before .before .before .before .before .before .before .before .before .before .args .row) (c .before .before .before .before .before .before .before .before .before .before .before .before .before .before .before .before .before .before .before .before .args .place) (loop .inv .3) (rw (← loop .inv .0) (c .before .before .before .before .before .before .before .before .before .before .before .loop-test .taken)) (sym (q₂ .given .1) ∙ c .before .before .before .before .before .before .before .before .before .before .element-found .ensures names) (missing-no tab (c .before .before .before .before .before .before .before .before .before .before .before .before .before .before .before .before .before .before .before .before .args .row) (c .before .before .before .before .before .before .before .before .before .before .before .before .before .before .before .before .before .before .before .before .args .place) (loop .k) (q₂ .given .0 .0) (not-took tab (typeAt tab (c .before .before .before .before .before .before .before .before .before .before .before .before .before .before .before .before .before .before .before .before .args .row) (loop .k)) _ (c .before .e .given .0 .0) (sym (c .before .e .given .1) ∙ (c .before .before .before .before .before .missing .ensures names (loop .pool) (c .before .before .before .before .before .before .before .before .before .before .before .before .before .before .before .before .before .before .before .before .args .offset + loop .m)) .answer))))))
 
 array-enum-known-a : (t : ℕ) → array-lts.Need-enum-known-a (array-calls t) (array-at t) array.Post array-Inv-loop array-μ-loop
 array-enum-known-a t c = search needs
@@ -270,7 +270,7 @@ array-add-n-2 t c =
     let loop = c .before .before .before .before .before .before .before .before .before .before .before .before .before .loop in
     let entry = (c .before .before .before .before .before .before .before .before .before .before .before .before .before .before .before .before .before .before .before .before .before) in
     let q = c .before .before .before .before .before .before .before .before .before .q .given .0 .0 in
-    omega (arith, missing-small tab (c .before .before .before .before .before .before .before .before .before .before .before .before .before .before .before .before .before .before .before .before .before .args .row) (c .before .before .before .before .before .before .before .before .before .before .before .before .before .before .before .before .before .before .before .before .before .args .p) (loop .k) q (took tab (typeAt tab (c .before .before .before .before .before .before .before .before .before .before .before .before .before .before .before .before .before .before .before .before .before .args .row) (loop .k)) (ending q (missingElement tab (c .before .before .before .before .before .before .before .before .before .before .before .before .before .before .before .before .before .before .before .before .before .args .row) (c .before .before .before .before .before .before .before .before .before .before .before .before .before .before .before .before .before .before .before .before .before .args .p) (loop .k))) (c .before .before .a .given .0 .0) (c .before .before .a .given .0 .1 .0) (c .before .before .a .given .0 .1 .1 .0) (sym (c .before .before .a .given .1) ∙ (c .before .before .before .before .before .before .missing .ensures names (loop .pool) (c .before .before .before .before .before .before .before .before .before .before .before .before .before .before .before .before .before .before .before .before .before .args .o + loop .m)) .answer)) .0, loop .inv .3 .done .sofar .fewRows, loop .inv .1, c .before .before .before .before .before .before .before .before .before .before .before .before .loop-test .taken)
+    omega (arith, missing-small tab (c .before .before .before .before .before .before .before .before .before .before .before .before .before .before .before .before .before .before .before .before .before .args .row) (c .before .before .before .before .before .before .before .before .before .before .before .before .before .before .before .before .before .before .before .before .before .args .place) (loop .k) q (took tab (typeAt tab (c .before .before .before .before .before .before .before .before .before .before .before .before .before .before .before .before .before .before .before .before .before .args .row) (loop .k)) (ending q (missingElement tab (c .before .before .before .before .before .before .before .before .before .before .before .before .before .before .before .before .before .before .before .before .before .args .row) (c .before .before .before .before .before .before .before .before .before .before .before .before .before .before .before .before .before .before .before .before .before .args .place) (loop .k))) (c .before .before .a .given .0 .0) (c .before .before .a .given .0 .1 .0) (c .before .before .a .given .0 .1 .1 .0) (sym (c .before .before .a .given .1) ∙ (c .before .before .before .before .before .before .missing .ensures names (loop .pool) (c .before .before .before .before .before .before .before .before .before .before .before .before .before .before .before .before .before .before .before .before .before .args .offset + loop .m)) .answer)) .0, loop .inv .3 .done .sofar .fewRows, loop .inv .1, c .before .before .before .before .before .before .before .before .before .before .before .before .loop-test .taken)
 
 array-add-m : (t : ℕ) → array-lts.Need-add-m (array-calls t) (array-at t) array.Post array-Inv-loop array-μ-loop
 array-add-m t c =
@@ -279,7 +279,7 @@ array-add-m t c =
     let loop = c .before .before .before .before .before .before .before .before .before .before .before .before .before .loop in
     let entry = (c .before .before .before .before .before .before .before .before .before .before .before .before .before .before .before .before .before .before .before .before .before) in
     let q = c .before .before .before .before .before .before .before .before .before .q .given .0 .0 in
-    omega (arith, missing-small tab (c .before .before .before .before .before .before .before .before .before .before .before .before .before .before .before .before .before .before .before .before .before .args .row) (c .before .before .before .before .before .before .before .before .before .before .before .before .before .before .before .before .before .before .before .before .before .args .p) (loop .k) q (took tab (typeAt tab (c .before .before .before .before .before .before .before .before .before .before .before .before .before .before .before .before .before .before .before .before .before .args .row) (loop .k)) (ending q (missingElement tab (c .before .before .before .before .before .before .before .before .before .before .before .before .before .before .before .before .before .before .before .before .before .args .row) (c .before .before .before .before .before .before .before .before .before .before .before .before .before .before .before .before .before .before .before .before .before .args .p) (loop .k))) (c .before .before .a .given .0 .0) (c .before .before .a .given .0 .1 .0) (c .before .before .a .given .0 .1 .1 .0) (sym (c .before .before .a .given .1) ∙ (c .before .before .before .before .before .before .missing .ensures names (loop .pool) (c .before .before .before .before .before .before .before .before .before .before .before .before .before .before .before .before .before .before .before .before .before .args .o + loop .m)) .answer)) .1, loop .inv .3 .done .sofar .fewBytes, loop .inv .1, c .before .before .before .before .before .before .before .before .before .before .before .before .loop-test .taken)
+    omega (arith, missing-small tab (c .before .before .before .before .before .before .before .before .before .before .before .before .before .before .before .before .before .before .before .before .before .args .row) (c .before .before .before .before .before .before .before .before .before .before .before .before .before .before .before .before .before .before .before .before .before .args .place) (loop .k) q (took tab (typeAt tab (c .before .before .before .before .before .before .before .before .before .before .before .before .before .before .before .before .before .before .before .before .before .args .row) (loop .k)) (ending q (missingElement tab (c .before .before .before .before .before .before .before .before .before .before .before .before .before .before .before .before .before .before .before .before .before .args .row) (c .before .before .before .before .before .before .before .before .before .before .before .before .before .before .before .before .before .before .before .before .before .args .place) (loop .k))) (c .before .before .a .given .0 .0) (c .before .before .a .given .0 .1 .0) (c .before .before .a .given .0 .1 .1 .0) (sym (c .before .before .a .given .1) ∙ (c .before .before .before .before .before .before .missing .ensures names (loop .pool) (c .before .before .before .before .before .before .before .before .before .before .before .before .before .before .before .before .before .before .before .before .before .args .offset + loop .m)) .answer)) .1, loop .inv .3 .done .sofar .fewBytes, loop .inv .1, c .before .before .before .before .before .before .before .before .before .before .before .before .loop-test .taken)
 
 array-add-k-2 : (t : ℕ) → array-lts.Need-add-k-2 (array-calls t) (array-at t) array.Post array-Inv-loop array-μ-loop
 array-add-k-2 t c = search needs
@@ -298,8 +298,8 @@ array-loop-again-2 t c =
     let q₂ = c .before .before .before .before .before .before .before .before .before .q in
     let entry = (c .before .before .before .before .before .before .before .before .before .before .before .before .before .before .before .before .before .before .before .before .before) in
     let missing = c .before .before .before .before .before .before .missing in
-    let took′ = took tab (typeAt tab (c .before .before .before .before .before .before .before .before .before .before .before .before .before .before .before .before .before .before .before .before .before .args .row) (loop .k)) (ending (q₂ .given .0 .0) (missingElement tab (c .before .before .before .before .before .before .before .before .before .before .before .before .before .before .before .before .before .before .before .before .before .args .row) (c .before .before .before .before .before .before .before .before .before .before .before .before .before .before .before .before .before .before .before .before .before .args .p) (loop .k))) (c .before .before .a .given .0 .0) (c .before .before .a .given .0 .1 .0) (c .before .before .a .given .0 .1 .1 .0) (sym (c .before .before .a .given .1) ∙ (missing .ensures names (loop .pool) (c .before .before .before .before .before .before .before .before .before .before .before .before .before .before .before .before .before .before .before .before .before .args .o + loop .m)) .answer) in
-    (loop-inv, loop .inv .1, loop .inv .2, elements-null (λ q u. readAt (c .before .before .before .before .before .before .before .before .before .before .before .before .before .before .before .before .before .before .before .before .before .args .d - 1) tab s q u) (c .before .before .before .before .before .before .before .before .before .before .before .before .before .before .before .before .before .before .before .before .before .args .d - 1) tab s (c .before .before .before .before .before .before .before .before .before .before .before .before .before .before .before .before .before .before .before .before .before .args .row) (c .before .before .before .before .before .before .before .before .before .before .before .before .before .before .before .before .before .before .before .before .before .args .p) (loop .inv .3) (rw (← loop-inv) (c .before .before .before .before .before .before .before .before .before .before .before .before .loop-test .taken)) (sym (q₂ .given .1) ∙ c .before .before .before .before .before .before .before .before .before .before .before .element-found .ensures names) took′ (missing .ensures names (loop .pool) (c .before .before .before .before .before .before .before .before .before .before .before .before .before .before .before .before .before .before .before .before .before .args .o + loop .m)) (missing-small tab (c .before .before .before .before .before .before .before .before .before .before .before .before .before .before .before .before .before .before .before .before .before .args .row) (c .before .before .before .before .before .before .before .before .before .before .before .before .before .before .before .before .before .before .before .before .before .args .p) (loop .k) (q₂ .given .0 .0) took′ .0) (missing-small tab (c .before .before .before .before .before .before .before .before .before .before .before .before .before .before .before .before .before .before .before .before .before .args .row) (c .before .before .before .before .before .before .before .before .before .before .before .before .before .before .before .before .before .before .before .before .before .args .p) (loop .k) (q₂ .given .0 .0) took′ .1) (missing .kept .1 .0) refl (c .with .ensures), omega (arith, loop-test-yes))
+    let took′ = took tab (typeAt tab (c .before .before .before .before .before .before .before .before .before .before .before .before .before .before .before .before .before .before .before .before .before .args .row) (loop .k)) (ending (q₂ .given .0 .0) (missingElement tab (c .before .before .before .before .before .before .before .before .before .before .before .before .before .before .before .before .before .before .before .before .before .args .row) (c .before .before .before .before .before .before .before .before .before .before .before .before .before .before .before .before .before .before .before .before .before .args .place) (loop .k))) (c .before .before .a .given .0 .0) (c .before .before .a .given .0 .1 .0) (c .before .before .a .given .0 .1 .1 .0) (sym (c .before .before .a .given .1) ∙ (missing .ensures names (loop .pool) (c .before .before .before .before .before .before .before .before .before .before .before .before .before .before .before .before .before .before .before .before .before .args .offset + loop .m)) .answer) in
+    (loop-inv, loop .inv .1, loop .inv .2, elements-null (λ q u. readAt (c .before .before .before .before .before .before .before .before .before .before .before .before .before .before .before .before .before .before .before .before .before .args .depth - 1) tab s q u) (c .before .before .before .before .before .before .before .before .before .before .before .before .before .before .before .before .before .before .before .before .before .args .depth - 1) tab s (c .before .before .before .before .before .before .before .before .before .before .before .before .before .before .before .before .before .before .before .before .before .args .row) (c .before .before .before .before .before .before .before .before .before .before .before .before .before .before .before .before .before .before .before .before .before .args .place) (loop .inv .3) (rw (← loop-inv) (c .before .before .before .before .before .before .before .before .before .before .before .before .loop-test .taken)) (sym (q₂ .given .1) ∙ c .before .before .before .before .before .before .before .before .before .before .before .element-found .ensures names) took′ (missing .ensures names (loop .pool) (c .before .before .before .before .before .before .before .before .before .before .before .before .before .before .before .before .before .before .before .before .before .args .offset + loop .m)) (missing-small tab (c .before .before .before .before .before .before .before .before .before .before .before .before .before .before .before .before .before .before .before .before .before .args .row) (c .before .before .before .before .before .before .before .before .before .before .before .before .before .before .before .before .before .before .before .before .before .args .place) (loop .k) (q₂ .given .0 .0) took′ .0) (missing-small tab (c .before .before .before .before .before .before .before .before .before .before .before .before .before .before .before .before .before .before .before .before .before .args .row) (c .before .before .before .before .before .before .before .before .before .before .before .before .before .before .before .before .before .before .before .before .before .args .place) (loop .k) (q₂ .given .0 .0) took′ .1) (missing .kept .1 .0) refl (c .with .ensures), omega (arith, loop-test-yes))
 
 array-enum-known-q-2 : (t : ℕ) → array-lts.Need-enum-known-q-2 (array-calls t) (array-at t) array.Post array-Inv-loop array-μ-loop
 array-enum-known-q-2 t c = search needs
@@ -326,7 +326,7 @@ array-value-requires t c κs =
     let loop-test-yes = c .before .before .before .before .before .before .before .loop-test .taken in
     let entry = (c .before .before .before .before .before .before .before .before .before .before .before .before .before .before .before .before) in
     let loop-inv = loop .inv .1 in
-    (omega arith, given-part (c .before .before .before .before .before .before .before .before .before .before .before .before .before .before .before .before .pre .1 .0) (c .before .before .before .before .before .before .before .before .before .before .before .before .before .before .before .before .pre .1 .1 .1) (rw (c .before .before .type-at .ensures names) ((c .before .before .before .before .before .before .before .before .before .before .before .before .before .before .before .before .pre .1 .0) .sane .member (c .before .before .before .before .before .before .before .before .before .before .before .before .before .before .before .before .args .row) (loop .k) ((c .before .before .before .before .before .before .before .before .before .before .before .before .before .before .before .before .pre .1 .0) .typed) (rw (← loop .inv .0) (c .before .before .before .before .before .before .before .loop-test .taken)))) (omega (arith, near-there (table (c .before .before .before .before .before .before .before .before .before .before .before .before .before .before .before .before .args .types .now) names) (c .before .before .before .before .before .before .before .before .before .before .before .before .before .before .before .before .args .s .now) (c .before .before .before .before .before .before .before .before .before .before .before .before .before .before .before .before .args .row) (loop .k) (65539 + c .before .before .before .before .before .before .before .before .before .before .before .before .before .before .before .before .args .d) (loop .next) (loop .inv .2) (sym (c .before .before .before .before .q2 .given .1) ∙ c .before .before .before .before .before .before .element-found .ensures names))) (omega (arith, loop .inv .3 .done .sofar .fewRows, loop-inv, loop-test-yes)) (omega (arith, loop .inv .3 .done .sofar .fewBytes, loop-inv, loop-test-yes)))
+    (omega arith, given-part (c .before .before .before .before .before .before .before .before .before .before .before .before .before .before .before .before .pre .1 .0) (c .before .before .before .before .before .before .before .before .before .before .before .before .before .before .before .before .pre .1 .1 .1) (rw (c .before .before .type-at .ensures names) ((c .before .before .before .before .before .before .before .before .before .before .before .before .before .before .before .before .pre .1 .0) .sane .member (c .before .before .before .before .before .before .before .before .before .before .before .before .before .before .before .before .args .row) (loop .k) ((c .before .before .before .before .before .before .before .before .before .before .before .before .before .before .before .before .pre .1 .0) .typed) (rw (← loop .inv .0) (c .before .before .before .before .before .before .before .loop-test .taken)))) (omega (arith, near-there (table (c .before .before .before .before .before .before .before .before .before .before .before .before .before .before .before .before .args .types .now) names) (c .before .before .before .before .before .before .before .before .before .before .before .before .before .before .before .before .args .s .now) (c .before .before .before .before .before .before .before .before .before .before .before .before .before .before .before .before .args .row) (loop .k) (65539 + c .before .before .before .before .before .before .before .before .before .before .before .before .before .before .before .before .args .depth) (loop .next) (loop .inv .2) (sym (c .before .before .before .before .q2 .given .1) ∙ c .before .before .before .before .before .before .element-found .ensures names))) (omega (arith, loop .inv .3 .done .sofar .fewRows, loop-inv, loop-test-yes)) (omega (arith, loop .inv .3 .done .sofar .fewBytes, loop-inv, loop-test-yes)))
 
 array-enum-known-e-2 : (t : ℕ) → array-lts.Need-enum-known-e-2 (array-calls t) (array-at t) array.Post array-Inv-loop array-μ-loop
 array-enum-known-e-2 t c = search needs
@@ -344,7 +344,7 @@ array-returns-2 t c =
     let s = c .before .before .before .before .before .before .before .before .before .before .before .before .before .before .before .before .before .before .before .before .before .before .before .before .args .s .now in
     let loop = c .before .before .before .before .before .before .before .before .before .before .before .before .before .before .before .before .loop in
     let q2 = c .before .before .before .before .before .before .before .before .before .before .before .before .q2 in
-    reads-no (over-no tab (c .before .before .before .before .before .before .before .before .before .before .before .before .before .before .before .before .before .before .before .before .before .before .before .before .args .row) (array-no (λ q u. readAt (c .before .before .before .before .before .before .before .before .before .before .before .before .before .before .before .before .before .before .before .before .before .before .before .before .args .d - 1) tab s q u) tab s (c .before .before .before .before .before .before .before .before .before .before .before .before .before .before .before .before .before .before .before .before .before .before .before .before .args .row) (c .before .before .before .before .before .before .before .before .before .before .before .before .before .before .before .before .before .before .before .before .before .before .before .before .args .p) (c .before .before .before .before .before .before .before .before .before .before .before .before .before .before .before .before .before .before .before .before .before .before .before .before .args .d - 1) (elements-refused (λ q u. readAt (c .before .before .before .before .before .before .before .before .before .before .before .before .before .before .before .before .before .before .before .before .before .before .before .before .args .d - 1) tab s q u) (c .before .before .before .before .before .before .before .before .before .before .before .before .before .before .before .before .before .before .before .before .before .before .before .before .args .d - 1) tab s (c .before .before .before .before .before .before .before .before .before .before .before .before .before .before .before .before .before .before .before .before .before .before .before .before .args .row) (c .before .before .before .before .before .before .before .before .before .before .before .before .before .before .before .before .before .before .before .before .before .before .before .before .args .p) (loop .inv .3) (rw (← loop .inv .0) (c .before .before .before .before .before .before .before .before .before .before .before .before .before .before .before .loop-test .taken)) (sym (q2 .given .1) ∙ c .before .before .before .before .before .before .before .before .before .before .before .before .before .before .element-found .ensures names) (failed (at-row (λ q u. readAt (c .before .before .before .before .before .before .before .before .before .before .before .before .before .before .before .before .before .before .before .before .before .before .before .before .args .d - 1) tab s q u) (q2 .given .0 .0) (c .before .before .before .before .before .before .before .before .before .before .type-at .ensures names) (c .before .before .before .before .before .before .before .value .ensures)) (c .before .e2 .given .1)))))
+    reads-no (over-no tab (c .before .before .before .before .before .before .before .before .before .before .before .before .before .before .before .before .before .before .before .before .before .before .before .before .args .row) (array-no (λ q u. readAt (c .before .before .before .before .before .before .before .before .before .before .before .before .before .before .before .before .before .before .before .before .before .before .before .before .args .depth - 1) tab s q u) tab s (c .before .before .before .before .before .before .before .before .before .before .before .before .before .before .before .before .before .before .before .before .before .before .before .before .args .row) (c .before .before .before .before .before .before .before .before .before .before .before .before .before .before .before .before .before .before .before .before .before .before .before .before .args .place) (c .before .before .before .before .before .before .before .before .before .before .before .before .before .before .before .before .before .before .before .before .before .before .before .before .args .depth - 1) (elements-refused (λ q u. readAt (c .before .before .before .before .before .before .before .before .before .before .before .before .before .before .before .before .before .before .before .before .before .before .before .before .args .depth - 1) tab s q u) (c .before .before .before .before .before .before .before .before .before .before .before .before .before .before .before .before .before .before .before .before .before .before .before .before .args .depth - 1) tab s (c .before .before .before .before .before .before .before .before .before .before .before .before .before .before .before .before .before .before .before .before .before .before .before .before .args .row) (c .before .before .before .before .before .before .before .before .before .before .before .before .before .before .before .before .before .before .before .before .before .before .before .before .args .place) (loop .inv .3) (rw (← loop .inv .0) (c .before .before .before .before .before .before .before .before .before .before .before .before .before .before .before .loop-test .taken)) (sym (q2 .given .1) ∙ c .before .before .before .before .before .before .before .before .before .before .before .before .before .before .element-found .ensures names) (failed (at-row (λ q u. readAt (c .before .before .before .before .before .before .before .before .before .before .before .before .before .before .before .before .before .before .before .before .before .before .before .before .args .depth - 1) tab s q u) (q2 .given .0 .0) (c .before .before .before .before .before .before .before .before .before .before .type-at .ensures names) (c .before .before .before .before .before .before .before .value .ensures)) (c .before .e2 .given .1)))))
 
 array-enum-known-end : (t : ℕ) → array-lts.Need-enum-known-end (array-calls t) (array-at t) array.Post array-Inv-loop array-μ-loop
 array-enum-known-end t c = search needs
@@ -354,7 +354,7 @@ array-after-part-requires t c κs =
     let names = c .before .before .before .before .before .before .before .before .before .before .before .before .before .before .before .before .before .before .before .before .before .before .before .before .args .names .now in
     let tab = table (c .before .before .before .before .before .before .before .before .before .before .before .before .before .before .before .before .before .before .before .before .before .before .before .before .args .types .now) names in
     let s = c .before .before .before .before .before .before .before .before .before .before .before .before .before .before .before .before .before .before .before .before .before .before .before .before .args .s .now in
-    let d = c .before .before .before .before .before .before .before .before .before .before .before .before .before .before .before .before .before .before .before .before .before .before .before .before .args .d in
+    let d = c .before .before .before .before .before .before .before .before .before .before .before .before .before .before .before .before .before .before .before .before .before .before .before .before .args .depth in
     let loop = c .before .before .before .before .before .before .before .before .before .before .before .before .before .before .before .before .loop in
     let q2 = c .before .before .before .before .before .before .before .before .before .before .before .before .q2 in
     let entry = (c .before .before .before .before .before .before .before .before .before .before .before .before .before .before .before .before .before .before .before .before .before .before .before .before) in
@@ -368,14 +368,14 @@ array-add-n-3 t c =
     let names = c .before .before .before .before .before .before .before .before .before .before .before .before .before .before .before .before .before .before .before .before .before .before .before .before .before .before .args .names .now in
     let loop = c .before .before .before .before .before .before .before .before .before .before .before .before .before .before .before .before .before .before .loop in
     let entry = (c .before .before .before .before .before .before .before .before .before .before .before .before .before .before .before .before .before .before .before .before .before .before .before .before .before .before) in
-    omega (arith, (passed (at-row (λ q u. readAt (c .before .before .before .before .before .before .before .before .before .before .before .before .before .before .before .before .before .before .before .before .before .before .before .before .before .before .args .d - 1) (table (c .before .before .before .before .before .before .before .before .before .before .before .before .before .before .before .before .before .before .before .before .before .before .before .before .before .before .args .types .now) names) (c .before .before .before .before .before .before .before .before .before .before .before .before .before .before .before .before .before .before .before .before .before .before .before .before .before .before .args .s .now) q u) (c .before .before .before .before .before .before .before .before .before .before .before .before .before .before .q2 .given .0 .0) (c .before .before .before .before .before .before .before .before .before .before .before .before .type-at .ensures names) (c .before .before .before .before .before .before .before .before .before .value .ensures)) (c .before .before .before .end .given .1)) .fewRows, loop .inv .3 .done .sofar .fewRows, loop .inv .1, c .before .before .before .before .before .before .before .before .before .before .before .before .before .before .before .before .before .loop-test .taken)
+    omega (arith, (passed (at-row (λ q u. readAt (c .before .before .before .before .before .before .before .before .before .before .before .before .before .before .before .before .before .before .before .before .before .before .before .before .before .before .args .depth - 1) (table (c .before .before .before .before .before .before .before .before .before .before .before .before .before .before .before .before .before .before .before .before .before .before .before .before .before .before .args .types .now) names) (c .before .before .before .before .before .before .before .before .before .before .before .before .before .before .before .before .before .before .before .before .before .before .before .before .before .before .args .s .now) q u) (c .before .before .before .before .before .before .before .before .before .before .before .before .before .before .q2 .given .0 .0) (c .before .before .before .before .before .before .before .before .before .before .before .before .type-at .ensures names) (c .before .before .before .before .before .before .before .before .before .value .ensures)) (c .before .before .before .end .given .1)) .fewRows, loop .inv .3 .done .sofar .fewRows, loop .inv .1, c .before .before .before .before .before .before .before .before .before .before .before .before .before .before .before .before .before .loop-test .taken)
 
 array-add-m-2 : (t : ℕ) → array-lts.Need-add-m-2 (array-calls t) (array-at t) array.Post array-Inv-loop array-μ-loop
 array-add-m-2 t c =
     let names = c .before .before .before .before .before .before .before .before .before .before .before .before .before .before .before .before .before .before .before .before .before .before .before .before .before .before .args .names .now in
     let loop = c .before .before .before .before .before .before .before .before .before .before .before .before .before .before .before .before .before .before .loop in
     let entry = (c .before .before .before .before .before .before .before .before .before .before .before .before .before .before .before .before .before .before .before .before .before .before .before .before .before .before) in
-    omega (arith, (passed (at-row (λ q u. readAt (c .before .before .before .before .before .before .before .before .before .before .before .before .before .before .before .before .before .before .before .before .before .before .before .before .before .before .args .d - 1) (table (c .before .before .before .before .before .before .before .before .before .before .before .before .before .before .before .before .before .before .before .before .before .before .before .before .before .before .args .types .now) names) (c .before .before .before .before .before .before .before .before .before .before .before .before .before .before .before .before .before .before .before .before .before .before .before .before .before .before .args .s .now) q u) (c .before .before .before .before .before .before .before .before .before .before .before .before .before .before .q2 .given .0 .0) (c .before .before .before .before .before .before .before .before .before .before .before .before .type-at .ensures names) (c .before .before .before .before .before .before .before .before .before .value .ensures)) (c .before .before .before .end .given .1)) .fewBytes, loop .inv .3 .done .sofar .fewBytes, loop .inv .1, c .before .before .before .before .before .before .before .before .before .before .before .before .before .before .before .before .before .loop-test .taken)
+    omega (arith, (passed (at-row (λ q u. readAt (c .before .before .before .before .before .before .before .before .before .before .before .before .before .before .before .before .before .before .before .before .before .before .before .before .before .before .args .depth - 1) (table (c .before .before .before .before .before .before .before .before .before .before .before .before .before .before .before .before .before .before .before .before .before .before .before .before .before .before .args .types .now) names) (c .before .before .before .before .before .before .before .before .before .before .before .before .before .before .before .before .before .before .before .before .before .before .before .before .before .before .args .s .now) q u) (c .before .before .before .before .before .before .before .before .before .before .before .before .before .before .q2 .given .0 .0) (c .before .before .before .before .before .before .before .before .before .before .before .before .type-at .ensures names) (c .before .before .before .before .before .before .before .before .before .value .ensures)) (c .before .before .before .end .given .1)) .fewBytes, loop .inv .3 .done .sofar .fewBytes, loop .inv .1, c .before .before .before .before .before .before .before .before .before .before .before .before .before .before .before .before .before .loop-test .taken)
 
 array-add-k-3 : (t : ℕ) → array-lts.Need-add-k-3 (array-calls t) (array-at t) array.Post array-Inv-loop array-μ-loop
 array-add-k-3 t c = search needs
@@ -388,7 +388,7 @@ array-loop-again-3 t c =
     let names = c .before .before .before .before .before .before .before .before .before .before .before .before .before .before .before .before .before .before .before .before .before .before .before .before .before .before .args .names .now in
     let tab = table (c .before .before .before .before .before .before .before .before .before .before .before .before .before .before .before .before .before .before .before .before .before .before .before .before .before .before .args .types .now) names in
     let s = c .before .before .before .before .before .before .before .before .before .before .before .before .before .before .before .before .before .before .before .before .before .before .before .before .before .before .args .s .now in
-    let d = c .before .before .before .before .before .before .before .before .before .before .before .before .before .before .before .before .before .before .before .before .before .before .before .before .before .before .args .d in
+    let d = c .before .before .before .before .before .before .before .before .before .before .before .before .before .before .before .before .before .before .before .before .before .before .before .before .before .before .args .depth in
     let loop = c .before .before .before .before .before .before .before .before .before .before .before .before .before .before .before .before .before .before .loop in
     let loop-inv = loop .inv .0 in
     let loop-test-yes = c .before .before .before .before .before .before .before .before .before .before .before .before .before .before .before .before .before .loop-test .taken in
@@ -400,7 +400,7 @@ array-loop-again-3 t c =
     let there = at-row (λ q u. readAt (d - 1) tab s q u) (q2 .given .0 .0) (c .before .before .before .before .before .before .before .before .before .before .before .before .type-at .ensures names) (value₂ .ensures) in
     let went = passed there (c .before .before .before .end .given .1) in
     let back = sym (q2 .given .1) ∙ c .before .before .before .before .before .before .before .before .before .before .before .before .before .before .before .before .element-found .ensures names in
-    (loop-inv, loop .inv .1, near-after s (c .before .before .before .end .given .0 .0) it (c .before .after-part .result) ((c .before .before .before .before .before .before .before .before .before .before .before .before .before .before .before .before .before .before .before .before .before .before .before .before .before .before .pre .1 .0) .short) (omega (arith, went .near, near-there tab s (c .before .before .before .before .before .before .before .before .before .before .before .before .before .before .before .before .before .before .before .before .before .before .before .before .before .before .args .row) (loop .k) it (loop .next) (loop .inv .2) back, c .before .before .before .before .before .before .before .before .before .before .before .before .before .before .before .before .before .before .before .before .before .before .before .before .before .before .pre .1 .1 .1)) (omega arith) after-part-said, elements-more (λ q u. readAt (d - 1) tab s q u) (d - 1) tab s (c .before .before .before .before .before .before .before .before .before .before .before .before .before .before .before .before .before .before .before .before .before .before .before .before .before .before .args .row) (c .before .before .before .before .before .before .before .before .before .before .before .before .before .before .before .before .before .before .before .before .before .before .before .before .before .before .args .p) (loop .inv .3) (rw (← loop-inv) (c .before .before .before .before .before .before .before .before .before .before .before .before .before .before .before .before .before .loop-test .taken)) back (went .took) (there .stepped) (went .fewRows) (went .fewBytes) (value₂ .kept .1 .1 .1 .0) (value₂ .kept .1 .1 .1 .1 .0) (c .with2 .ensures) after-part-said, omega (arith, loop-test-yes))
+    (loop-inv, loop .inv .1, near-after s (c .before .before .before .end .given .0 .0) it (c .before .after-part .result) ((c .before .before .before .before .before .before .before .before .before .before .before .before .before .before .before .before .before .before .before .before .before .before .before .before .before .before .pre .1 .0) .short) (omega (arith, went .near, near-there tab s (c .before .before .before .before .before .before .before .before .before .before .before .before .before .before .before .before .before .before .before .before .before .before .before .before .before .before .args .row) (loop .k) it (loop .next) (loop .inv .2) back, c .before .before .before .before .before .before .before .before .before .before .before .before .before .before .before .before .before .before .before .before .before .before .before .before .before .before .pre .1 .1 .1)) (omega arith) after-part-said, elements-more (λ q u. readAt (d - 1) tab s q u) (d - 1) tab s (c .before .before .before .before .before .before .before .before .before .before .before .before .before .before .before .before .before .before .before .before .before .before .before .before .before .before .args .row) (c .before .before .before .before .before .before .before .before .before .before .before .before .before .before .before .before .before .before .before .before .before .before .before .before .before .before .args .place) (loop .inv .3) (rw (← loop-inv) (c .before .before .before .before .before .before .before .before .before .before .before .before .before .before .before .before .before .loop-test .taken)) back (went .took) (there .stepped) (went .fewRows) (went .fewBytes) (value₂ .kept .1 .1 .1 .0) (value₂ .kept .1 .1 .1 .1 .0) (c .with2 .ensures) after-part-said, omega (arith, loop-test-yes))
 
 array-ones-requires : (t : ℕ) → array-lts.Need-ones-requires (array-calls t) (array-at t) array.Post array-Inv-loop array-μ-loop
 array-ones-requires t c κs = search needs
@@ -423,7 +423,7 @@ array-returns-3 t c =
     let s = c .before .before .before .before .before .before .before .before .before .before .before .before .before .before .args .s .now in
     let loop = c .before .before .before .before .before .before .loop in
     let entry = (c .before .before .before .before .before .before .before .before .before .before .before .before .before .before) in
-    array-end (λ q u. readAt (c .before .before .before .before .before .before .before .before .before .before .before .before .before .before .args .d - 1) tab s q u) tab s (c .before .before .before .before .before .before .before .before .before .before .before .before .before .before .args .row) (c .before .before .before .before .before .before .before .before .before .before .before .before .before .before .args .p) (c .before .before .before .before .before .before .before .before .before .before .before .before .before .before .args .d - 1) (loop .inv .3) (omega (arith, loop .inv .0, c .before .before .before .before .before .loop-test .left)) (c .before .before .before .before .before .before .before .before .before .before .before .before .before .before .pre .1 .1 .2) (c .before .before .before .ones .ensures) ((c .before .before .before .before .before .before .before .before .before .before .before .before .before .before .pre .1 .0) .short) (omega (arith, c .before .before .before .before .before .before .before .before .before .before .before .before .before .before .pre .1 .1 .1)) (omega (arith, c .before .before .before .before .before .before .before .before .before .before .before .before .before .before .pre .1 .1 .0, (c .before .before .before .before .before .before .before .before .before .before .before .before .before .before .pre .1 .0) .short)) (loop .inv .2) (c .before .before .close-array .ensures names)
+    array-end (λ q u. readAt (c .before .before .before .before .before .before .before .before .before .before .before .before .before .before .args .depth - 1) tab s q u) tab s (c .before .before .before .before .before .before .before .before .before .before .before .before .before .before .args .row) (c .before .before .before .before .before .before .before .before .before .before .before .before .before .before .args .place) (c .before .before .before .before .before .before .before .before .before .before .before .before .before .before .args .depth - 1) (loop .inv .3) (omega (arith, loop .inv .0, c .before .before .before .before .before .loop-test .left)) (c .before .before .before .before .before .before .before .before .before .before .before .before .before .before .pre .1 .1 .2) (c .before .before .before .ones .ensures) ((c .before .before .before .before .before .before .before .before .before .before .before .before .before .before .pre .1 .0) .short) (omega (arith, c .before .before .before .before .before .before .before .before .before .before .before .before .before .before .pre .1 .1 .1)) (omega (arith, c .before .before .before .before .before .before .before .before .before .before .before .before .before .before .pre .1 .1 .0, (c .before .before .before .before .before .before .before .before .before .before .before .before .before .before .pre .1 .0) .short)) (loop .inv .2) (c .before .before .close-array .ensures names)
 
 choice-sub-one-at : (t : ℕ) → choice-lts.Need-sub-one-at (choice-calls t) (choice-at t) choice.Post
 choice-sub-one-at t c = search needs
@@ -441,7 +441,7 @@ choice-enum-known-q : (t : ℕ) → choice-lts.Need-enum-known-q (choice-calls t
 choice-enum-known-q t c = search needs
 
 choice-position-requires : (t : ℕ) → choice-lts.Need-position-requires (choice-calls t) (choice-at t) choice.Post
-choice-position-requires t c κs = ((c .before .before .before .before .before .before .before .before .before .pre .1 .0) .short, one-near (c .before .before .before .before .before .before .before .before .before .args .d - 1) (c .before .before .before .before .before .before .before .before .before .args .s .now) (c .before .before .before .before .before .before .before .before .before .args .p) ((c .before .before .before .before .before .before .before .before .before .pre .1 .0) .short) (c .before .before .before .before .before .before .before .before .before .pre .1 .1 .0) (sym (c .before .q .given .1) ∙ c .before .before .before .one-at .ensures))
+choice-position-requires t c κs = ((c .before .before .before .before .before .before .before .before .before .pre .1 .0) .short, one-near (c .before .before .before .before .before .before .before .before .before .args .depth - 1) (c .before .before .before .before .before .before .before .before .before .args .s .now) (c .before .before .before .before .before .before .before .before .before .args .place) ((c .before .before .before .before .before .before .before .before .before .pre .1 .0) .short) (c .before .before .before .before .before .before .before .before .before .pre .1 .1 .0) (sym (c .before .q .given .1) ∙ c .before .before .before .one-at .ensures))
 
 choice-enum-told-2 : (t : ℕ) → choice-lts.Need-enum-told-2 (choice-calls t) (choice-at t) choice.Post
 choice-enum-told-2 t c = search needs
@@ -456,7 +456,7 @@ choice-type-at-requires : (t : ℕ) → choice-lts.Need-type-at-requires (choice
 choice-type-at-requires t c κs = search needs
 
 choice-value-place-requires : (t : ℕ) → choice-lts.Need-value-place-requires (choice-calls t) (choice-at t) choice.Post
-choice-value-place-requires t c κs = ((c .before .before .before .before .before .before .before .before .before .before .before .before .before .before .pre .1 .0) .short, one-near (c .before .before .before .before .before .before .before .before .before .before .before .before .before .before .args .d - 1) (c .before .before .before .before .before .before .before .before .before .before .before .before .before .before .args .s .now) (c .before .before .before .before .before .before .before .before .before .before .before .before .before .before .args .p) ((c .before .before .before .before .before .before .before .before .before .before .before .before .before .before .pre .1 .0) .short) (c .before .before .before .before .before .before .before .before .before .before .before .before .before .before .pre .1 .1 .0) (sym (c .before .before .before .before .before .before .q .given .1) ∙ c .before .before .before .before .before .before .before .before .one-at .ensures))
+choice-value-place-requires t c κs = ((c .before .before .before .before .before .before .before .before .before .before .before .before .before .before .pre .1 .0) .short, one-near (c .before .before .before .before .before .before .before .before .before .before .before .before .before .before .args .depth - 1) (c .before .before .before .before .before .before .before .before .before .before .before .before .before .before .args .s .now) (c .before .before .before .before .before .before .before .before .before .before .before .before .before .before .args .place) ((c .before .before .before .before .before .before .before .before .before .before .before .before .before .before .pre .1 .0) .short) (c .before .before .before .before .before .before .before .before .before .before .before .before .before .before .pre .1 .1 .0) (sym (c .before .before .before .before .before .before .q .given .1) ∙ c .before .before .before .before .before .before .before .before .one-at .ensures))
 
 choice-add-value : (t : ℕ) → choice-lts.Need-add-value (choice-calls t) (choice-at t) choice.Post
 choice-add-value t c = search needs
@@ -482,19 +482,19 @@ choice-skip-space-requires t c κs = search needs
 
 choice-advance-requires : (t : ℕ) → choice-lts.Need-advance-requires (choice-calls t) (choice-at t) choice.Post
 choice-advance-requires t c κs =
-    let z : c .skip-space .result .at + 1 < 18446744073709551616 = omega (arith, c .skip-space .ensures, c .before .before .before .before .before .before .before .before .before .before .before .value-place .ensures .1, (c .before .before .before .before .before .before .before .before .before .before .before .before .before .before .before .before .before .before .before .before .before .before .before .before .before .before .pre .1 .0) .rowRoom, space-within (c .before .before .before .before .before .before .before .before .before .before .before .before .before .before .before .before .before .before .before .before .before .before .before .before .before .before .args .s .now) (limit (c .before .before .before .before .before .before .before .before .before .before .before .value-place .result) + (c .before .before .before .before .before .before .before .before .before .before .before .before .before .before .before .before .before .before .before .before .before .before .before .before .before .before .args .d - 1)) (c .before .before .next .given .0 .0) (omega (arith, (c .before .before .before .before .before .before .before .before .before .before .before .before .before .before .before .before .before .before .before .before .before .before .before .before .before .before .pre .1 .0) .short)) (passed (c .before .before .before .before .before .before .before .before .value .ensures) (c .before .before .next .given .1) .near)) in z
+    let z : c .skip-space .result .at + 1 < 18446744073709551616 = omega (arith, c .skip-space .ensures, c .before .before .before .before .before .before .before .before .before .before .before .value-place .ensures .1, (c .before .before .before .before .before .before .before .before .before .before .before .before .before .before .before .before .before .before .before .before .before .before .before .before .before .before .pre .1 .0) .rowRoom, space-within (c .before .before .before .before .before .before .before .before .before .before .before .before .before .before .before .before .before .before .before .before .before .before .before .before .before .before .args .s .now) (limit (c .before .before .before .before .before .before .before .before .before .before .before .value-place .result) + (c .before .before .before .before .before .before .before .before .before .before .before .before .before .before .before .before .before .before .before .before .before .before .before .before .before .before .args .depth - 1)) (c .before .before .next .given .0 .0) (omega (arith, (c .before .before .before .before .before .before .before .before .before .before .before .before .before .before .before .before .before .before .before .before .before .before .before .before .before .before .pre .1 .0) .short)) (passed (c .before .before .before .before .before .before .before .before .value .ensures) (c .before .before .next .given .1) .near)) in z
 
 choice-close-requires : (t : ℕ) → choice-lts.Need-close-requires (choice-calls t) (choice-at t) choice.Post
 choice-close-requires t c κs =
     let names = c .before .before .before .before .before .before .before .before .before .before .before .before .before .before .before .before .before .before .before .before .before .before .before .before .before .before .before .before .args .names .now in
     let entry = (c .before .before .before .before .before .before .before .before .before .before .before .before .before .before .before .before .before .before .before .before .before .before .before .before .before .before .before .before) in
-    (omega (arith, (c .before .before .before .before .before .before .before .before .before .before .before .before .before .before .before .before .before .before .before .before .before .before .before .before .before .before .before .before .pre .1 .0) .rowRoom), omega (arith, (passed (at-place (λ q u. readAt (c .before .before .before .before .before .before .before .before .before .before .before .before .before .before .before .before .before .before .before .before .before .before .before .before .before .before .before .before .args .d - 1) (table (c .before .before .before .before .before .before .before .before .before .before .before .before .before .before .before .before .before .before .before .before .before .before .before .before .before .before .before .before .args .types .now) names) (c .before .before .before .before .before .before .before .before .before .before .before .before .before .before .before .before .before .before .before .before .before .before .before .before .before .before .before .before .args .s .now) q u) (c .before .before .before .before .before .before .before .before .before .before .before .before .before .before .type-at .ensures names) (c .before .before .before .before .before .before .before .before .before .before .before .before .before .value-place .ensures .0) (c .before .before .before .before .before .before .before .before .before .before .value .ensures)) (c .before .before .before .before .next .given .1)) .fewRows))
+    (omega (arith, (c .before .before .before .before .before .before .before .before .before .before .before .before .before .before .before .before .before .before .before .before .before .before .before .before .before .before .before .before .pre .1 .0) .rowRoom), omega (arith, (passed (at-place (λ q u. readAt (c .before .before .before .before .before .before .before .before .before .before .before .before .before .before .before .before .before .before .before .before .before .before .before .before .before .before .before .before .args .depth - 1) (table (c .before .before .before .before .before .before .before .before .before .before .before .before .before .before .before .before .before .before .before .before .before .before .before .before .before .before .before .before .args .types .now) names) (c .before .before .before .before .before .before .before .before .before .before .before .before .before .before .before .before .before .before .before .before .before .before .before .before .before .before .before .before .args .s .now) q u) (c .before .before .before .before .before .before .before .before .before .before .before .before .before .before .type-at .ensures names) (c .before .before .before .before .before .before .before .before .before .before .before .before .before .value-place .ensures .0) (c .before .before .before .before .before .before .before .before .before .before .value .ensures)) (c .before .before .before .before .next .given .1)) .fewRows))
 
 choice-returns : (t : ℕ) → choice-lts.Need-returns (choice-calls t) (choice-at t) choice.Post
 choice-returns t c =
     let s = c .before .before .before .before .before .before .before .before .before .args .s .now in
     let tab = table (c .before .before .before .before .before .before .before .before .before .args .types .now) (c .before .before .before .before .before .before .before .before .before .args .names .now) in
-    rw (c .refused .ensures) (reads-no (over-no tab (c .before .before .before .before .before .before .before .before .before .args .row) (choice-not-one (λ q u. readAt (c .before .before .before .before .before .before .before .before .before .args .d - 1) tab s q u) (c .before .before .before .before .before .before .before .before .before .args .d - 1) tab s (c .before .before .before .before .before .before .before .before .before .args .row) (c .before .before .before .before .before .before .before .before .before .args .p) (sym (c .before .enum-told .given .1) ∙ c .before .before .before .one-at .ensures))))
+    rw (c .refused .ensures) (reads-no (over-no tab (c .before .before .before .before .before .before .before .before .before .args .row) (choice-not-one (λ q u. readAt (c .before .before .before .before .before .before .before .before .before .args .depth - 1) tab s q u) (c .before .before .before .before .before .before .before .before .before .args .depth - 1) tab s (c .before .before .before .before .before .before .before .before .before .args .row) (c .before .before .before .before .before .before .before .before .before .args .place) (sym (c .before .enum-told .given .1) ∙ c .before .before .before .one-at .ensures))))
 
 choice-returns-2 : (t : ℕ) → choice-lts.Need-returns-2 (choice-calls t) (choice-at t) choice.Post
 choice-returns-2 t c =
@@ -502,7 +502,7 @@ choice-returns-2 t c =
     let tab = table (c .before .before .before .before .before .before .before .before .before .before .before .before .before .args .types .now) names in
     let s = c .before .before .before .before .before .before .before .before .before .before .before .before .before .args .s .now in
     let q₂ = c .before .before .before .before .before .q in
-    unknown-over UnknownName (c .before .before .before .before .before .before .before .before .before .before .before .before .before .args .p) (q₂ .given .0 .0) (extensible tab (c .before .before .before .before .before .before .before .before .before .before .before .before .before .args .row)) (c .unknown .ensures names) (choice-none (λ q u. readAt (c .before .before .before .before .before .before .before .before .before .before .before .before .before .args .d - 1) tab s q u) (c .before .before .before .before .before .before .before .before .before .before .before .before .before .args .d - 1) tab s (c .before .before .before .before .before .before .before .before .before .before .before .before .before .args .row) (c .before .before .before .before .before .before .before .before .before .before .before .before .before .args .p) (sym (q₂ .given .1) ∙ c .before .before .before .before .before .before .before .one-at .ensures) (found-none _ (sym (c .before .enum-told2 .given .1) ∙ c .before .before .before .position .ensures)))
+    unknown-over UnknownName (c .before .before .before .before .before .before .before .before .before .before .before .before .before .args .place) (q₂ .given .0 .0) (extensible tab (c .before .before .before .before .before .before .before .before .before .before .before .before .before .args .row)) (c .unknown .ensures names) (choice-none (λ q u. readAt (c .before .before .before .before .before .before .before .before .before .before .before .before .before .args .depth - 1) tab s q u) (c .before .before .before .before .before .before .before .before .before .before .before .before .before .args .depth - 1) tab s (c .before .before .before .before .before .before .before .before .before .before .before .before .before .args .row) (c .before .before .before .before .before .before .before .before .before .before .before .before .before .args .place) (sym (q₂ .given .1) ∙ c .before .before .before .before .before .before .before .one-at .ensures) (found-none _ (sym (c .before .enum-told2 .given .1) ∙ c .before .before .before .position .ensures)))
 
 choice-same-length : (t : ℕ) → choice-lts.Need-same-length (choice-calls t) (choice-at t) choice.Post
 choice-same-length t c = search needs
@@ -515,7 +515,7 @@ choice-returns-3 t c =
     let names = c .before .before .before .before .before .before .before .before .before .before .before .before .before .before .before .before .before .before .before .before .before .before .before .before .before .args .names .now in
     let tab = table (c .before .before .before .before .before .before .before .before .before .before .before .before .before .before .before .before .before .before .before .before .before .before .before .before .before .args .types .now) names in
     let s = c .before .before .before .before .before .before .before .before .before .before .before .before .before .before .before .before .before .before .before .before .before .before .before .before .before .args .s .now in
-    reads-no (over-no tab (c .before .before .before .before .before .before .before .before .before .before .before .before .before .before .before .before .before .before .before .before .before .before .before .before .before .args .row) (choice-refused (λ q u. readAt (c .before .before .before .before .before .before .before .before .before .before .before .before .before .before .before .before .before .before .before .before .before .before .before .before .before .args .d - 1) tab s q u) (c .before .before .before .before .before .before .before .before .before .before .before .before .before .before .before .before .before .before .before .before .before .before .before .before .before .args .d - 1) tab s (c .before .before .before .before .before .before .before .before .before .before .before .before .before .before .before .before .before .before .before .before .before .before .before .before .before .args .row) (c .before .before .before .before .before .before .before .before .before .before .before .before .before .before .before .before .before .before .before .before .before .before .before .before .before .args .p) (sym (c .before .before .before .before .before .before .before .before .before .before .before .before .before .before .before .before .before .q .given .1) ∙ c .before .before .before .before .before .before .before .before .before .before .before .before .before .before .before .before .before .before .before .one-at .ensures) (found-some _ (sym (c .before .before .before .before .before .before .before .before .before .before .before .before .before .k .given .1) ∙ c .before .before .before .before .before .before .before .before .before .before .before .before .before .before .before .position .ensures)) (failed (at-place (λ q u. readAt (c .before .before .before .before .before .before .before .before .before .before .before .before .before .before .before .before .before .before .before .before .before .before .before .before .before .args .d - 1) tab s q u) (c .before .before .before .before .before .before .before .before .before .before .before .type-at .ensures names) (c .before .before .before .before .before .before .before .before .before .before .value-place .ensures .0) (c .before .before .before .before .before .before .before .value .ensures)) (c .before .e .given .1))))
+    reads-no (over-no tab (c .before .before .before .before .before .before .before .before .before .before .before .before .before .before .before .before .before .before .before .before .before .before .before .before .before .args .row) (choice-refused (λ q u. readAt (c .before .before .before .before .before .before .before .before .before .before .before .before .before .before .before .before .before .before .before .before .before .before .before .before .before .args .depth - 1) tab s q u) (c .before .before .before .before .before .before .before .before .before .before .before .before .before .before .before .before .before .before .before .before .before .before .before .before .before .args .depth - 1) tab s (c .before .before .before .before .before .before .before .before .before .before .before .before .before .before .before .before .before .before .before .before .before .before .before .before .before .args .row) (c .before .before .before .before .before .before .before .before .before .before .before .before .before .before .before .before .before .before .before .before .before .before .before .before .before .args .place) (sym (c .before .before .before .before .before .before .before .before .before .before .before .before .before .before .before .before .before .q .given .1) ∙ c .before .before .before .before .before .before .before .before .before .before .before .before .before .before .before .before .before .before .before .one-at .ensures) (found-some _ (sym (c .before .before .before .before .before .before .before .before .before .before .before .before .before .k .given .1) ∙ c .before .before .before .before .before .before .before .before .before .before .before .before .before .before .before .position .ensures)) (failed (at-place (λ q u. readAt (c .before .before .before .before .before .before .before .before .before .before .before .before .before .before .before .before .before .before .before .before .before .before .before .before .before .args .depth - 1) tab s q u) (c .before .before .before .before .before .before .before .before .before .before .before .type-at .ensures names) (c .before .before .before .before .before .before .before .before .before .before .value-place .ensures .0) (c .before .before .before .before .before .before .before .value .ensures)) (c .before .e .given .1))))
 
 choice-same-length-3 : (t : ℕ) → choice-lts.Need-same-length-3 (choice-calls t) (choice-at t) choice.Post
 choice-same-length-3 t c = search needs
@@ -532,15 +532,15 @@ choice-returns-4 t c =
     let entry = (c .before .before .before .before .before .before .before .before .before .before .before .before .before .before .before .before .before .before .before .before .before .before .before .before .before .before .before .before .before .before .before) in
     let value-place = c .before .before .before .before .before .before .before .before .before .before .before .before .before .before .before .before .value-place in
     let value-said = c .before .before .before .before .before .before .before .before .before .before .before .before .before .value .ensures in
-    let here = at-place (λ q u. readAt (c .before .before .before .before .before .before .before .before .before .before .before .before .before .before .before .before .before .before .before .before .before .before .before .before .before .before .before .before .before .before .before .args .d - 1) tab s q u) (c .before .before .before .before .before .before .before .before .before .before .before .before .before .before .before .before .before .type-at .ensures names) (value-place .ensures .0) value-said in
+    let here = at-place (λ q u. readAt (c .before .before .before .before .before .before .before .before .before .before .before .before .before .before .before .before .before .before .before .before .before .before .before .before .before .before .before .before .before .before .before .args .depth - 1) tab s q u) (c .before .before .before .before .before .before .before .before .before .before .before .before .before .before .before .before .before .type-at .ensures names) (value-place .ensures .0) value-said in
     let went = passed here next in
-    along (over-ok tab (c .before .before .before .before .before .before .before .before .before .before .before .before .before .before .before .before .before .before .before .before .before .before .before .before .before .before .before .before .before .before .before .args .row) (choice-picked (λ q u. readAt (c .before .before .before .before .before .before .before .before .before .before .before .before .before .before .before .before .before .before .before .before .before .before .before .before .before .before .before .before .before .before .before .args .d - 1) tab s q u) (c .before .before .before .before .before .before .before .before .before .before .before .before .before .before .before .before .before .before .before .before .before .before .before .before .before .before .before .before .before .before .before .args .d - 1) tab s (c .before .before .before .before .before .before .before .before .before .before .before .before .before .before .before .before .before .before .before .before .before .before .before .before .before .before .before .before .before .before .before .args .row) (c .before .before .before .before .before .before .before .before .before .before .before .before .before .before .before .before .before .before .before .before .before .before .before .before .before .before .before .before .before .before .before .args .p) (sym (c .before .before .before .before .before .before .before .before .before .before .before .before .before .before .before .before .before .before .before .before .before .before .before .q .given .1) ∙ c .before .before .before .before .before .before .before .before .before .before .before .before .before .before .before .before .before .before .before .before .before .before .before .before .before .one-at .ensures) (found-some _ (sym (c .before .before .before .before .before .before .before .before .before .before .before .before .before .before .before .before .before .before .before .k .given .1) ∙ c .before .before .before .before .before .before .before .before .before .before .before .before .before .before .before .before .before .before .before .before .before .position .ensures)) (went .took .is))) (closed (whole-choice (went .took) (here .stepped) (c .before .before .before .before .before .before .before .before .before .before .before .before .before .before .before .before .before .before .before .before .before .before .before .before .before .before .before .before .before .before .before .pre .1 .1 .2)) (omega (arith, space-within s (limit (value-place .result) + (c .before .before .before .before .before .before .before .before .before .before .before .before .before .before .before .before .before .before .before .before .before .before .before .before .before .before .before .before .before .before .before .args .d - 1)) (went .took .g .next) (omega (arith, (c .before .before .before .before .before .before .before .before .before .before .before .before .before .before .before .before .before .before .before .before .before .before .before .before .before .before .before .before .before .before .before .pre .1 .0) .short)) (omega (arith, went .took .next, passed value-said next .near)), c .before .before .before .before .before .before .before .before .before .before .before .before .before .before .before .before .before .before .before .before .before .before .before .before .before .before .before .before .before .before .before .pre .1 .1 .0, c .before .before .before .before .before .before .before .before .before .before .before .before .before .before .before .before .before .before .before .before .before .before .before .before .before .before .before .before .before .before .before .pre .1 .1 .1, value-place .ensures .1, (c .before .before .before .before .before .before .before .before .before .before .before .before .before .before .before .before .before .before .before .before .before .before .before .before .before .before .before .before .before .before .before .pre .1 .0) .short)) (rw (sym (c .before .before .before .before .advance .ensures ∙ ap (λ (x : ℕ). x + 1) (c .before .before .before .before .before .skip-space .ensures ∙ ap (λ (x : ℕ). pastSpace s x) (sym (went .took .next))))) (c .before .before .close .ensures .0)) (c .before .before .close .ensures .1))
+    along (over-ok tab (c .before .before .before .before .before .before .before .before .before .before .before .before .before .before .before .before .before .before .before .before .before .before .before .before .before .before .before .before .before .before .before .args .row) (choice-picked (λ q u. readAt (c .before .before .before .before .before .before .before .before .before .before .before .before .before .before .before .before .before .before .before .before .before .before .before .before .before .before .before .before .before .before .before .args .depth - 1) tab s q u) (c .before .before .before .before .before .before .before .before .before .before .before .before .before .before .before .before .before .before .before .before .before .before .before .before .before .before .before .before .before .before .before .args .depth - 1) tab s (c .before .before .before .before .before .before .before .before .before .before .before .before .before .before .before .before .before .before .before .before .before .before .before .before .before .before .before .before .before .before .before .args .row) (c .before .before .before .before .before .before .before .before .before .before .before .before .before .before .before .before .before .before .before .before .before .before .before .before .before .before .before .before .before .before .before .args .place) (sym (c .before .before .before .before .before .before .before .before .before .before .before .before .before .before .before .before .before .before .before .before .before .before .before .q .given .1) ∙ c .before .before .before .before .before .before .before .before .before .before .before .before .before .before .before .before .before .before .before .before .before .before .before .before .before .one-at .ensures) (found-some _ (sym (c .before .before .before .before .before .before .before .before .before .before .before .before .before .before .before .before .before .before .before .k .given .1) ∙ c .before .before .before .before .before .before .before .before .before .before .before .before .before .before .before .before .before .before .before .before .before .position .ensures)) (went .took .is))) (closed (whole-choice (went .took) (here .stepped) (c .before .before .before .before .before .before .before .before .before .before .before .before .before .before .before .before .before .before .before .before .before .before .before .before .before .before .before .before .before .before .before .pre .1 .1 .2)) (omega (arith, space-within s (limit (value-place .result) + (c .before .before .before .before .before .before .before .before .before .before .before .before .before .before .before .before .before .before .before .before .before .before .before .before .before .before .before .before .before .before .before .args .depth - 1)) (went .took .g .next) (omega (arith, (c .before .before .before .before .before .before .before .before .before .before .before .before .before .before .before .before .before .before .before .before .before .before .before .before .before .before .before .before .before .before .before .pre .1 .0) .short)) (omega (arith, went .took .next, passed value-said next .near)), c .before .before .before .before .before .before .before .before .before .before .before .before .before .before .before .before .before .before .before .before .before .before .before .before .before .before .before .before .before .before .before .pre .1 .1 .0, c .before .before .before .before .before .before .before .before .before .before .before .before .before .before .before .before .before .before .before .before .before .before .before .before .before .before .before .before .before .before .before .pre .1 .1 .1, value-place .ensures .1, (c .before .before .before .before .before .before .before .before .before .before .before .before .before .before .before .before .before .before .before .before .before .before .before .before .before .before .before .before .before .before .before .pre .1 .0) .short)) (rw (sym (c .before .before .before .before .advance .ensures ∙ ap (λ (x : ℕ). x + 1) (c .before .before .before .before .before .skip-space .ensures ∙ ap (λ (x : ℕ). pastSpace s x) (sym (went .took .next))))) (c .before .before .close .ensures .0)) (c .before .before .close .ensures .1))
 
 abbrev each-member-Inv-loop : each-member-lts.InvT-loop
-each-member-Inv-loop types names s rows₀ pool₀ met row p next i o d places count k₀ present₀ n₀ m₀ rows pool k present n m = (count ≡ countOf (table types names) row) × (count ≤ 64) × InOrder (λ q u. readAt (d - 1) (table types names) s q u) (table types names) s row p met places (membersAt (λ q u. readAt (d - 1) (table types names) s q u) (table types names) s row p met places 0 (countOf (table types names) row)) i o n m k present rows rows₀ pool pool₀ × (k ≤ count)
+each-member-Inv-loop types names s rows₀ pool₀ met row place next slot offset depth places count k₀ present₀ n₀ m₀ rows pool k present n m = (count ≡ countOf (table types names) row) × (count ≤ 64) × InOrder (λ q u. readAt (depth - 1) (table types names) s q u) (table types names) s row place met places (membersAt (λ q u. readAt (depth - 1) (table types names) s q u) (table types names) s row place met places 0 (countOf (table types names) row)) slot offset n m k present rows rows₀ pool pool₀ × (k ≤ count)
 
 abbrev each-member-μ-loop : each-member-lts.MeasureT-loop
-each-member-μ-loop types names s rows₀ pool₀ met row p next i o d places count k₀ present₀ n₀ m₀ rows pool k present n m = count - k
+each-member-μ-loop types names s rows₀ pool₀ met row place next slot offset depth places count k₀ present₀ n₀ m₀ rows pool k present n m = count - k
 
 each-member-count-of-requires : (t : ℕ) → each-member-lts.Need-count-of-requires (each-member-calls t) (each-member-at t) each-member.Post each-member-Inv-loop each-member-μ-loop
 each-member-count-of-requires t c κs = search needs
@@ -551,7 +551,7 @@ each-member-loop-holds t c =
     let tab = table (c .before .before .before .before .before .before .args .types .now) names in
     let s = c .before .before .before .before .before .before .args .s .now in
     let entry = (c .before .before .before .before .before .before) in
-    (c .count-of .ensures names, omega (arith, (c .before .before .before .before .before .before .pre .1 .0) .sane .few (c .before .before .before .before .before .before .args .row) ((c .before .before .before .before .before .before .pre .1 .0) .typed), c .count-of .ensures names), order-start (λ q u. readAt (c .before .before .before .before .before .before .args .d - 1) tab s q u) tab s (c .before .before .before .before .before .before .args .row) (c .before .before .before .before .before .before .args .p) (c .before .before .before .before .before .before .args .met) (c .before .before .before .before .before .before .args .t6) (c .before .before .before .before .before .before .args .i) (c .before .before .before .before .before .before .args .o) (c .before .before .before .before .before .before .args .rows .now) (c .before .before .before .before .before .before .args .pool .now), omega arith)
+    (c .count-of .ensures names, omega (arith, (c .before .before .before .before .before .before .pre .1 .0) .sane .few (c .before .before .before .before .before .before .args .row) ((c .before .before .before .before .before .before .pre .1 .0) .typed), c .count-of .ensures names), order-start (λ q u. readAt (c .before .before .before .before .before .before .args .depth - 1) tab s q u) tab s (c .before .before .before .before .before .before .args .row) (c .before .before .before .before .before .before .args .place) (c .before .before .before .before .before .before .args .met) (c .before .before .before .before .before .before .args .t6) (c .before .before .before .before .before .before .args .slot) (c .before .before .before .before .before .before .args .offset) (c .before .before .before .before .before .before .args .rows .now) (c .before .before .before .before .before .before .args .pool .now), omega arith)
 
 each-member-wide-requires : (t : ℕ) → each-member-lts.Need-wide-requires (each-member-calls t) (each-member-at t) each-member.Post each-member-Inv-loop each-member-μ-loop
 each-member-wide-requires t c κs = search needs
@@ -589,7 +589,7 @@ each-member-returns t c =
     let tab = table (c .before .before .before .before .before .before .before .before .before .before .before .before .before .before .before .args .types .now) names in
     let s = c .before .before .before .before .before .before .before .before .before .before .before .before .before .before .before .args .s .now in
     let loop = c .before .before .before .before .before .before .before .before .loop in
-    rw (c .refused .ensures) (reads-no (over-no tab (c .before .before .before .before .before .before .before .before .before .before .before .before .before .before .before .args .row) (object-no (λ q u. readAt (c .before .before .before .before .before .before .before .before .before .before .before .before .before .before .before .args .d - 1) tab s q u) tab s (c .before .before .before .before .before .before .before .before .before .before .before .before .before .before .before .args .row) (c .before .before .before .before .before .before .before .before .before .before .before .before .before .before .before .args .p) (c .before .before .before .before .before .before .before .before .before .before .before .before .before .before .before .args .met) (c .before .before .before .before .before .before .before .before .before .before .before .before .before .before .before .args .t6) (c .before .before .before .before .before .before .before .before .before .before .before .before .before .before .before .args .next) (order-missing (λ q u. readAt (c .before .before .before .before .before .before .before .before .before .before .before .before .before .before .before .args .d - 1) tab s q u) tab s (c .before .before .before .before .before .before .before .before .before .before .before .before .before .before .before .args .row) (c .before .before .before .before .before .before .before .before .before .before .before .before .before .before .before .args .p) (c .before .before .before .before .before .before .before .before .before .before .before .before .before .before .before .args .met) (c .before .before .before .before .before .before .before .before .before .before .before .before .before .before .before .args .t6) (loop .inv .2) (rw (← loop .inv .0) (c .before .before .before .before .before .before .before .loop-test .taken)) (sym (c .before .enum-told .given .1) ∙ member-is tab s (c .before .before .before .before .before .before .before .before .before .before .before .before .before .before .before .args .row) (loop .k) (c .before .before .before .before .before .before .before .before .before .before .before .before .before .before .before .args .met) (c .before .before .before .before .before .before .before .before .before .before .before .before .before .before .before .args .t6) (c .before .before .before .before .before .before .wide .ensures .0) (c .before .before .before .before .before .wide2 .ensures .0) (c .before .before .before .before .bit .ensures) (c .before .before .before .member-found .ensures names))))))
+    rw (c .refused .ensures) (reads-no (over-no tab (c .before .before .before .before .before .before .before .before .before .before .before .before .before .before .before .args .row) (object-no (λ q u. readAt (c .before .before .before .before .before .before .before .before .before .before .before .before .before .before .before .args .depth - 1) tab s q u) tab s (c .before .before .before .before .before .before .before .before .before .before .before .before .before .before .before .args .row) (c .before .before .before .before .before .before .before .before .before .before .before .before .before .before .before .args .place) (c .before .before .before .before .before .before .before .before .before .before .before .before .before .before .before .args .met) (c .before .before .before .before .before .before .before .before .before .before .before .before .before .before .before .args .t6) (c .before .before .before .before .before .before .before .before .before .before .before .before .before .before .before .args .next) (order-missing (λ q u. readAt (c .before .before .before .before .before .before .before .before .before .before .before .before .before .before .before .args .depth - 1) tab s q u) tab s (c .before .before .before .before .before .before .before .before .before .before .before .before .before .before .before .args .row) (c .before .before .before .before .before .before .before .before .before .before .before .before .before .before .before .args .place) (c .before .before .before .before .before .before .before .before .before .before .before .before .before .before .before .args .met) (c .before .before .before .before .before .before .before .before .before .before .before .before .before .before .before .args .t6) (loop .inv .2) (rw (← loop .inv .0) (c .before .before .before .before .before .before .before .loop-test .taken)) (sym (c .before .enum-told .given .1) ∙ member-is tab s (c .before .before .before .before .before .before .before .before .before .before .before .before .before .before .before .args .row) (loop .k) (c .before .before .before .before .before .before .before .before .before .before .before .before .before .before .before .args .met) (c .before .before .before .before .before .before .before .before .before .before .before .before .before .before .before .args .t6) (c .before .before .before .before .before .before .wide .ensures .0) (c .before .before .before .before .before .wide2 .ensures .0) (c .before .before .before .before .bit .ensures) (c .before .before .before .member-found .ensures names))))))
 
 each-member-enum-told-2 : (t : ℕ) → each-member-lts.Need-enum-told-2 (each-member-calls t) (each-member-at t) each-member.Post each-member-Inv-loop each-member-μ-loop
 each-member-enum-told-2 t c = search needs
@@ -621,7 +621,7 @@ each-member-loop-again t c =
     let loop-inv = loop .inv .0 in
     let loop-test-yes = c .before .before .before .before .before .before .before .before .before .before .loop-test .taken in
     let entry = (c .before .before .before .before .before .before .before .before .before .before .before .before .before .before .before .before .before .before) in
-    (loop-inv, loop .inv .1, order-absent (λ q u. readAt (c .before .before .before .before .before .before .before .before .before .before .before .before .before .before .before .before .before .before .args .d - 1) tab s q u) tab s (c .before .before .before .before .before .before .before .before .before .before .before .before .before .before .before .before .before .before .args .row) (c .before .before .before .before .before .before .before .before .before .before .before .before .before .before .before .before .before .before .args .p) (c .before .before .before .before .before .before .before .before .before .before .before .before .before .before .before .before .before .before .args .met) (c .before .before .before .before .before .before .before .before .before .before .before .before .before .before .before .before .before .before .args .t6) (loop .inv .2) (rw (← loop-inv) (c .before .before .before .before .before .before .before .before .before .before .loop-test .taken)) (sym (c .before .before .before .before .enum-told2 .given .1) ∙ member-is tab s (c .before .before .before .before .before .before .before .before .before .before .before .before .before .before .before .before .before .before .args .row) (loop .k) (c .before .before .before .before .before .before .before .before .before .before .before .before .before .before .before .before .before .before .args .met) (c .before .before .before .before .before .before .before .before .before .before .before .before .before .before .before .before .before .before .args .t6) (c .before .before .before .before .before .before .before .before .before .wide .ensures .0) (c .before .before .before .before .before .before .before .before .wide2 .ensures .0) (c .before .before .before .before .before .before .before .bit .ensures) (c .before .before .before .before .before .before .member-found .ensures names)) (c .before .before .put-row .ensures) (c .before .before .put-row .kept .0), omega (arith, loop-test-yes))
+    (loop-inv, loop .inv .1, order-absent (λ q u. readAt (c .before .before .before .before .before .before .before .before .before .before .before .before .before .before .before .before .before .before .args .depth - 1) tab s q u) tab s (c .before .before .before .before .before .before .before .before .before .before .before .before .before .before .before .before .before .before .args .row) (c .before .before .before .before .before .before .before .before .before .before .before .before .before .before .before .before .before .before .args .place) (c .before .before .before .before .before .before .before .before .before .before .before .before .before .before .before .before .before .before .args .met) (c .before .before .before .before .before .before .before .before .before .before .before .before .before .before .before .before .before .before .args .t6) (loop .inv .2) (rw (← loop-inv) (c .before .before .before .before .before .before .before .before .before .before .loop-test .taken)) (sym (c .before .before .before .before .enum-told2 .given .1) ∙ member-is tab s (c .before .before .before .before .before .before .before .before .before .before .before .before .before .before .before .before .before .before .args .row) (loop .k) (c .before .before .before .before .before .before .before .before .before .before .before .before .before .before .before .before .before .before .args .met) (c .before .before .before .before .before .before .before .before .before .before .before .before .before .before .before .before .before .before .args .t6) (c .before .before .before .before .before .before .before .before .before .wide .ensures .0) (c .before .before .before .before .before .before .before .before .wide2 .ensures .0) (c .before .before .before .before .before .before .before .bit .ensures) (c .before .before .before .before .before .before .member-found .ensures names)) (c .before .before .put-row .ensures) (c .before .before .put-row .kept .0), omega (arith, loop-test-yes))
 
 each-member-enum-known-q : (t : ℕ) → each-member-lts.Need-enum-known-q (each-member-calls t) (each-member-at t) each-member.Post each-member-Inv-loop each-member-μ-loop
 each-member-enum-known-q t c = search needs
@@ -667,7 +667,7 @@ each-member-returns-2 t c =
     let s = c .before .before .before .before .before .before .before .before .before .before .before .before .before .before .before .before .before .before .before .before .before .before .before .before .before .before .args .s .now in
     let loop = c .before .before .before .before .before .before .before .before .before .before .before .before .before .before .before .before .before .before .before .loop in
     let q₂ = c .before .before .before .before .before .before .before .before .before .before .before .before .q in
-    reads-no (over-no tab (c .before .before .before .before .before .before .before .before .before .before .before .before .before .before .before .before .before .before .before .before .before .before .before .before .before .before .args .row) (object-no (λ q u. readAt (c .before .before .before .before .before .before .before .before .before .before .before .before .before .before .before .before .before .before .before .before .before .before .before .before .before .before .args .d - 1) tab s q u) tab s (c .before .before .before .before .before .before .before .before .before .before .before .before .before .before .before .before .before .before .before .before .before .before .before .before .before .before .args .row) (c .before .before .before .before .before .before .before .before .before .before .before .before .before .before .before .before .before .before .before .before .before .before .before .before .before .before .args .p) (c .before .before .before .before .before .before .before .before .before .before .before .before .before .before .before .before .before .before .before .before .before .before .before .before .before .before .args .met) (c .before .before .before .before .before .before .before .before .before .before .before .before .before .before .before .before .before .before .before .before .before .before .before .before .before .before .args .t6) (c .before .before .before .before .before .before .before .before .before .before .before .before .before .before .before .before .before .before .before .before .before .before .before .before .before .before .args .next) (order-refused (λ q u. readAt (c .before .before .before .before .before .before .before .before .before .before .before .before .before .before .before .before .before .before .before .before .before .before .before .before .before .before .args .d - 1) tab s q u) tab s (c .before .before .before .before .before .before .before .before .before .before .before .before .before .before .before .before .before .before .before .before .before .before .before .before .before .before .args .row) (c .before .before .before .before .before .before .before .before .before .before .before .before .before .before .before .before .before .before .before .before .before .before .before .before .before .before .args .p) (c .before .before .before .before .before .before .before .before .before .before .before .before .before .before .before .before .before .before .before .before .before .before .before .before .before .before .args .met) (c .before .before .before .before .before .before .before .before .before .before .before .before .before .before .before .before .before .before .before .before .before .before .before .before .before .before .args .t6) (loop .inv .2) (rw (← loop .inv .0) (c .before .before .before .before .before .before .before .before .before .before .before .before .before .before .before .before .before .before .loop-test .taken)) (sym (q₂ .given .1) ∙ member-is tab s (c .before .before .before .before .before .before .before .before .before .before .before .before .before .before .before .before .before .before .before .before .before .before .before .before .before .before .args .row) (loop .k) (c .before .before .before .before .before .before .before .before .before .before .before .before .before .before .before .before .before .before .before .before .before .before .before .before .before .before .args .met) (c .before .before .before .before .before .before .before .before .before .before .before .before .before .before .before .before .before .before .before .before .before .before .before .before .before .before .args .t6) (c .before .before .before .before .before .before .before .before .before .before .before .before .before .before .before .before .before .wide .ensures .0) (c .before .before .before .before .before .before .before .before .before .before .before .before .before .before .before .before .wide2 .ensures .0) (c .before .before .before .before .before .before .before .before .before .before .before .before .before .before .before .bit .ensures) (c .before .before .before .before .before .before .before .before .before .before .before .before .before .before .member-found .ensures names)) (failed (at-row (λ q u. readAt (c .before .before .before .before .before .before .before .before .before .before .before .before .before .before .before .before .before .before .before .before .before .before .before .before .before .before .args .d - 1) tab s q u) (q₂ .given .0 .0) (c .before .before .before .before .before .before .before .before .before .before .type-at .ensures names) (c .before .before .before .before .before .before .before .value .ensures)) (c .before .e .given .1)))))
+    reads-no (over-no tab (c .before .before .before .before .before .before .before .before .before .before .before .before .before .before .before .before .before .before .before .before .before .before .before .before .before .before .args .row) (object-no (λ q u. readAt (c .before .before .before .before .before .before .before .before .before .before .before .before .before .before .before .before .before .before .before .before .before .before .before .before .before .before .args .depth - 1) tab s q u) tab s (c .before .before .before .before .before .before .before .before .before .before .before .before .before .before .before .before .before .before .before .before .before .before .before .before .before .before .args .row) (c .before .before .before .before .before .before .before .before .before .before .before .before .before .before .before .before .before .before .before .before .before .before .before .before .before .before .args .place) (c .before .before .before .before .before .before .before .before .before .before .before .before .before .before .before .before .before .before .before .before .before .before .before .before .before .before .args .met) (c .before .before .before .before .before .before .before .before .before .before .before .before .before .before .before .before .before .before .before .before .before .before .before .before .before .before .args .t6) (c .before .before .before .before .before .before .before .before .before .before .before .before .before .before .before .before .before .before .before .before .before .before .before .before .before .before .args .next) (order-refused (λ q u. readAt (c .before .before .before .before .before .before .before .before .before .before .before .before .before .before .before .before .before .before .before .before .before .before .before .before .before .before .args .depth - 1) tab s q u) tab s (c .before .before .before .before .before .before .before .before .before .before .before .before .before .before .before .before .before .before .before .before .before .before .before .before .before .before .args .row) (c .before .before .before .before .before .before .before .before .before .before .before .before .before .before .before .before .before .before .before .before .before .before .before .before .before .before .args .place) (c .before .before .before .before .before .before .before .before .before .before .before .before .before .before .before .before .before .before .before .before .before .before .before .before .before .before .args .met) (c .before .before .before .before .before .before .before .before .before .before .before .before .before .before .before .before .before .before .before .before .before .before .before .before .before .before .args .t6) (loop .inv .2) (rw (← loop .inv .0) (c .before .before .before .before .before .before .before .before .before .before .before .before .before .before .before .before .before .before .loop-test .taken)) (sym (q₂ .given .1) ∙ member-is tab s (c .before .before .before .before .before .before .before .before .before .before .before .before .before .before .before .before .before .before .before .before .before .before .before .before .before .before .args .row) (loop .k) (c .before .before .before .before .before .before .before .before .before .before .before .before .before .before .before .before .before .before .before .before .before .before .before .before .before .before .args .met) (c .before .before .before .before .before .before .before .before .before .before .before .before .before .before .before .before .before .before .before .before .before .before .before .before .before .before .args .t6) (c .before .before .before .before .before .before .before .before .before .before .before .before .before .before .before .before .before .wide .ensures .0) (c .before .before .before .before .before .before .before .before .before .before .before .before .before .before .before .before .wide2 .ensures .0) (c .before .before .before .before .before .before .before .before .before .before .before .before .before .before .before .bit .ensures) (c .before .before .before .before .before .before .before .before .before .before .before .before .before .before .member-found .ensures names)) (failed (at-row (λ q u. readAt (c .before .before .before .before .before .before .before .before .before .before .before .before .before .before .before .before .before .before .before .before .before .before .before .before .before .before .args .depth - 1) tab s q u) (q₂ .given .0 .0) (c .before .before .before .before .before .before .before .before .before .before .type-at .ensures names) (c .before .before .before .before .before .before .before .value .ensures)) (c .before .e .given .1)))))
 
 each-member-enum-known-a : (t : ℕ) → each-member-lts.Need-enum-known-a (each-member-calls t) (each-member-at t) each-member.Post each-member-Inv-loop each-member-μ-loop
 each-member-enum-known-a t c = search needs
@@ -680,14 +680,14 @@ each-member-add-n-2 t c =
     let names = c .before .before .before .before .before .before .before .before .before .before .before .before .before .before .before .before .before .before .before .before .before .before .before .before .before .before .before .args .names .now in
     let loop = c .before .before .before .before .before .before .before .before .before .before .before .before .before .before .before .before .before .before .before .before .loop in
     let entry = (c .before .before .before .before .before .before .before .before .before .before .before .before .before .before .before .before .before .before .before .before .before .before .before .before .before .before .before) in
-    omega (arith, (passed (at-row (λ q u. readAt (c .before .before .before .before .before .before .before .before .before .before .before .before .before .before .before .before .before .before .before .before .before .before .before .before .before .before .before .args .d - 1) (table (c .before .before .before .before .before .before .before .before .before .before .before .before .before .before .before .before .before .before .before .before .before .before .before .before .before .before .before .args .types .now) names) (c .before .before .before .before .before .before .before .before .before .before .before .before .before .before .before .before .before .before .before .before .before .before .before .before .before .before .before .args .s .now) q u) (c .before .before .before .before .before .before .before .before .before .before .before .before .before .q .given .0 .0) (c .before .before .before .before .before .before .before .before .before .before .before .type-at .ensures names) (c .before .before .before .before .before .before .before .before .value .ensures)) (c .before .before .a .given .1)) .fewRows, loop .inv .2 .done .sofar .fewRows, loop .inv .1, c .before .before .before .before .before .before .before .before .before .before .before .before .before .before .before .before .before .before .before .loop-test .taken)
+    omega (arith, (passed (at-row (λ q u. readAt (c .before .before .before .before .before .before .before .before .before .before .before .before .before .before .before .before .before .before .before .before .before .before .before .before .before .before .before .args .depth - 1) (table (c .before .before .before .before .before .before .before .before .before .before .before .before .before .before .before .before .before .before .before .before .before .before .before .before .before .before .before .args .types .now) names) (c .before .before .before .before .before .before .before .before .before .before .before .before .before .before .before .before .before .before .before .before .before .before .before .before .before .before .before .args .s .now) q u) (c .before .before .before .before .before .before .before .before .before .before .before .before .before .q .given .0 .0) (c .before .before .before .before .before .before .before .before .before .before .before .type-at .ensures names) (c .before .before .before .before .before .before .before .before .value .ensures)) (c .before .before .a .given .1)) .fewRows, loop .inv .2 .done .sofar .fewRows, loop .inv .1, c .before .before .before .before .before .before .before .before .before .before .before .before .before .before .before .before .before .before .before .loop-test .taken)
 
 each-member-add-m : (t : ℕ) → each-member-lts.Need-add-m (each-member-calls t) (each-member-at t) each-member.Post each-member-Inv-loop each-member-μ-loop
 each-member-add-m t c =
     let names = c .before .before .before .before .before .before .before .before .before .before .before .before .before .before .before .before .before .before .before .before .before .before .before .before .before .before .before .args .names .now in
     let loop = c .before .before .before .before .before .before .before .before .before .before .before .before .before .before .before .before .before .before .before .before .loop in
     let entry = (c .before .before .before .before .before .before .before .before .before .before .before .before .before .before .before .before .before .before .before .before .before .before .before .before .before .before .before) in
-    omega (arith, (passed (at-row (λ q u. readAt (c .before .before .before .before .before .before .before .before .before .before .before .before .before .before .before .before .before .before .before .before .before .before .before .before .before .before .before .args .d - 1) (table (c .before .before .before .before .before .before .before .before .before .before .before .before .before .before .before .before .before .before .before .before .before .before .before .before .before .before .before .args .types .now) names) (c .before .before .before .before .before .before .before .before .before .before .before .before .before .before .before .before .before .before .before .before .before .before .before .before .before .before .before .args .s .now) q u) (c .before .before .before .before .before .before .before .before .before .before .before .before .before .q .given .0 .0) (c .before .before .before .before .before .before .before .before .before .before .before .type-at .ensures names) (c .before .before .before .before .before .before .before .before .value .ensures)) (c .before .before .a .given .1)) .fewBytes, loop .inv .2 .done .sofar .fewBytes, loop .inv .1, c .before .before .before .before .before .before .before .before .before .before .before .before .before .before .before .before .before .before .before .loop-test .taken)
+    omega (arith, (passed (at-row (λ q u. readAt (c .before .before .before .before .before .before .before .before .before .before .before .before .before .before .before .before .before .before .before .before .before .before .before .before .before .before .before .args .depth - 1) (table (c .before .before .before .before .before .before .before .before .before .before .before .before .before .before .before .before .before .before .before .before .before .before .before .before .before .before .before .args .types .now) names) (c .before .before .before .before .before .before .before .before .before .before .before .before .before .before .before .before .before .before .before .before .before .before .before .before .before .before .before .args .s .now) q u) (c .before .before .before .before .before .before .before .before .before .before .before .before .before .q .given .0 .0) (c .before .before .before .before .before .before .before .before .before .before .before .type-at .ensures names) (c .before .before .before .before .before .before .before .before .value .ensures)) (c .before .before .a .given .1)) .fewBytes, loop .inv .2 .done .sofar .fewBytes, loop .inv .1, c .before .before .before .before .before .before .before .before .before .before .before .before .before .before .before .before .before .before .before .loop-test .taken)
 
 each-member-add-k-2 : (t : ℕ) → each-member-lts.Need-add-k-2 (each-member-calls t) (each-member-at t) each-member.Post each-member-Inv-loop each-member-μ-loop
 each-member-add-k-2 t c = search needs
@@ -706,9 +706,9 @@ each-member-loop-again-2 t c =
     let q₂ = c .before .before .before .before .before .before .before .before .before .before .before .before .before .q in
     let value₂ = c .before .before .before .before .before .before .before .before .value in
     let entry = (c .before .before .before .before .before .before .before .before .before .before .before .before .before .before .before .before .before .before .before .before .before .before .before .before .before .before .before) in
-    let there = at-row (λ q u. readAt (c .before .before .before .before .before .before .before .before .before .before .before .before .before .before .before .before .before .before .before .before .before .before .before .before .before .before .before .args .d - 1) tab s q u) (q₂ .given .0 .0) (c .before .before .before .before .before .before .before .before .before .before .before .type-at .ensures names) (value₂ .ensures) in
+    let there = at-row (λ q u. readAt (c .before .before .before .before .before .before .before .before .before .before .before .before .before .before .before .before .before .before .before .before .before .before .before .before .before .before .before .args .depth - 1) tab s q u) (q₂ .given .0 .0) (c .before .before .before .before .before .before .before .before .before .before .before .type-at .ensures names) (value₂ .ensures) in
     let went = passed there (c .before .before .a .given .1) in
-    (loop-inv, loop .inv .1, order-more (λ q u. readAt (c .before .before .before .before .before .before .before .before .before .before .before .before .before .before .before .before .before .before .before .before .before .before .before .before .before .before .before .args .d - 1) tab s q u) tab s (c .before .before .before .before .before .before .before .before .before .before .before .before .before .before .before .before .before .before .before .before .before .before .before .before .before .before .before .args .row) (c .before .before .before .before .before .before .before .before .before .before .before .before .before .before .before .before .before .before .before .before .before .before .before .before .before .before .before .args .p) (c .before .before .before .before .before .before .before .before .before .before .before .before .before .before .before .before .before .before .before .before .before .before .before .before .before .before .before .args .met) (c .before .before .before .before .before .before .before .before .before .before .before .before .before .before .before .before .before .before .before .before .before .before .before .before .before .before .before .args .t6) (loop .inv .2) (rw (← loop-inv) (c .before .before .before .before .before .before .before .before .before .before .before .before .before .before .before .before .before .before .before .loop-test .taken)) (sym (q₂ .given .1) ∙ member-is tab s (c .before .before .before .before .before .before .before .before .before .before .before .before .before .before .before .before .before .before .before .before .before .before .before .before .before .before .before .args .row) (loop .k) (c .before .before .before .before .before .before .before .before .before .before .before .before .before .before .before .before .before .before .before .before .before .before .before .before .before .before .before .args .met) (c .before .before .before .before .before .before .before .before .before .before .before .before .before .before .before .before .before .before .before .before .before .before .before .before .before .before .before .args .t6) (c .before .before .before .before .before .before .before .before .before .before .before .before .before .before .before .before .before .before .wide .ensures .0) (c .before .before .before .before .before .before .before .before .before .before .before .before .before .before .before .before .before .wide2 .ensures .0) (c .before .before .before .before .before .before .before .before .before .before .before .before .before .before .before .before .bit .ensures) (c .before .before .before .before .before .before .before .before .before .before .before .before .before .before .before .member-found .ensures names)) (went .took) (there .stepped) (went .fewRows) (went .fewBytes) (value₂ .kept .1 .1 .1 .0) (value₂ .kept .1 .1 .1 .1 .0) (c .with .ensures), omega (arith, loop-test-yes))
+    (loop-inv, loop .inv .1, order-more (λ q u. readAt (c .before .before .before .before .before .before .before .before .before .before .before .before .before .before .before .before .before .before .before .before .before .before .before .before .before .before .before .args .depth - 1) tab s q u) tab s (c .before .before .before .before .before .before .before .before .before .before .before .before .before .before .before .before .before .before .before .before .before .before .before .before .before .before .before .args .row) (c .before .before .before .before .before .before .before .before .before .before .before .before .before .before .before .before .before .before .before .before .before .before .before .before .before .before .before .args .place) (c .before .before .before .before .before .before .before .before .before .before .before .before .before .before .before .before .before .before .before .before .before .before .before .before .before .before .before .args .met) (c .before .before .before .before .before .before .before .before .before .before .before .before .before .before .before .before .before .before .before .before .before .before .before .before .before .before .before .args .t6) (loop .inv .2) (rw (← loop-inv) (c .before .before .before .before .before .before .before .before .before .before .before .before .before .before .before .before .before .before .before .loop-test .taken)) (sym (q₂ .given .1) ∙ member-is tab s (c .before .before .before .before .before .before .before .before .before .before .before .before .before .before .before .before .before .before .before .before .before .before .before .before .before .before .before .args .row) (loop .k) (c .before .before .before .before .before .before .before .before .before .before .before .before .before .before .before .before .before .before .before .before .before .before .before .before .before .before .before .args .met) (c .before .before .before .before .before .before .before .before .before .before .before .before .before .before .before .before .before .before .before .before .before .before .before .before .before .before .before .args .t6) (c .before .before .before .before .before .before .before .before .before .before .before .before .before .before .before .before .before .before .wide .ensures .0) (c .before .before .before .before .before .before .before .before .before .before .before .before .before .before .before .before .before .wide2 .ensures .0) (c .before .before .before .before .before .before .before .before .before .before .before .before .before .before .before .before .bit .ensures) (c .before .before .before .before .before .before .before .before .before .before .before .before .before .before .before .member-found .ensures names)) (went .took) (there .stepped) (went .fewRows) (went .fewBytes) (value₂ .kept .1 .1 .1 .0) (value₂ .kept .1 .1 .1 .1 .0) (c .with .ensures), omega (arith, loop-test-yes))
 
 each-member-ones-requires : (t : ℕ) → each-member-lts.Need-ones-requires (each-member-calls t) (each-member-at t) each-member.Post each-member-Inv-loop each-member-μ-loop
 each-member-ones-requires t c κs = search needs
@@ -730,13 +730,13 @@ each-member-returns-3 t c =
     let loop = c .before .before .before .before .before .before .loop in
     let entry = (c .before .before .before .before .before .before .before .before .before .before .before .before .before) in
     let tab = table (c .before .before .before .before .before .before .before .before .before .before .before .before .before .args .types .now) (c .before .before .before .before .before .before .before .before .before .before .before .before .before .args .names .now) in
-    along (over-ok tab (c .before .before .before .before .before .before .before .before .before .before .before .before .before .args .row) (object-ok (λ q u. readAt (c .before .before .before .before .before .before .before .before .before .before .before .before .before .args .d - 1) tab s q u) tab s (c .before .before .before .before .before .before .before .before .before .before .before .before .before .args .row) (c .before .before .before .before .before .before .before .before .before .before .before .before .before .args .p) (c .before .before .before .before .before .before .before .before .before .before .before .before .before .args .met) (c .before .before .before .before .before .before .before .before .before .before .before .before .before .args .t6) (order-end (λ q u. readAt (c .before .before .before .before .before .before .before .before .before .before .before .before .before .args .d - 1) tab s q u) tab s (c .before .before .before .before .before .before .before .before .before .before .before .before .before .args .row) (c .before .before .before .before .before .before .before .before .before .before .before .before .before .args .p) (c .before .before .before .before .before .before .before .before .before .before .before .before .before .args .met) (c .before .before .before .before .before .before .before .before .before .before .before .before .before .args .t6) (loop .inv .2) (omega (arith, loop .inv .0, c .before .before .before .before .before .loop-test .left))))) (closed (whole-seq (loop .inv .2 .done .sofar) (c .before .before .before .before .before .before .before .before .before .before .before .before .before .pre .1 .1 .2) (loop .inv .2 .done .members) (c .before .before .before .ones .ensures ∙ loop .inv .2 .done .count)) (c .before .before .before .before .before .before .before .before .before .before .before .before .before .pre .1 .1 .1) (c .before .before .close .ensures .0) (c .before .before .close .ensures .1))
+    along (over-ok tab (c .before .before .before .before .before .before .before .before .before .before .before .before .before .args .row) (object-ok (λ q u. readAt (c .before .before .before .before .before .before .before .before .before .before .before .before .before .args .depth - 1) tab s q u) tab s (c .before .before .before .before .before .before .before .before .before .before .before .before .before .args .row) (c .before .before .before .before .before .before .before .before .before .before .before .before .before .args .place) (c .before .before .before .before .before .before .before .before .before .before .before .before .before .args .met) (c .before .before .before .before .before .before .before .before .before .before .before .before .before .args .t6) (order-end (λ q u. readAt (c .before .before .before .before .before .before .before .before .before .before .before .before .before .args .depth - 1) tab s q u) tab s (c .before .before .before .before .before .before .before .before .before .before .before .before .before .args .row) (c .before .before .before .before .before .before .before .before .before .before .before .before .before .args .place) (c .before .before .before .before .before .before .before .before .before .before .before .before .before .args .met) (c .before .before .before .before .before .before .before .before .before .before .before .before .before .args .t6) (loop .inv .2) (omega (arith, loop .inv .0, c .before .before .before .before .before .loop-test .left))))) (closed (whole-seq (loop .inv .2 .done .sofar) (c .before .before .before .before .before .before .before .before .before .before .before .before .before .pre .1 .1 .2) (loop .inv .2 .done .members) (c .before .before .before .ones .ensures ∙ loop .inv .2 .done .count)) (c .before .before .before .before .before .before .before .before .before .before .before .before .before .pre .1 .1 .1) (c .before .before .close .ensures .0) (c .before .before .close .ensures .1))
 
 abbrev list-Inv-loop : list-lts.InvT-loop
-list-Inv-loop types names s rows₀ pool₀ row p i o d t next₀ count₀ n₀ m₀ rows pool next count n m = (t ≡ elementOf (table types names) row) × Near (65539 + d) next × Loop (λ q. readAt (d - 1) (table types names) s (elementOf (table types names) row) q) s (table types names) (elementOf (table types names) row) (itemsAt (λ q. readAt (d - 1) (table types names) s (elementOf (table types names) row) q) s (length s) (firstPart s 0x5D p)) next i o n m count rows rows₀ pool pool₀
+list-Inv-loop types names s rows₀ pool₀ row place slot offset depth t next₀ count₀ n₀ m₀ rows pool next count n m = (t ≡ elementOf (table types names) row) × Near (65539 + depth) next × Loop (λ q. readAt (depth - 1) (table types names) s (elementOf (table types names) row) q) s (table types names) (elementOf (table types names) row) (itemsAt (λ q. readAt (depth - 1) (table types names) s (elementOf (table types names) row) q) s (length s) (firstPart s 0x5D place)) next slot offset n m count rows rows₀ pool pool₀
 
 abbrev list-μ-loop : list-lts.MeasureT-loop
-list-μ-loop types names s rows₀ pool₀ row p i o d t next₀ count₀ n₀ m₀ rows pool next count n m = length s - count
+list-μ-loop types names s rows₀ pool₀ row place slot offset depth t next₀ count₀ n₀ m₀ rows pool next count n m = length s - count
 
 list-element-of-requires : (t : ℕ) → list-lts.Need-element-of-requires (list-calls t) (list-at t) list.Post list-Inv-loop list-μ-loop
 list-element-of-requires t c κs = search needs
@@ -749,12 +749,12 @@ list-loop-holds t c =
     let names = c .before .before .before .before .before .before .before .args .names .now in
     let tab = table (c .before .before .before .before .before .before .before .args .types .now) names in
     let s = c .before .before .before .before .before .before .before .args .s .now in
-    let d = c .before .before .before .before .before .before .before .args .d in
+    let d = c .before .before .before .before .before .before .before .args .depth in
     let first = c .first-part .result in
     let first-part-said = c .first-part .ensures in
     let entry = (c .before .before .before .before .before .before .before) in
     let elementOf′ = elementOf tab (c .before .before .before .before .before .before .before .args .row) in
-    (c .before .element-of .ensures names, near-first s 0x5D (c .before .before .before .before .before .before .before .args .p) (65539 + d) first ((c .before .before .before .before .before .before .before .pre .1 .0) .short) (c .before .before .before .before .before .before .before .pre .1 .1 .0) (omega (arith, c .before .before .before .before .before .before .before .pre .1 .1 .1)) first-part-said, loop-start (λ q. readAt (d - 1) tab s elementOf′ q) s tab elementOf′ (firstPart s 0x5D (c .before .before .before .before .before .before .before .args .p)) first (c .before .before .before .before .before .before .before .args .i) (c .before .before .before .before .before .before .before .args .o) (c .before .before .before .before .before .before .before .args .rows .now) (c .before .before .before .before .before .before .before .args .pool .now) first-part-said)
+    (c .before .element-of .ensures names, near-first s 0x5D (c .before .before .before .before .before .before .before .args .place) (65539 + d) first ((c .before .before .before .before .before .before .before .pre .1 .0) .short) (c .before .before .before .before .before .before .before .pre .1 .1 .0) (omega (arith, c .before .before .before .before .before .before .before .pre .1 .1 .1)) first-part-said, loop-start (λ q. readAt (d - 1) tab s elementOf′ q) s tab elementOf′ (firstPart s 0x5D (c .before .before .before .before .before .before .before .args .place)) first (c .before .before .before .before .before .before .before .args .slot) (c .before .before .before .before .before .before .before .args .offset) (c .before .before .before .before .before .before .before .args .rows .now) (c .before .before .before .before .before .before .before .args .pool .now) first-part-said)
 
 list-enum-known-next : (t : ℕ) → list-lts.Need-enum-known-next (list-calls t) (list-at t) list.Post list-Inv-loop list-μ-loop
 list-enum-known-next t c = search needs
@@ -774,12 +774,12 @@ list-same-length-2 t c = search needs
 list-returns : (t : ℕ) → list-lts.Need-returns (list-calls t) (list-at t) list.Post list-Inv-loop list-μ-loop
 list-returns t c =
     let s = c .before .before .before .before .before .before .before .before .before .before .before .before .before .before .before .before .args .s .now in
-    let d = c .before .before .before .before .before .before .before .before .before .before .before .before .before .before .before .before .args .d in
+    let d = c .before .before .before .before .before .before .before .before .before .before .before .before .before .before .before .before .args .depth in
     let loop = c .before .before .before .before .before .before .before .before .loop in
     let here = c .before .before .before .before .before .before .next .given .1 in
     let entry = (c .before .before .before .before .before .before .before .before .before .before .before .before .before .before .before .before) in
     let tab = table (c .before .before .before .before .before .before .before .before .before .before .before .before .before .before .before .before .args .types .now) (c .before .before .before .before .before .before .before .before .before .before .before .before .before .before .before .before .args .names .now) in
-    along (over-ok tab (c .before .before .before .before .before .before .before .before .before .before .before .before .before .before .before .before .args .row) (list-ok (λ q u. readAt (d - 1) tab s q u) tab s (c .before .before .before .before .before .before .before .before .before .before .before .before .before .before .before .before .args .row) (c .before .before .before .before .before .before .before .before .before .before .before .before .before .before .before .before .args .p) (loop-shut (loop .inv .2) here))) (closed (whole-list (loop .inv .2 .sofar) (c .before .before .before .before .before .before .before .before .before .before .before .before .before .before .before .before .pre .1 .1 .2) (loop .inv .2 .items) (c .before .before .before .narrow .ensures (omega (arith, (c .before .before .before .before .before .before .before .before .before .before .before .before .before .before .before .before .pre .1 .0) .short, loop .inv .2 .few)))) (omega (arith, c .before .before .before .before .before .before .before .before .before .before .before .before .before .before .before .before .pre .1 .1 .0, near-shut (65539 + d) here (loop .inv .1))) (c .before .before .close .ensures .0) (c .before .before .close .ensures .1))
+    along (over-ok tab (c .before .before .before .before .before .before .before .before .before .before .before .before .before .before .before .before .args .row) (list-ok (λ q u. readAt (d - 1) tab s q u) tab s (c .before .before .before .before .before .before .before .before .before .before .before .before .before .before .before .before .args .row) (c .before .before .before .before .before .before .before .before .before .before .before .before .before .before .before .before .args .place) (loop-shut (loop .inv .2) here))) (closed (whole-list (loop .inv .2 .sofar) (c .before .before .before .before .before .before .before .before .before .before .before .before .before .before .before .before .pre .1 .1 .2) (loop .inv .2 .items) (c .before .before .before .narrow .ensures (omega (arith, (c .before .before .before .before .before .before .before .before .before .before .before .before .before .before .before .before .pre .1 .0) .short, loop .inv .2 .few)))) (omega (arith, c .before .before .before .before .before .before .before .before .before .before .before .before .before .before .before .before .pre .1 .1 .0, near-shut (65539 + d) here (loop .inv .1))) (c .before .before .close .ensures .0) (c .before .before .close .ensures .1))
 
 list-enum-known-next-2 : (t : ℕ) → list-lts.Need-enum-known-next-2 (list-calls t) (list-at t) list.Post list-Inv-loop list-μ-loop
 list-enum-known-next-2 t c = search needs
@@ -799,12 +799,12 @@ list-same-length-4 t c = search needs
 list-returns-2 : (t : ℕ) → list-lts.Need-returns-2 (list-calls t) (list-at t) list.Post list-Inv-loop list-μ-loop
 list-returns-2 t c =
     let s = c .before .before .before .before .before .before .before .before .before .before .before .before .before .before .before .before .before .args .s .now in
-    let d = c .before .before .before .before .before .before .before .before .before .before .before .before .before .before .before .before .before .args .d in
+    let d = c .before .before .before .before .before .before .before .before .before .before .before .before .before .before .before .before .before .args .depth in
     let loop = c .before .before .before .before .before .before .before .before .before .loop in
     let here = c .before .before .before .before .before .before .before .next2 .given .1 in
     let entry = (c .before .before .before .before .before .before .before .before .before .before .before .before .before .before .before .before .before) in
     let tab = table (c .before .before .before .before .before .before .before .before .before .before .before .before .before .before .before .before .before .args .types .now) (c .before .before .before .before .before .before .before .before .before .before .before .before .before .before .before .before .before .args .names .now) in
-    along (over-ok tab (c .before .before .before .before .before .before .before .before .before .before .before .before .before .before .before .before .before .args .row) (list-ok (λ q u. readAt (d - 1) tab s q u) tab s (c .before .before .before .before .before .before .before .before .before .before .before .before .before .before .before .before .before .args .row) (c .before .before .before .before .before .before .before .before .before .before .before .before .before .before .before .before .before .args .p) (loop-full (loop .inv .2) here (c .before .before .before .before .before .if1 .taken)))) (closed (whole-list (loop .inv .2 .sofar) (c .before .before .before .before .before .before .before .before .before .before .before .before .before .before .before .before .before .pre .1 .1 .2) (loop .inv .2 .items) (c .before .before .before .narrow2 .ensures (omega (arith, (c .before .before .before .before .before .before .before .before .before .before .before .before .before .before .before .before .before .pre .1 .0) .short, loop .inv .2 .few)))) (omega (arith, c .before .before .before .before .before .before .before .before .before .before .before .before .before .before .before .before .before .pre .1 .1 .0, near-part (65539 + d) here (loop .inv .1))) (c .before .before .close2 .ensures .0) (c .before .before .close2 .ensures .1))
+    along (over-ok tab (c .before .before .before .before .before .before .before .before .before .before .before .before .before .before .before .before .before .args .row) (list-ok (λ q u. readAt (d - 1) tab s q u) tab s (c .before .before .before .before .before .before .before .before .before .before .before .before .before .before .before .before .before .args .row) (c .before .before .before .before .before .before .before .before .before .before .before .before .before .before .before .before .before .args .place) (loop-full (loop .inv .2) here (c .before .before .before .before .before .if1 .taken)))) (closed (whole-list (loop .inv .2 .sofar) (c .before .before .before .before .before .before .before .before .before .before .before .before .before .before .before .before .before .pre .1 .1 .2) (loop .inv .2 .items) (c .before .before .before .narrow2 .ensures (omega (arith, (c .before .before .before .before .before .before .before .before .before .before .before .before .before .before .before .before .before .pre .1 .0) .short, loop .inv .2 .few)))) (omega (arith, c .before .before .before .before .before .before .before .before .before .before .before .before .before .before .before .before .before .pre .1 .1 .0, near-part (65539 + d) here (loop .inv .1))) (c .before .before .close2 .ensures .0) (c .before .before .close2 .ensures .1))
 
 list-add-value : (t : ℕ) → list-lts.Need-add-value (list-calls t) (list-at t) list.Post list-Inv-loop list-μ-loop
 list-add-value t c = search needs
@@ -823,7 +823,7 @@ list-value-requires t c κs =
     let loop = c .before .before .before .before .before .before .loop in
     let entry = (c .before .before .before .before .before .before .before .before .before .before .before .before .before .before) in
     let if1-no = c .before .before .if1 .left in
-    (omega arith, given-part (c .before .before .before .before .before .before .before .before .before .before .before .before .before .before .pre .1 .0) (c .before .before .before .before .before .before .before .before .before .before .before .before .before .before .pre .1 .1 .1) (rw (loop .inv .0) ((c .before .before .before .before .before .before .before .before .before .before .before .before .before .before .pre .1 .0) .sane .element (c .before .before .before .before .before .before .before .before .before .before .before .before .before .before .args .row) (c .before .before .before .before .before .before .before .before .before .before .before .before .before .before .pre .1 .1 .2))) (omega (arith, near-part (65539 + c .before .before .before .before .before .before .before .before .before .before .before .before .before .before .args .d) (c .before .before .before .before .next2 .given .1) (loop .inv .1))) (omega (arith, loop .inv .2 .sofar .fewRows, if1-no, (c .before .before .before .before .before .before .before .before .before .before .before .before .before .before .pre .1 .0) .short)) (omega (arith, loop .inv .2 .sofar .fewBytes, if1-no, (c .before .before .before .before .before .before .before .before .before .before .before .before .before .before .pre .1 .0) .short)))
+    (omega arith, given-part (c .before .before .before .before .before .before .before .before .before .before .before .before .before .before .pre .1 .0) (c .before .before .before .before .before .before .before .before .before .before .before .before .before .before .pre .1 .1 .1) (rw (loop .inv .0) ((c .before .before .before .before .before .before .before .before .before .before .before .before .before .before .pre .1 .0) .sane .element (c .before .before .before .before .before .before .before .before .before .before .before .before .before .before .args .row) (c .before .before .before .before .before .before .before .before .before .before .before .before .before .before .pre .1 .1 .2))) (omega (arith, near-part (65539 + c .before .before .before .before .before .before .before .before .before .before .before .before .before .before .args .depth) (c .before .before .before .before .next2 .given .1) (loop .inv .1))) (omega (arith, loop .inv .2 .sofar .fewRows, if1-no, (c .before .before .before .before .before .before .before .before .before .before .before .before .before .before .pre .1 .0) .short)) (omega (arith, loop .inv .2 .sofar .fewBytes, if1-no, (c .before .before .before .before .before .before .before .before .before .before .before .before .before .before .pre .1 .0) .short)))
 
 list-enum-known-e : (t : ℕ) → list-lts.Need-enum-known-e (list-calls t) (list-at t) list.Post list-Inv-loop list-μ-loop
 list-enum-known-e t c = search needs
@@ -840,7 +840,7 @@ list-returns-3 t c =
     let loop = c .before .before .before .before .before .before .before .before .before .before .before .before .before .before .loop in
     let next2 = c .before .before .before .before .before .before .before .before .before .before .before .before .next2 in
     let tab = table (c .before .before .before .before .before .before .before .before .before .before .before .before .before .before .before .before .before .before .before .before .before .before .args .types .now) (c .before .before .before .before .before .before .before .before .before .before .before .before .before .before .before .before .before .before .before .before .before .before .args .names .now) in
-    reads-no (over-no tab (c .before .before .before .before .before .before .before .before .before .before .before .before .before .before .before .before .before .before .before .before .before .before .args .row) (list-no (λ q u. readAt (c .before .before .before .before .before .before .before .before .before .before .before .before .before .before .before .before .before .before .before .before .before .before .args .d - 1) tab s q u) tab s (c .before .before .before .before .before .before .before .before .before .before .before .before .before .before .before .before .before .before .before .before .before .before .args .row) (c .before .before .before .before .before .before .before .before .before .before .before .before .before .before .before .before .before .before .before .before .before .before .args .p) (loop-refused (loop .inv .2) (next2 .given .1) (c .before .before .before .before .before .before .before .before .before .before .if1 .left) (failed (at-row (λ q u. readAt (c .before .before .before .before .before .before .before .before .before .before .before .before .before .before .before .before .before .before .before .before .before .before .args .d - 1) tab s q u) (next2 .given .0 .0) (loop .inv .0) (c .before .before .before .before .before .before .before .value .ensures)) (c .before .e .given .1)))))
+    reads-no (over-no tab (c .before .before .before .before .before .before .before .before .before .before .before .before .before .before .before .before .before .before .before .before .before .before .args .row) (list-no (λ q u. readAt (c .before .before .before .before .before .before .before .before .before .before .before .before .before .before .before .before .before .before .before .before .before .before .args .depth - 1) tab s q u) tab s (c .before .before .before .before .before .before .before .before .before .before .before .before .before .before .before .before .before .before .before .before .before .before .args .row) (c .before .before .before .before .before .before .before .before .before .before .before .before .before .before .before .before .before .before .before .before .before .before .args .place) (loop-refused (loop .inv .2) (next2 .given .1) (c .before .before .before .before .before .before .before .before .before .before .if1 .left) (failed (at-row (λ q u. readAt (c .before .before .before .before .before .before .before .before .before .before .before .before .before .before .before .before .before .before .before .before .before .before .args .depth - 1) tab s q u) (next2 .given .0 .0) (loop .inv .0) (c .before .before .before .before .before .before .before .value .ensures)) (c .before .e .given .1)))))
 
 list-enum-known-end : (t : ℕ) → list-lts.Need-enum-known-end (list-calls t) (list-at t) list.Post list-Inv-loop list-μ-loop
 list-enum-known-end t c = search needs
@@ -848,7 +848,7 @@ list-enum-known-end t c = search needs
 list-after-part-requires : (t : ℕ) → list-lts.Need-after-part-requires (list-calls t) (list-at t) list.Post list-Inv-loop list-μ-loop
 list-after-part-requires t c κs =
     let entry = (c .before .before .before .before .before .before .before .before .before .before .before .before .before .before .before .before .before .before .before .before .before .before) in
-    ((c .before .before .before .before .before .before .before .before .before .before .before .before .before .before .before .before .before .before .before .before .before .before .pre .1 .0) .short, omega (arith, passed (c .before .before .before .before .before .before .before .value .ensures) (c .before .end .given .1) .near, near-part (65539 + c .before .before .before .before .before .before .before .before .before .before .before .before .before .before .before .before .before .before .before .before .before .before .args .d) (c .before .before .before .before .before .before .before .before .before .before .before .before .next2 .given .1) (c .before .before .before .before .before .before .before .before .before .before .before .before .before .before .loop .inv .1), (c .before .before .before .before .before .before .before .before .before .before .before .before .before .before .before .before .before .before .before .before .before .before .pre .1 .0) .rowRoom))
+    ((c .before .before .before .before .before .before .before .before .before .before .before .before .before .before .before .before .before .before .before .before .before .before .pre .1 .0) .short, omega (arith, passed (c .before .before .before .before .before .before .before .value .ensures) (c .before .end .given .1) .near, near-part (65539 + c .before .before .before .before .before .before .before .before .before .before .before .before .before .before .before .before .before .before .before .before .before .before .args .depth) (c .before .before .before .before .before .before .before .before .before .before .before .before .next2 .given .1) (c .before .before .before .before .before .before .before .before .before .before .before .before .before .before .loop .inv .1), (c .before .before .before .before .before .before .before .before .before .before .before .before .before .before .before .before .before .before .before .before .before .before .pre .1 .0) .rowRoom))
 
 list-add-count : (t : ℕ) → list-lts.Need-add-count (list-calls t) (list-at t) list.Post list-Inv-loop list-μ-loop
 list-add-count t c = omega (arith, c .before .before .before .before .before .before .before .before .before .before .before .if1 .left, (c .before .before .before .before .before .before .before .before .before .before .before .before .before .before .before .before .before .before .before .before .before .before .before .pre .1 .0) .short)
@@ -865,7 +865,7 @@ list-loop-less t c = search needs
 list-loop-again : (t : ℕ) → list-lts.Need-loop-again (list-calls t) (list-at t) list.Post list-Inv-loop list-μ-loop
 list-loop-again t c =
     let s = c .before .before .before .before .before .before .before .before .before .before .before .before .before .before .before .before .before .before .before .before .before .before .before .args .s .now in
-    let d = c .before .before .before .before .before .before .before .before .before .before .before .before .before .before .before .before .before .before .before .before .before .before .before .args .d in
+    let d = c .before .before .before .before .before .before .before .before .before .before .before .before .before .before .before .before .before .before .before .before .before .before .before .args .depth in
     let loop = c .before .before .before .before .before .before .before .before .before .before .before .before .before .before .before .loop in
     let loop-inv = loop .inv .0 in
     let value₂ = c .before .before .before .before .before .before .before .before .value in
@@ -897,16 +897,16 @@ object-each-member-requires t c κs =
     let entry = (c .before .before .before .before .before .before .before .before .before .before .before .before) in
     let pre = c .before .before .before .before .before .before .before .before .before .before .before .before .pre .1 .1 .1 in
     let it = (c .before .before .before .before .before .before .before .before .before .before .before .before .pre .1 .0) .short in
-    let firstPart′ = firstPart s 0x7D (c .before .before .before .before .before .before .before .before .before .before .before .before .args .p) in
+    let firstPart′ = firstPart s 0x7D (c .before .before .before .before .before .before .before .before .before .before .before .before .args .place) in
     let pre₂ = c .before .before .before .before .before .before .before .before .before .before .before .before .pre .1 .1 .0 in
-    (omega arith, ((c .before .before .before .before .before .before .before .before .before .before .before .before .pre .1 .0), (pre, omega (arith, scan-near (c .before .before .before .before .before .before .before .before .before .before .before .before .args .d - 1) (table (c .before .before .before .before .before .before .before .before .before .before .before .before .args .types .now) (c .before .before .before .before .before .before .before .before .before .before .before .before .args .names .now)) s (c .before .before .before .before .before .before .before .before .before .before .before .before .args .row) 65540 it (omega arith) (length s) firstPart′ 0 noPlaces (near-first s 0x7D (c .before .before .before .before .before .before .before .before .before .before .before .before .args .p) 65540 firstPart′ it (c .before .before .before .before .before .before .before .before .before .before .before .before .pre .1 .1 .0) (omega arith) refl) (c .before .before .before .end2 .given .0 .0) (sym (c .before .before .before .end2 .given .1) ∙ ap (λ (x : Scanned). x .end) (scan .ensures)), pre, pre₂, (c .before .before .before .before .before .before .before .before .before .before .before .before .pre .1 .0) .short), c .before .before .before .before .before .before .before .before .before .before .before .before .pre .1 .1 .2)))
+    (omega arith, ((c .before .before .before .before .before .before .before .before .before .before .before .before .pre .1 .0), (pre, omega (arith, scan-near (c .before .before .before .before .before .before .before .before .before .before .before .before .args .depth - 1) (table (c .before .before .before .before .before .before .before .before .before .before .before .before .args .types .now) (c .before .before .before .before .before .before .before .before .before .before .before .before .args .names .now)) s (c .before .before .before .before .before .before .before .before .before .before .before .before .args .row) 65540 it (omega arith) (length s) firstPart′ 0 noPlaces (near-first s 0x7D (c .before .before .before .before .before .before .before .before .before .before .before .before .args .place) 65540 firstPart′ it (c .before .before .before .before .before .before .before .before .before .before .before .before .pre .1 .1 .0) (omega arith) refl) (c .before .before .before .end2 .given .0 .0) (sym (c .before .before .before .end2 .given .1) ∙ ap (λ (x : Scanned). x .end) (scan .ensures)), pre, pre₂, (c .before .before .before .before .before .before .before .before .before .before .before .before .pre .1 .0) .short), c .before .before .before .before .before .before .before .before .before .before .before .before .pre .1 .1 .2)))
 
 object-returns : (t : ℕ) → object-lts.Need-returns (object-calls t) (object-at t) object.Post
 object-returns t c =
     let s = c .before .before .before .before .before .before .before .before .before .before .args .s .now in
     let scan = c .before .before .before .before .scan in
     let tab = table (c .before .before .before .before .before .before .before .before .before .before .args .types .now) (c .before .before .before .before .before .before .before .before .before .before .args .names .now) in
-    reads-no (over-no tab (c .before .before .before .before .before .before .before .before .before .before .args .row) (object-stopped (λ q u. readAt (c .before .before .before .before .before .before .before .before .before .before .args .d - 1) tab s q u) (c .before .before .before .before .before .before .before .before .before .before .args .d - 1) tab s (c .before .before .before .before .before .before .before .before .before .before .args .row) (c .before .before .before .before .before .before .before .before .before .before .args .p) (c .before .end .given .1) (scan .ensures)))
+    reads-no (over-no tab (c .before .before .before .before .before .before .before .before .before .before .args .row) (object-stopped (λ q u. readAt (c .before .before .before .before .before .before .before .before .before .before .args .depth - 1) tab s q u) (c .before .before .before .before .before .before .before .before .before .before .args .depth - 1) tab s (c .before .before .before .before .before .before .before .before .before .before .args .row) (c .before .before .before .before .before .before .before .before .before .before .args .place) (c .before .end .given .1) (scan .ensures)))
 
 object-same-length : (t : ℕ) → object-lts.Need-same-length (object-calls t) (object-at t) object.Post
 object-same-length t c = search needs
@@ -919,12 +919,12 @@ object-returns-2 t c =
     let s = c .before .before .before .before .before .before .before .before .before .before .before .before .before .before .before .before .before .args .s .now in
     let scan = c .before .before .before .before .before .before .before .before .before .before .before .scan in
     let tab = table (c .before .before .before .before .before .before .before .before .before .before .before .before .before .before .before .before .before .args .types .now) (c .before .before .before .before .before .before .before .before .before .before .before .before .before .before .before .before .before .args .names .now) in
-    along (ap (λ (x : Res (Got Val)). bind x (within tab (c .before .before .before .before .before .before .before .before .before .before .before .before .before .before .before .before .before .args .row))) (object-scanned (λ q u. readAt (c .before .before .before .before .before .before .before .before .before .before .before .before .before .before .before .before .before .args .d - 1) tab s q u) (c .before .before .before .before .before .before .before .before .before .before .before .before .before .before .before .before .before .args .d - 1) tab s (c .before .before .before .before .before .before .before .before .before .before .before .before .before .before .before .before .before .args .row) (c .before .before .before .before .before .before .before .before .before .before .before .before .before .before .before .before .before .args .p) (c .before .before .before .before .before .before .before .before .end2 .given .1) (scan .ensures))) (c .before .before .before .before .each-member .ensures)
+    along (ap (λ (x : Res (Got Val)). bind x (within tab (c .before .before .before .before .before .before .before .before .before .before .before .before .before .before .before .before .before .args .row))) (object-scanned (λ q u. readAt (c .before .before .before .before .before .before .before .before .before .before .before .before .before .before .before .before .before .args .depth - 1) tab s q u) (c .before .before .before .before .before .before .before .before .before .before .before .before .before .before .before .before .before .args .depth - 1) tab s (c .before .before .before .before .before .before .before .before .before .before .before .before .before .before .before .before .before .args .row) (c .before .before .before .before .before .before .before .before .before .before .before .before .before .before .before .before .before .args .place) (c .before .before .before .before .before .before .before .before .end2 .given .1) (scan .ensures))) (c .before .before .before .before .each-member .ensures)
 
 plain-leaf-requires : (t : ℕ) → plain-lts.Need-leaf-requires (plain-calls t) (plain-at t) plain.Post
 plain-leaf-requires t c κs =
     let entry = (c .before .before .before .before .before .before .before .before) in
-    ((c .before .before .before .before .before .before .before .before .pre .1 .0) .short, λ h. omega (arith, string-code (c .before .before .before .before .before .before .before .before .args .s .now) (c .before .before .before .before .before .before .before .before .args .p) (c .before .before .before .before .before .before .before .before .pre .1 .1) h, (c .before .before .before .before .before .before .before .before .pre .1 .0) .short), omega (arith, (c .before .before .before .before .before .before .before .before .pre .1 .0) .rowRoom))
+    ((c .before .before .before .before .before .before .before .before .pre .1 .0) .short, λ h. omega (arith, string-code (c .before .before .before .before .before .before .before .before .args .s .now) (c .before .before .before .before .before .before .before .before .args .place) (c .before .before .before .before .before .before .before .before .pre .1 .1) h, (c .before .before .before .before .before .before .before .before .pre .1 .0) .short), omega (arith, (c .before .before .before .before .before .before .before .before .pre .1 .0) .rowRoom))
 
 plain-bounded-requires : (t : ℕ) → plain-lts.Need-bounded-requires (plain-calls t) (plain-at t) plain.Post
 plain-bounded-requires t c κs = search needs
@@ -939,9 +939,9 @@ plain-returns : (t : ℕ) → plain-lts.Need-returns (plain-calls t) (plain-at t
 plain-returns t c =
     let s = c .before .before .before .before .before .before .before .before .before .before .before .before .before .before .args .s .now in
     let pre = c .before .before .before .before .before .before .before .before .before .before .before .before .before .before .pre .1 .1 in
-    let tokenAt′ = tokenAt s (c .before .before .before .before .before .before .before .before .before .before .before .before .before .before .args .p) in
+    let tokenAt′ = tokenAt s (c .before .before .before .before .before .before .before .before .before .before .before .before .before .before .args .place) in
     let tab = table (c .before .before .before .before .before .before .before .before .before .before .before .before .before .before .args .types .now) (c .before .before .before .before .before .before .before .before .before .before .before .before .before .before .args .names .now) in
-    along (ap (λ (x : Res (Got Val)). bind x (within tab (c .before .before .before .before .before .before .before .before .before .before .before .before .before .before .args .row))) (plain-leaf tab s (c .before .before .before .before .before .before .before .before .before .before .before .before .before .before .args .row) (c .before .before .before .before .before .before .before .before .before .before .before .before .before .before .args .p) (c .before .before .before .before .before .before .before .before .before .before .before .before .before .before .args .d) tokenAt′ (rw (← pre) (c .before .before .before .before .before .before .before .before .if1 .taken)))) (bounded-near (c .before .before .before .before .before .before .before .before .before .before .before .before .before .before .args .p) (c .before .before .before .before .before .before .before .before .before .before .before .before .before .before .args .d) (bounded-reads (leafAt tab s tokenAt′ (c .before .before .before .before .before .before .before .before .before .before .before .before .before .before .args .row) (c .before .before .before .before .before .before .before .before .before .before .before .before .before .before .args .p)) (c .before .before .before .before .before .leaf .ensures tokenAt′ pre) (c .bounded .ensures) (λ g e. leaf-near tab s (c .before .before .before .before .before .before .before .before .before .before .before .before .before .before .args .row) (c .before .before .before .before .before .before .before .before .before .before .before .before .before .before .args .p) ((c .before .before .before .before .before .before .before .before .before .before .before .before .before .before .pre .1 .0) .short) tokenAt′ (λ h. token-inside s (c .before .before .before .before .before .before .before .before .before .before .before .before .before .before .args .p) (string-not s (c .before .before .before .before .before .before .before .before .before .before .before .before .before .before .args .p) h)) e)))
+    along (ap (λ (x : Res (Got Val)). bind x (within tab (c .before .before .before .before .before .before .before .before .before .before .before .before .before .before .args .row))) (plain-leaf tab s (c .before .before .before .before .before .before .before .before .before .before .before .before .before .before .args .row) (c .before .before .before .before .before .before .before .before .before .before .before .before .before .before .args .place) (c .before .before .before .before .before .before .before .before .before .before .before .before .before .before .args .depth) tokenAt′ (rw (← pre) (c .before .before .before .before .before .before .before .before .if1 .taken)))) (bounded-near (c .before .before .before .before .before .before .before .before .before .before .before .before .before .before .args .place) (c .before .before .before .before .before .before .before .before .before .before .before .before .before .before .args .depth) (bounded-reads (leafAt tab s tokenAt′ (c .before .before .before .before .before .before .before .before .before .before .before .before .before .before .args .row) (c .before .before .before .before .before .before .before .before .before .before .before .before .before .before .args .place)) (c .before .before .before .before .before .leaf .ensures tokenAt′ pre) (c .bounded .ensures) (λ g e. leaf-near tab s (c .before .before .before .before .before .before .before .before .before .before .before .before .before .before .args .row) (c .before .before .before .before .before .before .before .before .before .before .before .before .before .before .args .place) ((c .before .before .before .before .before .before .before .before .before .before .before .before .before .before .pre .1 .0) .short) tokenAt′ (λ h. token-inside s (c .before .before .before .before .before .before .before .before .before .before .before .before .before .before .args .place) (string-not s (c .before .before .before .before .before .before .before .before .before .before .before .before .before .before .args .place) h)) e)))
 
 plain-refused-requires : (t : ℕ) → plain-lts.Need-refused-requires (plain-calls t) (plain-at t) plain.Post
 plain-refused-requires t c κs = search needs
@@ -950,7 +950,7 @@ plain-returns-2 : (t : ℕ) → plain-lts.Need-returns-2 (plain-calls t) (plain-
 plain-returns-2 t c =
     let s = c .before .before .before .before .before .before .before .before .args .s .now in
     let tab = table (c .before .before .before .before .before .before .before .before .args .types .now) (c .before .before .before .before .before .before .before .before .args .names .now) in
-    rw (c .refused .ensures) (reads-no (over-no tab (c .before .before .before .before .before .before .before .before .args .row) (plain-deep tab s (c .before .before .before .before .before .before .before .before .args .row) (c .before .before .before .before .before .before .before .before .args .p) (c .before .before .before .before .before .before .before .before .args .d) (tokenAt s (c .before .before .before .before .before .before .before .before .args .p)) (rw (← c .before .before .before .before .before .before .before .before .pre .1 .1) (c .before .before .if1 .left)) (c .before .if2 .taken))))
+    rw (c .refused .ensures) (reads-no (over-no tab (c .before .before .before .before .before .before .before .before .args .row) (plain-deep tab s (c .before .before .before .before .before .before .before .before .args .row) (c .before .before .before .before .before .before .before .before .args .place) (c .before .before .before .before .before .before .before .before .args .depth) (tokenAt s (c .before .before .before .before .before .before .before .before .args .place)) (rw (← c .before .before .before .before .before .before .before .before .pre .1 .1) (c .before .before .if1 .left)) (c .before .if2 .taken))))
 
 plain-at-requires : (t : ℕ) → plain-lts.Need-at-requires (plain-calls t) (plain-at t) plain.Post
 plain-at-requires t c κs = search needs
@@ -958,7 +958,7 @@ plain-at-requires t c κs = search needs
 plain-list-requires : (t : ℕ) → plain-lts.Need-list-requires (plain-calls t) (plain-at t) plain.Post
 plain-list-requires t c κs =
     let entry = (c .before .before .before .before .before .before .before .before .before .before .before .before .before) in
-    (omega arith, ((c .before .before .before .before .before .before .before .before .before .before .before .before .before .pre .1 .0), (token-inside (c .before .before .before .before .before .before .before .before .before .before .before .before .before .args .s .now) (c .before .before .before .before .before .before .before .before .before .before .before .before .before .args .p) (λ e. omega (arith, c .before .before .before .before .before .before .before .before .before .before .before .before .before .pre .1 .1, c .before .before .before .before .before .before .before .if1 .left, e)), positive (c .before .before .before .before .before .before .before .before .before .before .before .before .before .args .d) (c .before .before .before .before .before .before .if2 .left), sym (kind-of _ (c .before .before .before .before .before .before .before .before .before .before .before .before .before .args .row) (c .before .before .before .before .before .at .ensures (c .before .before .before .before .before .before .before .before .before .before .before .before .before .args .names .now))) ∙ c .before .before .if4 .taken)))
+    (omega arith, ((c .before .before .before .before .before .before .before .before .before .before .before .before .before .pre .1 .0), (token-inside (c .before .before .before .before .before .before .before .before .before .before .before .before .before .args .s .now) (c .before .before .before .before .before .before .before .before .before .before .before .before .before .args .place) (λ e. omega (arith, c .before .before .before .before .before .before .before .before .before .before .before .before .before .pre .1 .1, c .before .before .before .before .before .before .before .if1 .left, e)), positive (c .before .before .before .before .before .before .before .before .before .before .before .before .before .args .depth) (c .before .before .before .before .before .before .if2 .left), sym (kind-of _ (c .before .before .before .before .before .before .before .before .before .before .before .before .before .args .row) (c .before .before .before .before .before .at .ensures (c .before .before .before .before .before .before .before .before .before .before .before .before .before .args .names .now))) ∙ c .before .before .if4 .taken)))
 
 plain-same-length-3 : (t : ℕ) → plain-lts.Need-same-length-3 (plain-calls t) (plain-at t) plain.Post
 plain-same-length-3 t c = search needs
@@ -971,7 +971,7 @@ plain-returns-3 t c =
     let names = c .before .before .before .before .before .before .before .before .before .before .before .before .before .before .before .before .before .before .args .names .now in
     let tab = table (c .before .before .before .before .before .before .before .before .before .before .before .before .before .before .before .before .before .before .args .types .now) names in
     let s = c .before .before .before .before .before .before .before .before .before .before .before .before .before .before .before .before .before .before .args .s .now in
-    along (ap (λ (x : Res (Got Val)). bind x (within tab (c .before .before .before .before .before .before .before .before .before .before .before .before .before .before .before .before .before .before .args .row))) (plain-list tab s (c .before .before .before .before .before .before .before .before .before .before .before .before .before .before .before .before .before .before .args .row) (c .before .before .before .before .before .before .before .before .before .before .before .before .before .before .before .before .before .before .args .p) (c .before .before .before .before .before .before .before .before .before .before .before .before .before .before .before .before .before .before .args .d) (c .before .before .before .before .before .before .before .before .before .before .before .if2 .left) (token-array (tokenAt s (c .before .before .before .before .before .before .before .before .before .before .before .before .before .before .before .before .before .before .args .p)) (sym (c .before .before .before .before .before .before .before .before .before .before .before .before .before .before .before .before .before .before .pre .1 .1) ∙ c .before .before .before .before .before .before .before .before .before .if3 .taken)) (sym (kind-of _ (c .before .before .before .before .before .before .before .before .before .before .before .before .before .before .before .before .before .before .args .row) (c .before .before .before .before .before .before .before .before .before .before .at .ensures names)) ∙ c .before .before .before .before .before .before .before .if4 .taken))) (c .before .before .before .before .list .ensures)
+    along (ap (λ (x : Res (Got Val)). bind x (within tab (c .before .before .before .before .before .before .before .before .before .before .before .before .before .before .before .before .before .before .args .row))) (plain-list tab s (c .before .before .before .before .before .before .before .before .before .before .before .before .before .before .before .before .before .before .args .row) (c .before .before .before .before .before .before .before .before .before .before .before .before .before .before .before .before .before .before .args .place) (c .before .before .before .before .before .before .before .before .before .before .before .before .before .before .before .before .before .before .args .depth) (c .before .before .before .before .before .before .before .before .before .before .before .if2 .left) (token-array (tokenAt s (c .before .before .before .before .before .before .before .before .before .before .before .before .before .before .before .before .before .before .args .place)) (sym (c .before .before .before .before .before .before .before .before .before .before .before .before .before .before .before .before .before .before .pre .1 .1) ∙ c .before .before .before .before .before .before .before .before .before .if3 .taken)) (sym (kind-of _ (c .before .before .before .before .before .before .before .before .before .before .before .before .before .before .before .before .before .before .args .row) (c .before .before .before .before .before .before .before .before .before .before .at .ensures names)) ∙ c .before .before .before .before .before .before .before .if4 .taken))) (c .before .before .before .before .list .ensures)
 
 plain-is-array-requires : (t : ℕ) → plain-lts.Need-is-array-requires (plain-calls t) (plain-at t) plain.Post
 plain-is-array-requires t c κs = search needs
@@ -980,7 +980,7 @@ plain-array-requires : (t : ℕ) → plain-lts.Need-array-requires (plain-calls 
 plain-array-requires t c κs =
     let names = c .before .before .before .before .before .before .before .before .before .before .before .before .before .before .before .args .names .now in
     let c₁₅ = (c .before .before .before .before .before .before .before .before .before .before .before .before .before .before .before) in
-    (omega arith, ((c .before .before .before .before .before .before .before .before .before .before .before .before .before .before .before .pre .1 .0), (token-inside (c .before .before .before .before .before .before .before .before .before .before .before .before .before .before .before .args .s .now) (c .before .before .before .before .before .before .before .before .before .before .before .before .before .before .before .args .p) (λ e. omega (arith, c .before .before .before .before .before .before .before .before .before .before .before .before .before .before .before .pre .1 .1, c .before .before .before .before .before .before .before .before .before .if1 .left, e)), positive (c .before .before .before .before .before .before .before .before .before .before .before .before .before .before .before .args .d) (c .before .before .before .before .before .before .before .before .if2 .left), array-kind (table (c .before .before .before .before .before .before .before .before .before .before .before .before .before .before .before .args .types .now) names) (c .before .before .before .before .before .before .before .before .before .before .before .before .before .before .before .args .row) (sym (c .before .before .before .is-array .ensures _ _ (c .before .before .before .before .before .before .before .at .ensures names)) ∙ c .before .before .if5 .taken))))
+    (omega arith, ((c .before .before .before .before .before .before .before .before .before .before .before .before .before .before .before .pre .1 .0), (token-inside (c .before .before .before .before .before .before .before .before .before .before .before .before .before .before .before .args .s .now) (c .before .before .before .before .before .before .before .before .before .before .before .before .before .before .before .args .place) (λ e. omega (arith, c .before .before .before .before .before .before .before .before .before .before .before .before .before .before .before .pre .1 .1, c .before .before .before .before .before .before .before .before .before .if1 .left, e)), positive (c .before .before .before .before .before .before .before .before .before .before .before .before .before .before .before .args .depth) (c .before .before .before .before .before .before .before .before .if2 .left), array-kind (table (c .before .before .before .before .before .before .before .before .before .before .before .before .before .before .before .args .types .now) names) (c .before .before .before .before .before .before .before .before .before .before .before .before .before .before .before .args .row) (sym (c .before .before .before .is-array .ensures _ _ (c .before .before .before .before .before .before .before .at .ensures names)) ∙ c .before .before .if5 .taken))))
 
 plain-same-length-5 : (t : ℕ) → plain-lts.Need-same-length-5 (plain-calls t) (plain-at t) plain.Post
 plain-same-length-5 t c = search needs
@@ -993,7 +993,7 @@ plain-returns-4 t c =
     let names = c .before .before .before .before .before .before .before .before .before .before .before .before .before .before .before .before .before .before .before .before .args .names .now in
     let tab = table (c .before .before .before .before .before .before .before .before .before .before .before .before .before .before .before .before .before .before .before .before .args .types .now) names in
     let s = c .before .before .before .before .before .before .before .before .before .before .before .before .before .before .before .before .before .before .before .before .args .s .now in
-    along (ap (λ (x : Res (Got Val)). bind x (within tab (c .before .before .before .before .before .before .before .before .before .before .before .before .before .before .before .before .before .before .before .before .args .row))) (plain-array tab s (c .before .before .before .before .before .before .before .before .before .before .before .before .before .before .before .before .before .before .before .before .args .row) (c .before .before .before .before .before .before .before .before .before .before .before .before .before .before .before .before .before .before .before .before .args .p) (c .before .before .before .before .before .before .before .before .before .before .before .before .before .before .before .before .before .before .before .before .args .d) (c .before .before .before .before .before .before .before .before .before .before .before .before .before .if2 .left) (token-array (tokenAt s (c .before .before .before .before .before .before .before .before .before .before .before .before .before .before .before .before .before .before .before .before .args .p)) (sym (c .before .before .before .before .before .before .before .before .before .before .before .before .before .before .before .before .before .before .before .before .pre .1 .1) ∙ c .before .before .before .before .before .before .before .before .before .before .before .if3 .taken)) (λ h. c .before .before .before .before .before .before .before .before .before .if4 .left (sym (sym (kind-of _ (c .before .before .before .before .before .before .before .before .before .before .before .before .before .before .before .before .before .before .before .before .args .row) (c .before .before .before .before .before .before .before .before .before .before .before .before .at .ensures names))) ∙ h)) (sym (c .before .before .before .before .before .before .before .before .is-array .ensures _ _ (c .before .before .before .before .before .before .before .before .before .before .before .before .at .ensures names)) ∙ c .before .before .before .before .before .before .before .if5 .taken))) (c .before .before .before .before .array .ensures)
+    along (ap (λ (x : Res (Got Val)). bind x (within tab (c .before .before .before .before .before .before .before .before .before .before .before .before .before .before .before .before .before .before .before .before .args .row))) (plain-array tab s (c .before .before .before .before .before .before .before .before .before .before .before .before .before .before .before .before .before .before .before .before .args .row) (c .before .before .before .before .before .before .before .before .before .before .before .before .before .before .before .before .before .before .before .before .args .place) (c .before .before .before .before .before .before .before .before .before .before .before .before .before .before .before .before .before .before .before .before .args .depth) (c .before .before .before .before .before .before .before .before .before .before .before .before .before .if2 .left) (token-array (tokenAt s (c .before .before .before .before .before .before .before .before .before .before .before .before .before .before .before .before .before .before .before .before .args .place)) (sym (c .before .before .before .before .before .before .before .before .before .before .before .before .before .before .before .before .before .before .before .before .pre .1 .1) ∙ c .before .before .before .before .before .before .before .before .before .before .before .if3 .taken)) (λ h. c .before .before .before .before .before .before .before .before .before .if4 .left (sym (sym (kind-of _ (c .before .before .before .before .before .before .before .before .before .before .before .before .before .before .before .before .before .before .before .before .args .row) (c .before .before .before .before .before .before .before .before .before .before .before .before .at .ensures names))) ∙ h)) (sym (c .before .before .before .before .before .before .before .before .is-array .ensures _ _ (c .before .before .before .before .before .before .before .before .before .before .before .before .at .ensures names)) ∙ c .before .before .before .before .before .before .before .if5 .taken))) (c .before .before .before .before .array .ensures)
 
 plain-refused-requires-2 : (t : ℕ) → plain-lts.Need-refused-requires-2 (plain-calls t) (plain-at t) plain.Post
 plain-refused-requires-2 t c κs = search needs
@@ -1003,12 +1003,12 @@ plain-returns-5 t c =
     let names = c .before .before .before .before .before .before .before .before .before .before .before .before .before .before .args .names .now in
     let tab = table (c .before .before .before .before .before .before .before .before .before .before .before .before .before .before .args .types .now) names in
     let s = c .before .before .before .before .before .before .before .before .before .before .before .before .before .before .args .s .now in
-    rw (c .refused2 .ensures) (reads-no (over-no tab (c .before .before .before .before .before .before .before .before .before .before .before .before .before .before .args .row) (plain-no-array tab s (c .before .before .before .before .before .before .before .before .before .before .before .before .before .before .args .row) (c .before .before .before .before .before .before .before .before .before .before .before .before .before .before .args .p) (c .before .before .before .before .before .before .before .before .before .before .before .before .before .before .args .d) (c .before .before .before .before .before .before .before .if2 .left) (token-array (tokenAt s (c .before .before .before .before .before .before .before .before .before .before .before .before .before .before .args .p)) (sym (c .before .before .before .before .before .before .before .before .before .before .before .before .before .before .pre .1 .1) ∙ c .before .before .before .before .before .if3 .taken)) (λ h. c .before .before .before .if4 .left (sym (sym (kind-of _ (c .before .before .before .before .before .before .before .before .before .before .before .before .before .before .args .row) (c .before .before .before .before .before .before .at .ensures names))) ∙ h)) (sym (c .before .before .is-array .ensures _ _ (c .before .before .before .before .before .before .at .ensures names)) ∙ c .before .if5 .left))))
+    rw (c .refused2 .ensures) (reads-no (over-no tab (c .before .before .before .before .before .before .before .before .before .before .before .before .before .before .args .row) (plain-no-array tab s (c .before .before .before .before .before .before .before .before .before .before .before .before .before .before .args .row) (c .before .before .before .before .before .before .before .before .before .before .before .before .before .before .args .place) (c .before .before .before .before .before .before .before .before .before .before .before .before .before .before .args .depth) (c .before .before .before .before .before .before .before .if2 .left) (token-array (tokenAt s (c .before .before .before .before .before .before .before .before .before .before .before .before .before .before .args .place)) (sym (c .before .before .before .before .before .before .before .before .before .before .before .before .before .before .pre .1 .1) ∙ c .before .before .before .before .before .if3 .taken)) (λ h. c .before .before .before .if4 .left (sym (sym (kind-of _ (c .before .before .before .before .before .before .before .before .before .before .before .before .before .before .args .row) (c .before .before .before .before .before .before .at .ensures names))) ∙ h)) (sym (c .before .before .is-array .ensures _ _ (c .before .before .before .before .before .before .at .ensures names)) ∙ c .before .if5 .left))))
 
 plain-choice-requires : (t : ℕ) → plain-lts.Need-choice-requires (plain-calls t) (plain-at t) plain.Post
 plain-choice-requires t c κs =
     let entry = (c .before .before .before .before .before .before .before .before .before .before .before .before .before) in
-    (omega arith, ((c .before .before .before .before .before .before .before .before .before .before .before .before .before .pre .1 .0), (token-inside (c .before .before .before .before .before .before .before .before .before .before .before .before .before .args .s .now) (c .before .before .before .before .before .before .before .before .before .before .before .before .before .args .p) (λ e. omega (arith, c .before .before .before .before .before .before .before .before .before .before .before .before .before .pre .1 .1, c .before .before .before .before .before .before .before .if1 .left, e)), positive (c .before .before .before .before .before .before .before .before .before .before .before .before .before .args .d) (c .before .before .before .before .before .before .if2 .left), sym (kind-of _ (c .before .before .before .before .before .before .before .before .before .before .before .before .before .args .row) (c .before .before .before .before .before .at .ensures (c .before .before .before .before .before .before .before .before .before .before .before .before .before .args .names .now))) ∙ c .before .before .if6 .taken)))
+    (omega arith, ((c .before .before .before .before .before .before .before .before .before .before .before .before .before .pre .1 .0), (token-inside (c .before .before .before .before .before .before .before .before .before .before .before .before .before .args .s .now) (c .before .before .before .before .before .before .before .before .before .before .before .before .before .args .place) (λ e. omega (arith, c .before .before .before .before .before .before .before .before .before .before .before .before .before .pre .1 .1, c .before .before .before .before .before .before .before .if1 .left, e)), positive (c .before .before .before .before .before .before .before .before .before .before .before .before .before .args .depth) (c .before .before .before .before .before .before .if2 .left), sym (kind-of _ (c .before .before .before .before .before .before .before .before .before .before .before .before .before .args .row) (c .before .before .before .before .before .at .ensures (c .before .before .before .before .before .before .before .before .before .before .before .before .before .args .names .now))) ∙ c .before .before .if6 .taken)))
 
 plain-same-length-7 : (t : ℕ) → plain-lts.Need-same-length-7 (plain-calls t) (plain-at t) plain.Post
 plain-same-length-7 t c = search needs
@@ -1022,7 +1022,7 @@ plain-returns-6 t c =
     let tab = table (c .before .before .before .before .before .before .before .before .before .before .before .before .before .before .before .before .before .before .args .types .now) names in
     let s = c .before .before .before .before .before .before .before .before .before .before .before .before .before .before .before .before .before .before .args .s .now in
     let pre = c .before .before .before .before .before .before .before .before .before .before .before .before .before .before .before .before .before .before .pre .1 .1 in
-    along (ap (λ (x : Res (Got Val)). bind x (within tab (c .before .before .before .before .before .before .before .before .before .before .before .before .before .before .before .before .before .before .args .row))) (plain-choice tab s (c .before .before .before .before .before .before .before .before .before .before .before .before .before .before .before .before .before .before .args .row) (c .before .before .before .before .before .before .before .before .before .before .before .before .before .before .before .before .before .before .args .p) (c .before .before .before .before .before .before .before .before .before .before .before .before .before .before .before .before .before .before .args .d) (c .before .before .before .before .before .before .before .before .before .before .before .if2 .left) (token-object (tokenAt s (c .before .before .before .before .before .before .before .before .before .before .before .before .before .before .before .before .before .before .args .p)) (rw (← pre) (c .before .before .before .before .before .before .before .before .before .before .before .before .if1 .left)) (λ h. c .before .before .before .before .before .before .before .before .before .if3 .left (pre ∙ h))) (sym (kind-of _ (c .before .before .before .before .before .before .before .before .before .before .before .before .before .before .before .before .before .before .args .row) (c .before .before .before .before .before .before .before .before .before .before .at .ensures names)) ∙ c .before .before .before .before .before .before .before .if6 .taken))) (c .before .before .before .before .choice .ensures)
+    along (ap (λ (x : Res (Got Val)). bind x (within tab (c .before .before .before .before .before .before .before .before .before .before .before .before .before .before .before .before .before .before .args .row))) (plain-choice tab s (c .before .before .before .before .before .before .before .before .before .before .before .before .before .before .before .before .before .before .args .row) (c .before .before .before .before .before .before .before .before .before .before .before .before .before .before .before .before .before .before .args .place) (c .before .before .before .before .before .before .before .before .before .before .before .before .before .before .before .before .before .before .args .depth) (c .before .before .before .before .before .before .before .before .before .before .before .if2 .left) (token-object (tokenAt s (c .before .before .before .before .before .before .before .before .before .before .before .before .before .before .before .before .before .before .args .place)) (rw (← pre) (c .before .before .before .before .before .before .before .before .before .before .before .before .if1 .left)) (λ h. c .before .before .before .before .before .before .before .before .before .if3 .left (pre ∙ h))) (sym (kind-of _ (c .before .before .before .before .before .before .before .before .before .before .before .before .before .before .before .before .before .before .args .row) (c .before .before .before .before .before .before .before .before .before .before .at .ensures names)) ∙ c .before .before .before .before .before .before .before .if6 .taken))) (c .before .before .before .before .choice .ensures)
 
 plain-is-array-requires-2 : (t : ℕ) → plain-lts.Need-is-array-requires-2 (plain-calls t) (plain-at t) plain.Post
 plain-is-array-requires-2 t c κs = search needs
@@ -1032,7 +1032,7 @@ plain-object-requires t c κs =
     let names = c .before .before .before .before .before .before .before .before .before .before .before .before .before .before .before .before .args .names .now in
     let tab = table (c .before .before .before .before .before .before .before .before .before .before .before .before .before .before .before .before .args .types .now) names in
     let entry = (c .before .before .before .before .before .before .before .before .before .before .before .before .before .before .before .before) in
-    (omega arith, ((c .before .before .before .before .before .before .before .before .before .before .before .before .before .before .before .before .pre .1 .0), (token-inside (c .before .before .before .before .before .before .before .before .before .before .before .before .before .before .before .before .args .s .now) (c .before .before .before .before .before .before .before .before .before .before .before .before .before .before .before .before .args .p) (λ e. omega (arith, c .before .before .before .before .before .before .before .before .before .before .before .before .before .before .before .before .pre .1 .1, c .before .before .before .before .before .before .before .before .before .before .if1 .left, e)), positive (c .before .before .before .before .before .before .before .before .before .before .before .before .before .before .before .before .args .d) (c .before .before .before .before .before .before .before .before .before .if2 .left), object-kind tab (c .before .before .before .before .before .before .before .before .before .before .before .before .before .before .before .before .args .row) (sequence-is tab (c .before .before .before .before .before .before .before .before .before .before .before .before .before .before .before .before .args .row) (c .before .before .before .before .before .before .before .before .at .ensures names) (c .before .before .before .is-array2 .ensures _ _ (c .before .before .before .before .before .before .before .before .at .ensures names)) ∙ c .before .before .if7 .taken))))
+    (omega arith, ((c .before .before .before .before .before .before .before .before .before .before .before .before .before .before .before .before .pre .1 .0), (token-inside (c .before .before .before .before .before .before .before .before .before .before .before .before .before .before .before .before .args .s .now) (c .before .before .before .before .before .before .before .before .before .before .before .before .before .before .before .before .args .place) (λ e. omega (arith, c .before .before .before .before .before .before .before .before .before .before .before .before .before .before .before .before .pre .1 .1, c .before .before .before .before .before .before .before .before .before .before .if1 .left, e)), positive (c .before .before .before .before .before .before .before .before .before .before .before .before .before .before .before .before .args .depth) (c .before .before .before .before .before .before .before .before .before .if2 .left), object-kind tab (c .before .before .before .before .before .before .before .before .before .before .before .before .before .before .before .before .args .row) (sequence-is tab (c .before .before .before .before .before .before .before .before .before .before .before .before .before .before .before .before .args .row) (c .before .before .before .before .before .before .before .before .at .ensures names) (c .before .before .before .is-array2 .ensures _ _ (c .before .before .before .before .before .before .before .before .at .ensures names)) ∙ c .before .before .if7 .taken))))
 
 plain-same-length-9 : (t : ℕ) → plain-lts.Need-same-length-9 (plain-calls t) (plain-at t) plain.Post
 plain-same-length-9 t c = search needs
@@ -1046,7 +1046,7 @@ plain-returns-7 t c =
     let tab = table (c .before .before .before .before .before .before .before .before .before .before .before .before .before .before .before .before .before .before .before .before .before .args .types .now) names in
     let s = c .before .before .before .before .before .before .before .before .before .before .before .before .before .before .before .before .before .before .before .before .before .args .s .now in
     let pre = c .before .before .before .before .before .before .before .before .before .before .before .before .before .before .before .before .before .before .before .before .before .pre .1 .1 in
-    along (ap (λ (x : Res (Got Val)). bind x (within tab (c .before .before .before .before .before .before .before .before .before .before .before .before .before .before .before .before .before .before .before .before .before .args .row))) (plain-object tab s (c .before .before .before .before .before .before .before .before .before .before .before .before .before .before .before .before .before .before .before .before .before .args .row) (c .before .before .before .before .before .before .before .before .before .before .before .before .before .before .before .before .before .before .before .before .before .args .p) (c .before .before .before .before .before .before .before .before .before .before .before .before .before .before .before .before .before .before .before .before .before .args .d) (c .before .before .before .before .before .before .before .before .before .before .before .before .before .before .if2 .left) (token-object (tokenAt s (c .before .before .before .before .before .before .before .before .before .before .before .before .before .before .before .before .before .before .before .before .before .args .p)) (rw (← pre) (c .before .before .before .before .before .before .before .before .before .before .before .before .before .before .before .if1 .left)) (λ h. c .before .before .before .before .before .before .before .before .before .before .before .before .if3 .left (pre ∙ h))) (λ h. c .before .before .before .before .before .before .before .before .before .before .if6 .left (sym (sym (kind-of _ (c .before .before .before .before .before .before .before .before .before .before .before .before .before .before .before .before .before .before .before .before .before .args .row) (c .before .before .before .before .before .before .before .before .before .before .before .before .before .at .ensures names))) ∙ h)) (sequence-is tab (c .before .before .before .before .before .before .before .before .before .before .before .before .before .before .before .before .before .before .before .before .before .args .row) (c .before .before .before .before .before .before .before .before .before .before .before .before .before .at .ensures names) (c .before .before .before .before .before .before .before .before .is-array2 .ensures _ _ (c .before .before .before .before .before .before .before .before .before .before .before .before .before .at .ensures names)) ∙ c .before .before .before .before .before .before .before .if7 .taken))) (c .before .before .before .before .object .ensures)
+    along (ap (λ (x : Res (Got Val)). bind x (within tab (c .before .before .before .before .before .before .before .before .before .before .before .before .before .before .before .before .before .before .before .before .before .args .row))) (plain-object tab s (c .before .before .before .before .before .before .before .before .before .before .before .before .before .before .before .before .before .before .before .before .before .args .row) (c .before .before .before .before .before .before .before .before .before .before .before .before .before .before .before .before .before .before .before .before .before .args .place) (c .before .before .before .before .before .before .before .before .before .before .before .before .before .before .before .before .before .before .before .before .before .args .depth) (c .before .before .before .before .before .before .before .before .before .before .before .before .before .before .if2 .left) (token-object (tokenAt s (c .before .before .before .before .before .before .before .before .before .before .before .before .before .before .before .before .before .before .before .before .before .args .place)) (rw (← pre) (c .before .before .before .before .before .before .before .before .before .before .before .before .before .before .before .if1 .left)) (λ h. c .before .before .before .before .before .before .before .before .before .before .before .before .if3 .left (pre ∙ h))) (λ h. c .before .before .before .before .before .before .before .before .before .before .if6 .left (sym (sym (kind-of _ (c .before .before .before .before .before .before .before .before .before .before .before .before .before .before .before .before .before .before .before .before .before .args .row) (c .before .before .before .before .before .before .before .before .before .before .before .before .before .at .ensures names))) ∙ h)) (sequence-is tab (c .before .before .before .before .before .before .before .before .before .before .before .before .before .before .before .before .before .before .before .before .before .args .row) (c .before .before .before .before .before .before .before .before .before .before .before .before .before .at .ensures names) (c .before .before .before .before .before .before .before .before .is-array2 .ensures _ _ (c .before .before .before .before .before .before .before .before .before .before .before .before .before .at .ensures names)) ∙ c .before .before .before .before .before .before .before .if7 .taken))) (c .before .before .before .before .object .ensures)
 
 plain-refused-requires-3 : (t : ℕ) → plain-lts.Need-refused-requires-3 (plain-calls t) (plain-at t) plain.Post
 plain-refused-requires-3 t c κs = search needs
@@ -1057,7 +1057,7 @@ plain-returns-8 t c =
     let tab = table (c .before .before .before .before .before .before .before .before .before .before .before .before .before .before .before .args .types .now) names in
     let s = c .before .before .before .before .before .before .before .before .before .before .before .before .before .before .before .args .s .now in
     let pre = c .before .before .before .before .before .before .before .before .before .before .before .before .before .before .before .pre .1 .1 in
-    rw (c .refused3 .ensures) (reads-no (over-no tab (c .before .before .before .before .before .before .before .before .before .before .before .before .before .before .before .args .row) (plain-no-object tab s (c .before .before .before .before .before .before .before .before .before .before .before .before .before .before .before .args .row) (c .before .before .before .before .before .before .before .before .before .before .before .before .before .before .before .args .p) (c .before .before .before .before .before .before .before .before .before .before .before .before .before .before .before .args .d) (c .before .before .before .before .before .before .before .before .if2 .left) (token-object (tokenAt s (c .before .before .before .before .before .before .before .before .before .before .before .before .before .before .before .args .p)) (rw (← pre) (c .before .before .before .before .before .before .before .before .before .if1 .left)) (λ h. c .before .before .before .before .before .before .if3 .left (pre ∙ h))) (λ h. c .before .before .before .before .if6 .left (sym (sym (kind-of _ (c .before .before .before .before .before .before .before .before .before .before .before .before .before .before .before .args .row) (c .before .before .before .before .before .before .before .at .ensures names))) ∙ h)) (sequence-is tab (c .before .before .before .before .before .before .before .before .before .before .before .before .before .before .before .args .row) (c .before .before .before .before .before .before .before .at .ensures names) (c .before .before .is-array2 .ensures _ _ (c .before .before .before .before .before .before .before .at .ensures names)) ∙ c .before .if7 .left))))
+    rw (c .refused3 .ensures) (reads-no (over-no tab (c .before .before .before .before .before .before .before .before .before .before .before .before .before .before .before .args .row) (plain-no-object tab s (c .before .before .before .before .before .before .before .before .before .before .before .before .before .before .before .args .row) (c .before .before .before .before .before .before .before .before .before .before .before .before .before .before .before .args .place) (c .before .before .before .before .before .before .before .before .before .before .before .before .before .before .before .args .depth) (c .before .before .before .before .before .before .before .before .if2 .left) (token-object (tokenAt s (c .before .before .before .before .before .before .before .before .before .before .before .before .before .before .before .args .place)) (rw (← pre) (c .before .before .before .before .before .before .before .before .before .if1 .left)) (λ h. c .before .before .before .before .before .before .if3 .left (pre ∙ h))) (λ h. c .before .before .before .before .if6 .left (sym (sym (kind-of _ (c .before .before .before .before .before .before .before .before .before .before .before .before .before .before .before .args .row) (c .before .before .before .before .before .before .before .at .ensures names))) ∙ h)) (sequence-is tab (c .before .before .before .before .before .before .before .before .before .before .before .before .before .before .before .args .row) (c .before .before .before .before .before .before .before .at .ensures names) (c .before .before .is-array2 .ensures _ _ (c .before .before .before .before .before .before .before .at .ensures names)) ∙ c .before .if7 .left))))
 
 value-token-at-requires : (t : ℕ) → value-lts.Need-token-at-requires (value-calls t) (value-at t) value.Post
 value-token-at-requires t c κs = search needs
@@ -1080,7 +1080,7 @@ value-same-length-2 t c = search needs
 value-returns : (t : ℕ) → value-lts.Need-returns (value-calls t) (value-at t) value.Post
 value-returns t c =
     let names = c .before .before .before .before .before .before .before .before .before .before .before .before .before .before .before .before .args .names .now in
-    along (value-plain (c .before .before .before .before .before .before .before .before .before .before .before .before .before .before .before .before .args .d) (table (c .before .before .before .before .before .before .before .before .before .before .before .before .before .before .before .before .args .types .now) names) (c .before .before .before .before .before .before .before .before .before .before .before .before .before .before .before .before .args .s .now) (c .before .before .before .before .before .before .before .before .before .before .before .before .before .before .before .before .args .row) (c .before .before .before .before .before .before .before .before .before .before .before .before .before .before .before .before .args .p) (sym (c .before .before .before .before .before .before .before .before .is-unwrapped .ensures _ _ (c .before .before .before .before .before .before .before .before .before .at .ensures names)) ∙ not-true _ (c .before .before .before .before .before .before .before .if1 .taken))) (c .before .before .before .before .plain .ensures)
+    along (value-plain (c .before .before .before .before .before .before .before .before .before .before .before .before .before .before .before .before .args .depth) (table (c .before .before .before .before .before .before .before .before .before .before .before .before .before .before .before .before .args .types .now) names) (c .before .before .before .before .before .before .before .before .before .before .before .before .before .before .before .before .args .s .now) (c .before .before .before .before .before .before .before .before .before .before .before .before .before .before .before .before .args .row) (c .before .before .before .before .before .before .before .before .before .before .before .before .before .before .before .before .args .place) (sym (c .before .before .before .before .before .before .before .before .is-unwrapped .ensures _ _ (c .before .before .before .before .before .before .before .before .before .at .ensures names)) ∙ not-true _ (c .before .before .before .before .before .before .before .if1 .taken))) (c .before .before .before .before .plain .ensures)
 
 value-alternative-requires : (t : ℕ) → value-lts.Need-alternative-requires (value-calls t) (value-at t) value.Post
 value-alternative-requires t c κs = search needs
@@ -1105,7 +1105,7 @@ value-plain-requires-2 t c κs =
     let names = c .before .before .before .before .before .before .before .before .before .before .before .before .before .before .before .before .args .names .now in
     let k = c .before .before .before .before .k in
     let entry = (c .before .before .before .before .before .before .before .before .before .before .before .before .before .before .before .before) in
-    let tokenAt′ = tokenAt (c .before .before .before .before .before .before .before .before .before .before .before .before .before .before .before .before .args .s .now) (c .before .before .before .before .before .before .before .before .before .before .before .before .before .before .before .before .args .p) in
+    let tokenAt′ = tokenAt (c .before .before .before .before .before .before .before .before .before .before .before .before .before .before .before .before .args .s .now) (c .before .before .before .before .before .before .before .before .before .before .before .before .before .before .before .before .args .place) in
     let token-at-said = c .before .before .before .before .before .before .before .before .before .before .token-at .ensures in
     (omega arith, (given-type (c .before .before .before .before .before .before .before .before .before .before .before .before .before .before .before .before .pre .1) (rw (c .before .before .type-at .ensures names) ((c .before .before .before .before .before .before .before .before .before .before .before .before .before .before .before .before .pre .1) .sane .member (c .before .before .before .before .before .before .before .before .before .before .before .before .before .before .before .before .args .row) (k .given .0 .0) ((c .before .before .before .before .before .before .before .before .before .before .before .before .before .before .before .before .pre .1) .typed) (alternative-found (table (c .before .before .before .before .before .before .before .before .before .before .before .before .before .before .before .before .args .types .now) names) (c .before .before .before .before .before .before .before .before .before .before .before .before .before .before .before .before .args .row) tokenAt′ (k .given .0 .0) (found-some _ (sym (k .given .1) ∙ c .before .before .before .before .before .before .alternative .ensures names tokenAt′ (c .before .before .before .before .before .before .before .before .before .before .token-at .ensures)))))), token-at-said))
 
@@ -1124,7 +1124,7 @@ value-returns-2 : (t : ℕ) → value-lts.Need-returns-2 (value-calls t) (value-
 value-returns-2 t c =
     let names = c .before .before .before .before .before .before .before .before .before .before .before .before .before .args .names .now in
     let tab = table (c .before .before .before .before .before .before .before .before .before .before .before .before .before .args .types .now) names in
-    unknown-reads OtherKind (c .before .before .before .before .before .before .before .before .before .before .before .before .before .args .p) (c .before .before .before .before .before .before .before .before .before .before .before .before .before .args .p) (extensible tab (c .before .before .before .before .before .before .before .before .before .before .before .before .before .args .row)) (c .unknown .ensures names) (value-none (c .before .before .before .before .before .before .before .before .before .before .before .before .before .args .d) tab (c .before .before .before .before .before .before .before .before .before .before .before .before .before .args .s .now) (c .before .before .before .before .before .before .before .before .before .before .before .before .before .args .row) (c .before .before .before .before .before .before .before .before .before .before .before .before .before .args .p) (sym (c .before .before .before .before .before .is-unwrapped .ensures _ _ (c .before .before .before .before .before .before .at .ensures names)) ∙ not-false _ (c .before .before .before .before .if1 .left)) (found-none _ (sym (c .before .enum-told .given .1) ∙ c .before .before .before .alternative .ensures names _ (c .before .before .before .before .before .before .before .token-at .ensures))))
+    unknown-reads OtherKind (c .before .before .before .before .before .before .before .before .before .before .before .before .before .args .place) (c .before .before .before .before .before .before .before .before .before .before .before .before .before .args .place) (extensible tab (c .before .before .before .before .before .before .before .before .before .before .before .before .before .args .row)) (c .unknown .ensures names) (value-none (c .before .before .before .before .before .before .before .before .before .before .before .before .before .args .depth) tab (c .before .before .before .before .before .before .before .before .before .before .before .before .before .args .s .now) (c .before .before .before .before .before .before .before .before .before .before .before .before .before .args .row) (c .before .before .before .before .before .before .before .before .before .before .before .before .before .args .place) (sym (c .before .before .before .before .before .is-unwrapped .ensures _ _ (c .before .before .before .before .before .before .at .ensures names)) ∙ not-false _ (c .before .before .before .before .if1 .left)) (found-none _ (sym (c .before .enum-told .given .1) ∙ c .before .before .before .alternative .ensures names _ (c .before .before .before .before .before .before .before .token-at .ensures))))
 
 value-same-length-3 : (t : ℕ) → value-lts.Need-same-length-3 (value-calls t) (value-at t) value.Post
 value-same-length-3 t c = search needs
@@ -1137,8 +1137,8 @@ value-returns-3 t c =
     let names = c .before .before .before .before .before .before .before .before .before .before .before .before .before .before .before .before .before .before .before .before .before .before .before .before .args .names .now in
     let tab = table (c .before .before .before .before .before .before .before .before .before .before .before .before .before .before .before .before .before .before .before .before .before .before .before .before .args .types .now) names in
     let s = c .before .before .before .before .before .before .before .before .before .before .before .before .before .before .before .before .before .before .before .before .before .before .before .before .args .s .now in
-    let tokenAt′ = tokenAt s (c .before .before .before .before .before .before .before .before .before .before .before .before .before .before .before .before .before .before .before .before .before .before .before .before .args .p) in
-    reads-no (value-refused (c .before .before .before .before .before .before .before .before .before .before .before .before .before .before .before .before .before .before .before .before .before .before .before .before .args .d) tab s (c .before .before .before .before .before .before .before .before .before .before .before .before .before .before .before .before .before .before .before .before .before .before .before .before .args .row) (c .before .before .before .before .before .before .before .before .before .before .before .before .before .before .before .before .before .before .before .before .before .before .before .before .args .p) (sym (c .before .before .before .before .before .before .before .before .before .before .before .before .before .before .before .before .is-unwrapped .ensures _ _ (c .before .before .before .before .before .before .before .before .before .before .before .before .before .before .before .before .before .at .ensures names)) ∙ not-false _ (c .before .before .before .before .before .before .before .before .before .before .before .before .before .before .before .if1 .left)) (found-some _ (sym (c .before .before .before .before .before .before .before .before .before .before .before .before .k .given .1) ∙ c .before .before .before .before .before .before .before .before .before .before .before .before .before .before .alternative .ensures names tokenAt′ (c .before .before .before .before .before .before .before .before .before .before .before .before .before .before .before .before .before .before .token-at .ensures))) (failed (at-row (λ r u. bind (plainAt (c .before .before .before .before .before .before .before .before .before .before .before .before .before .before .before .before .before .before .before .before .before .before .before .before .args .d) tab s tokenAt′ r u) (within tab r)) (c .before .before .before .before .before .before .before .before .before .before .before .before .before .before .before .before .before .before .before .before .before .before .before .before .args .p) (c .before .before .before .before .before .before .before .before .before .before .type-at .ensures names) (c .before .before .before .before .before .before .before .plain2 .ensures)) (c .before .e .given .1)))
+    let tokenAt′ = tokenAt s (c .before .before .before .before .before .before .before .before .before .before .before .before .before .before .before .before .before .before .before .before .before .before .before .before .args .place) in
+    reads-no (value-refused (c .before .before .before .before .before .before .before .before .before .before .before .before .before .before .before .before .before .before .before .before .before .before .before .before .args .depth) tab s (c .before .before .before .before .before .before .before .before .before .before .before .before .before .before .before .before .before .before .before .before .before .before .before .before .args .row) (c .before .before .before .before .before .before .before .before .before .before .before .before .before .before .before .before .before .before .before .before .before .before .before .before .args .place) (sym (c .before .before .before .before .before .before .before .before .before .before .before .before .before .before .before .before .is-unwrapped .ensures _ _ (c .before .before .before .before .before .before .before .before .before .before .before .before .before .before .before .before .before .at .ensures names)) ∙ not-false _ (c .before .before .before .before .before .before .before .before .before .before .before .before .before .before .before .if1 .left)) (found-some _ (sym (c .before .before .before .before .before .before .before .before .before .before .before .before .k .given .1) ∙ c .before .before .before .before .before .before .before .before .before .before .before .before .before .before .alternative .ensures names tokenAt′ (c .before .before .before .before .before .before .before .before .before .before .before .before .before .before .before .before .before .before .token-at .ensures))) (failed (at-row (λ r u. bind (plainAt (c .before .before .before .before .before .before .before .before .before .before .before .before .before .before .before .before .before .before .before .before .before .before .before .before .args .depth) tab s tokenAt′ r u) (within tab r)) (c .before .before .before .before .before .before .before .before .before .before .before .before .before .before .before .before .before .before .before .before .before .before .before .before .args .place) (c .before .before .before .before .before .before .before .before .before .before .type-at .ensures names) (c .before .before .before .before .before .before .before .plain2 .ensures)) (c .before .e .given .1)))
 
 value-same-length-5 : (t : ℕ) → value-lts.Need-same-length-5 (value-calls t) (value-at t) value.Post
 value-same-length-5 t c = search needs
@@ -1152,11 +1152,11 @@ value-returns-4 t c =
     let tab = table (c .before .before .before .before .before .before .before .before .before .before .before .before .before .before .before .before .before .before .before .before .before .before .before .before .before .before .before .before .args .types .now) names in
     let s = c .before .before .before .before .before .before .before .before .before .before .before .before .before .before .before .before .before .before .before .before .before .before .before .before .before .before .before .before .args .s .now in
     let next = c .before .before .before .before .before .next .given .1 in
-    let tokenAt′ = tokenAt s (c .before .before .before .before .before .before .before .before .before .before .before .before .before .before .before .before .before .before .before .before .before .before .before .before .before .before .before .before .args .p) in
+    let tokenAt′ = tokenAt s (c .before .before .before .before .before .before .before .before .before .before .before .before .before .before .before .before .before .before .before .before .before .before .before .before .before .before .before .before .args .place) in
     let entry = (c .before .before .before .before .before .before .before .before .before .before .before .before .before .before .before .before .before .before .before .before .before .before .before .before .before .before .before .before) in
     let back = sym (c .before .before .before .before .before .before .before .before .before .before .before .before .before .before .before .before .before .before .before .before .is-unwrapped .ensures _ _ (c .before .before .before .before .before .before .before .before .before .before .before .before .before .before .before .before .before .before .before .before .before .at .ensures names)) ∙ not-false _ (c .before .before .before .before .before .before .before .before .before .before .before .before .before .before .before .before .before .before .before .if1 .left) in
-    let there = at-row (λ r u. bind (plainAt (c .before .before .before .before .before .before .before .before .before .before .before .before .before .before .before .before .before .before .before .before .before .before .before .before .before .before .before .before .args .d) tab s tokenAt′ r u) (within tab r)) (c .before .before .before .before .before .before .before .before .before .before .before .before .before .before .before .before .before .before .before .before .before .before .before .before .before .before .before .before .args .p) (c .before .before .before .before .before .before .before .before .before .before .before .before .before .before .type-at .ensures names) (c .before .before .before .before .before .before .before .before .before .before .before .plain2 .ensures) in
-    along (value-picked (c .before .before .before .before .before .before .before .before .before .before .before .before .before .before .before .before .before .before .before .before .before .before .before .before .before .before .before .before .args .d) tab s (c .before .before .before .before .before .before .before .before .before .before .before .before .before .before .before .before .before .before .before .before .before .before .before .before .before .before .before .before .args .row) (c .before .before .before .before .before .before .before .before .before .before .before .before .before .before .before .before .before .before .before .before .before .before .before .before .before .before .before .before .args .p) back (found-some _ (sym (c .before .before .before .before .before .before .before .before .before .before .before .before .before .before .before .before .k .given .1) ∙ c .before .before .before .before .before .before .before .before .before .before .before .before .before .before .before .before .before .before .alternative .ensures names tokenAt′ (c .before .before .before .before .before .before .before .before .before .before .before .before .before .before .before .before .before .before .before .before .before .before .token-at .ensures))) (passed there next .took .is)) (closed (whole-choice (passed there next .took) (there .stepped) (unwrapped-kind tab (c .before .before .before .before .before .before .before .before .before .before .before .before .before .before .before .before .before .before .before .before .before .before .before .before .before .before .before .before .args .row) back)) (omega (arith, passed there next .near, passed there next .took .next)) (rw (passed there next .took .next) (c .before .before .close .ensures .0)) (c .before .before .close .ensures .1))
+    let there = at-row (λ r u. bind (plainAt (c .before .before .before .before .before .before .before .before .before .before .before .before .before .before .before .before .before .before .before .before .before .before .before .before .before .before .before .before .args .depth) tab s tokenAt′ r u) (within tab r)) (c .before .before .before .before .before .before .before .before .before .before .before .before .before .before .before .before .before .before .before .before .before .before .before .before .before .before .before .before .args .place) (c .before .before .before .before .before .before .before .before .before .before .before .before .before .before .type-at .ensures names) (c .before .before .before .before .before .before .before .before .before .before .before .plain2 .ensures) in
+    along (value-picked (c .before .before .before .before .before .before .before .before .before .before .before .before .before .before .before .before .before .before .before .before .before .before .before .before .before .before .before .before .args .depth) tab s (c .before .before .before .before .before .before .before .before .before .before .before .before .before .before .before .before .before .before .before .before .before .before .before .before .before .before .before .before .args .row) (c .before .before .before .before .before .before .before .before .before .before .before .before .before .before .before .before .before .before .before .before .before .before .before .before .before .before .before .before .args .place) back (found-some _ (sym (c .before .before .before .before .before .before .before .before .before .before .before .before .before .before .before .before .k .given .1) ∙ c .before .before .before .before .before .before .before .before .before .before .before .before .before .before .before .before .before .before .alternative .ensures names tokenAt′ (c .before .before .before .before .before .before .before .before .before .before .before .before .before .before .before .before .before .before .before .before .before .before .token-at .ensures))) (passed there next .took .is)) (closed (whole-choice (passed there next .took) (there .stepped) (unwrapped-kind tab (c .before .before .before .before .before .before .before .before .before .before .before .before .before .before .before .before .before .before .before .before .before .before .before .before .before .before .before .before .args .row) back)) (omega (arith, passed there next .near, passed there next .took .next)) (rw (passed there next .took .next) (c .before .before .close .ensures .0)) (c .before .before .close .ensures .1))
 
 pub +array+choice+each-member+list+object+plain+value-spec : {M : Type 1} → statement M
 +array+choice+each-member+list+object+plain+value-spec =

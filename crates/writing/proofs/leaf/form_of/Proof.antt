@@ -1,4 +1,4 @@
--- Made by tools/answers.py from answers/leaf/form_of.ans: edit that. c8218873d1c5874f
+-- Made by tools/answers.py from answers/leaf/form_of.ans: edit that. 6e8349dd31044324
 use Rattle.jer.specs.Table.{table}
 use Rattle.types.proofs.RowLaws.{kind-of}
 use Rattle.writing.proofs.LeafLaws.{form-text, form-base64, form-hex}
@@ -12,7 +12,7 @@ at-requires c κs = search needs
 returns : tie.Need-returns
 returns c =
     let a = c .before .before .before .before .args in
-    λ ns. form-text (table (a .types .now) ns) (a .r) (kind-of _ (a .r) (c .before .before .at .ensures ns)) (c .if1 .taken)
+    λ ns. form-text (table (a .types .now) ns) (a .row) (kind-of _ (a .row) (c .before .before .at .ensures ns)) (c .if1 .taken)
 
 is-base64-requires : tie.Need-is-base64-requires
 is-base64-requires c κs = search needs
@@ -20,12 +20,12 @@ is-base64-requires c κs = search needs
 returns-2 : tie.Need-returns-2
 returns-2 c =
     let a = c .before .before .before .before .before .before .args in
-    λ ns. form-base64 (table (a .types .now) ns) (a .r) (kind-of _ (a .r) (c .before .before .before .before .at .ensures ns)) (c .before .before .if1 .left) (c .before .is-base64 .ensures _ _ (c .before .before .before .before .at .ensures ns)) (c .if2 .taken)
+    λ ns. form-base64 (table (a .types .now) ns) (a .row) (kind-of _ (a .row) (c .before .before .before .before .at .ensures ns)) (c .before .before .if1 .left) (c .before .is-base64 .ensures _ _ (c .before .before .before .before .at .ensures ns)) (c .if2 .taken)
 
 returns-3 : tie.Need-returns-3
 returns-3 c =
     let a = c .before .before .before .before .before .before .args in
-    λ ns. form-hex (table (a .types .now) ns) (a .r) (kind-of _ (a .r) (c .before .before .before .before .at .ensures ns)) (c .before .before .if1 .left) (c .before .is-base64 .ensures _ _ (c .before .before .before .before .at .ensures ns)) (c .if2 .left)
+    λ ns. form-hex (table (a .types .now) ns) (a .row) (kind-of _ (a .row) (c .before .before .before .before .at .ensures ns)) (c .before .before .if1 .left) (c .before .is-base64 .ensures _ _ (c .before .before .before .before .at .ensures ns)) (c .if2 .left)
 
 pub form-of-spec : {M : Type 1} → statement M
 form-of-spec = tie.close (tie.spec at-requires returns is-base64-requires returns-2 returns-3)

@@ -1,4 +1,4 @@
--- Made by tools/answers.py from answers/leaf/leaf.ans: edit that. 03a319bacd24f962
+-- Made by tools/answers.py from answers/leaf/leaf.ans: edit that. c3203bae06b5209c
 use Rattle.jer.specs.Table.{table}
 use Rattle.writing.proofs.LeafLaws.{bool-ends, int-ends, enum-ends, null-ends}
 use borrow.Author.Needs.{needs}
@@ -60,7 +60,7 @@ returns : tie.Need-returns
 returns c =
     let a = c .before .before .before .before .before .before .before .before .before .before .before .before .before .args in
     let w = a .w in
-    λ i ws. bool-ends i (table (a .types .now) (a .names .now)) (a .pool .now) (a .r) (w .a) (w .b) (w .size) ws (a .q) (a .o) (c .before .before .before .before .before .before .before .before .before .before .before .before .before .pre .0) (c .before .before .before .before .before .before .before .before .match .keys1) (c .before .before .before .before .before .put-bool .ensures) (c .ended .ensures)
+    λ i ws. bool-ends i (table (a .types .now) (a .names .now)) (a .pool .now) (a .row) (w .a) (w .b) (w .size) ws (a .slot) (a .offset) (c .before .before .before .before .before .before .before .before .before .before .before .before .before .pre .0) (c .before .before .before .before .before .before .before .before .match .keys1) (c .before .before .before .before .before .put-bool .ensures) (c .ended .ensures)
 
 same-length-2 : tie.Need-same-length-2
 same-length-2 c = search needs
@@ -69,7 +69,7 @@ returns-2 : tie.Need-returns-2
 returns-2 c =
     let a = c .before .before .before .before .before .before .before .before .before .before .args in
     let w = a .w in
-    λ i ws. int-ends i (table (a .types .now) (a .names .now)) (a .pool .now) (a .r) (w .a) (w .b) (w .size) ws (a .q) (a .o) (c .before .before .before .before .before .before .before .before .before .before .pre .0) (c .before .before .before .before .before .match .keys2) (c .before .before .before .put-integer .ensures) (c .ended2 .ensures)
+    λ i ws. int-ends i (table (a .types .now) (a .names .now)) (a .pool .now) (a .row) (w .a) (w .b) (w .size) ws (a .slot) (a .offset) (c .before .before .before .before .before .before .before .before .before .before .pre .0) (c .before .before .before .before .before .match .keys2) (c .before .before .before .put-integer .ensures) (c .ended2 .ensures)
 
 same-length-3 : tie.Need-same-length-3
 same-length-3 c = search needs
@@ -78,7 +78,7 @@ returns-3 : tie.Need-returns-3
 returns-3 c =
     let a = c .before .before .before .before .before .before .before .before .before .before .before .before .before .before .before .args in
     let w = a .w in
-    λ i ws. enum-ends i (table (a .types .now) (a .names .now)) (a .pool .now) (a .r) (w .a) (w .b) (w .size) ws (a .q) (a .o) (c .before .before .before .before .before .before .before .before .before .before .before .before .before .before .before .pre .0) (c .before .before .before .before .before .before .before .before .before .before .match .keys3) (c .before .before .before .count-of .ensures (a .names .now)) (c .before .before .before .before .before .before .before .before .before .member-row .ensures (a .names .now)) (c .before .before .before .before .before .before .before .before .name-in .ensures) (c .before .before .before .before .before .before .put-string .ensures) (c .ended3 .ensures)
+    λ i ws. enum-ends i (table (a .types .now) (a .names .now)) (a .pool .now) (a .row) (w .a) (w .b) (w .size) ws (a .slot) (a .offset) (c .before .before .before .before .before .before .before .before .before .before .before .before .before .before .before .pre .0) (c .before .before .before .before .before .before .before .before .before .before .match .keys3) (c .before .before .before .count-of .ensures (a .names .now)) (c .before .before .before .before .before .before .before .before .before .member-row .ensures (a .names .now)) (c .before .before .before .before .before .before .before .before .name-in .ensures) (c .before .before .before .before .before .before .put-string .ensures) (c .ended3 .ensures)
 
 same-length-4 : tie.Need-same-length-4
 same-length-4 c = search needs
@@ -87,7 +87,7 @@ returns-4 : tie.Need-returns-4
 returns-4 c =
     let a = c .before .before .before .before .before .before .before .before .before .before .before .before .args in
     let w = a .w in
-    λ i ws. null-ends i (table (a .types .now) (a .names .now)) (a .pool .now) (a .r) (w .a) (w .b) (w .size) ws (a .q) (a .o) (c .before .before .before .before .before .before .before .before .before .before .before .before .pre .0) (c .before .before .before .before .before .before .before .match .keys4) (c .before .before .before .before .before .put-null .ensures) (c .ended4 .ensures)
+    λ i ws. null-ends i (table (a .types .now) (a .names .now)) (a .pool .now) (a .row) (w .a) (w .b) (w .size) ws (a .slot) (a .offset) (c .before .before .before .before .before .before .before .before .before .before .before .before .pre .0) (c .before .before .before .before .before .before .before .match .keys4) (c .before .before .before .before .before .put-null .ensures) (c .ended4 .ensures)
 
 same-length-5 : tie.Need-same-length-5
 same-length-5 c = search needs

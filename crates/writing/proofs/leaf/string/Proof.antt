@@ -1,4 +1,4 @@
--- Made by tools/answers.py from answers/leaf/string.ans: edit that. b84621b6ef051955
+-- Made by tools/answers.py from answers/leaf/string.ans: edit that. c33dcedcde786905
 use Rattle.jer.specs.Table.{table}
 use Rattle.writing.proofs.LeafLaws.{string-ends}
 use borrow.Author.Needs.{needs}
@@ -42,7 +42,7 @@ returns : tie.Need-returns
 returns c =
     let a = c .before .before .before .before .before .before .before .before .before .before .before .before .before .before .before .before .args in
     let w = a .w in
-    λ i ws. string-ends i (table (a .types .now) (a .names .now)) (a .pool .now) (a .r) (w .a) (w .b) (w .size) ws (a .q) (a .o) (c .before .before .before .before .before .before .before .before .before .before .before .before .before .before .before .before .pre .0) (c .before .before .before .before .before .before .before .before .before .before .before .before .before .before .before .before .pre .1) (c .before .before .before .before .before .before .before .before .before .before .before .before .before .before .before .before .pre .2) (c .before .before .before .before .before .before .before .before .before .before .before .wide .ensures .1) (c .before .before .before .before .before .before .before .before .before .before .wide2 .ensures .1)
+    λ i ws. string-ends i (table (a .types .now) (a .names .now)) (a .pool .now) (a .row) (w .a) (w .b) (w .size) ws (a .slot) (a .offset) (c .before .before .before .before .before .before .before .before .before .before .before .before .before .before .before .before .pre .0) (c .before .before .before .before .before .before .before .before .before .before .before .before .before .before .before .before .pre .1) (c .before .before .before .before .before .before .before .before .before .before .before .before .before .before .before .before .pre .2) (c .before .before .before .before .before .before .before .before .before .before .before .wide .ensures .1) (c .before .before .before .before .before .before .before .before .before .before .wide2 .ensures .1)
     (c .before .before .before .before .before .before .before .before .before .before .before .wide .ensures .0) (c .before .before .before .before .before .before .before .before .before .before .wide2 .ensures .0) (c .before .before .before .before .before .before .before .before .before .part .ensures) (c .before .before .before .before .before .before .before .form-of .ensures (a .names .now)) (c .before .before .utf8 .ensures) (c .before .add .ensures) (c .before .before .before .before .before .before .put-string .ensures) (c .ended .ensures)
 
 pub string-spec : {M : Type 1} → statement M

@@ -1,4 +1,4 @@
--- Made by tools/answers.py from answers/value/+choice+judged+list+plain+sequence+value.ans: edit that. a7a808d208207141
+-- Made by tools/answers.py from answers/value/+choice+judged+list+plain+sequence+value.ans: edit that. 4bcf2a297c433f75
 use Prim.Native.Nat.{ℕ, _<_, _+_, _-_, _*_}
 use mathlib.Core.Path.{_≡_, refl, sym, ap, _∙_}
 use native.Mathlib.Omega.{arith}
@@ -152,8 +152,8 @@ choice-value-requires t c κs = search needs
 choice-enum-known-b : (t : ℕ) → choice-lts.Need-enum-known-b (choice-calls t) (choice-at t) choice.Post
 choice-enum-known-b t c = search needs
 
-choice-enum-known-row : (t : ℕ) → choice-lts.Need-enum-known-row (choice-calls t) (choice-at t) choice.Post
-choice-enum-known-row t c = search needs
+choice-enum-known-next : (t : ℕ) → choice-lts.Need-enum-known-next (choice-calls t) (choice-at t) choice.Post
+choice-enum-known-next t c = search needs
 
 choice-put-byte-requires-2 : (t : ℕ) → choice-lts.Need-put-byte-requires-2 (choice-calls t) (choice-at t) choice.Post
 choice-put-byte-requires-2 t c κs = search needs
@@ -168,7 +168,7 @@ choice-returns : (t : ℕ) → choice-lts.Need-returns (choice-calls t) (choice-
 choice-returns t c =
     let a = c .before .before .before .before .before .before .before .before .before .before .before .before .before .before .before .before .before .before .before .before .before .before .before .args in
     let rows = rowsIn (a .values .now) in
-    gives-wrong (choice-wrong _ _ _ rows _ (a .q) _ (valueRow (a .w)) (value-wrong rows (c .before .before .before .before .before .before .before .type-at .ensures (a .names .now)) (a .q + 1) (c .before .before .before .before .before .value .ensures) (c .before .b .given .1)))
+    gives-wrong (choice-wrong _ _ _ rows _ (a .slot) _ (valueRow (a .w)) (value-wrong rows (c .before .before .before .before .before .before .before .type-at .ensures (a .names .now)) (a .slot + 1) (c .before .before .before .before .before .value .ensures) (c .before .b .given .1)))
 
 choice-same-length-2 : (t : ℕ) → choice-lts.Need-same-length-2 (choice-calls t) (choice-at t) choice.Post
 choice-same-length-2 t c = omega (arith, c .before .before .before .put-byte2 .kept .0, c .before .before .before .before .before .before .before .before .before .before .value .kept .1 .1 .1 .1 .0, c .before .before .before .before .before .before .before .before .before .before .before .before .before .before .before .put-name .kept .0, c .before .before .before .before .before .before .before .before .before .before .before .before .before .before .before .before .before .before .before .before .before .put-byte .kept .0)
@@ -177,8 +177,8 @@ choice-returns-2 : (t : ℕ) → choice-lts.Need-returns-2 (choice-calls t) (cho
 choice-returns-2 t c =
     let a = c .before .before .before .before .before .before .before .before .before .before .before .before .before .before .before .before .before .before .before .before .before .before .before .before .before .before .before .before .args in
     let rows = rowsIn (a .values .now) in
-    let v = value-got rows (c .before .before .before .before .before .before .before .before .before .before .before .before .type-at .ensures (a .names .now)) (a .q + 1) (c .before .before .before .before .before .before .before .before .before .before .value .ensures) (c .before .before .before .before .before .before .row .given .1) in
-    writes-is (c .ended .ensures) (choice-ends _ _ _ rows _ (a .q) _ (valueRow (a .w)) (c .before .before .before .before .before .before .before .before .before .before .before .before .before .before .before .before .before .before .before .before .before .before .before .before .before .before .before .before .pre .1 .2) (c .before .before .before .before .before .before .before .before .before .before .before .before .before .before .before .before .before .before .before .before .before .put-byte .ensures) (c .before .before .before .before .before .before .before .before .before .before .before .before .before .before .before .before .before .member-row .ensures (a .names .now)) (c .before .before .before .before .before .before .before .before .before .before .before .before .before .before .before .before .name-in .ensures) (c .before .before .before .before .before .before .before .before .before .before .before .before .before .before .before .put-name .ensures) v (c .before .before .before .put-byte2 .ensures))
+    let v = value-got rows (c .before .before .before .before .before .before .before .before .before .before .before .before .type-at .ensures (a .names .now)) (a .slot + 1) (c .before .before .before .before .before .before .before .before .before .before .value .ensures) (c .before .before .before .before .before .before .next .given .1) in
+    writes-is (c .ended .ensures) (choice-ends _ _ _ rows _ (a .slot) _ (valueRow (a .w)) (c .before .before .before .before .before .before .before .before .before .before .before .before .before .before .before .before .before .before .before .before .before .before .before .before .before .before .before .before .pre .1 .2) (c .before .before .before .before .before .before .before .before .before .before .before .before .before .before .before .before .before .before .before .before .before .put-byte .ensures) (c .before .before .before .before .before .before .before .before .before .before .before .before .before .before .before .before .before .member-row .ensures (a .names .now)) (c .before .before .before .before .before .before .before .before .before .before .before .before .before .before .before .before .name-in .ensures) (c .before .before .before .before .before .before .before .before .before .before .before .before .before .before .before .put-name .ensures) v (c .before .before .before .put-byte2 .ensures))
 
 judged-slice-aggregate-value : (t : ℕ) → judged-lts.Need-slice-aggregate-value (judged-calls t) (judged-at t) judged.Post
 judged-slice-aggregate-value t c = search needs
@@ -190,10 +190,10 @@ judged-returns : (t : ℕ) → judged-lts.Need-returns (judged-calls t) (judged-
 judged-returns t c = writes-none (c .before .value .ensures)
 
 abbrev list-Inv-loop : list-lts.InvT-loop
-list-Inv-loop types names values pool text₀ w r q o k depth e i₀ next₀ used₀ p₀ text i next used p = (e ≡ elementOf (table types names) r) × (length text ≡ length text₀) × Items depth (table types names) pool (rowsIn values) (valueRow w) r q o p₀ text₀ text i next used p
+list-Inv-loop types names values pool text₀ w row slot offset place depth e i₀ next₀ used₀ p₀ text i next used p = (e ≡ elementOf (table types names) row) × (length text ≡ length text₀) × Items depth (table types names) pool (rowsIn values) (valueRow w) row slot offset p₀ text₀ text i next used p
 
 abbrev list-μ-loop : list-lts.MeasureT-loop
-list-μ-loop types names values pool text₀ w r q o k depth e i₀ next₀ used₀ p₀ text i next used p = w .a - i
+list-μ-loop types names values pool text₀ w row slot offset place depth e i₀ next₀ used₀ p₀ text i next used p = w .a - i
 
 list-element-of-requires : (t : ℕ) → list-lts.Need-element-of-requires (list-calls t) (list-at t) list.Post list-Inv-loop list-μ-loop
 list-element-of-requires t c κs = search needs
@@ -227,8 +227,8 @@ list-returns t c =
     let inv = c .before .before .before .before .before .before .before .before .before .before .before .before .before .loop .inv in
     gives-wrong (items-wrong (inv .2) (c .before .before .before .before .before .before .before .before .before .before .before .if1 .taken) (value-wrong (rowsIn (a .values .now)) (inv .0) (c .before .before .before .before .before .before .before .before .before .before .before .before .before .loop .next) (c .before .before .before .before .before .value .ensures) (c .before .b .given .1)))
 
-list-enum-known-row : (t : ℕ) → list-lts.Need-enum-known-row (list-calls t) (list-at t) list.Post list-Inv-loop list-μ-loop
-list-enum-known-row t c = search needs
+list-enum-known-n : (t : ℕ) → list-lts.Need-enum-known-n (list-calls t) (list-at t) list.Post list-Inv-loop list-μ-loop
+list-enum-known-n t c = search needs
 
 list-add-i : (t : ℕ) → list-lts.Need-add-i (list-calls t) (list-at t) list.Post list-Inv-loop list-μ-loop
 list-add-i t c = omega (arith, c .before .before .before .before .before .before .before .before .before .before .before .if1 .taken)
@@ -240,7 +240,7 @@ list-loop-again : (t : ℕ) → list-lts.Need-loop-again (list-calls t) (list-at
 list-loop-again t c =
     let a = c .before .before .before .before .before .before .before .before .before .before .before .before .before .before .before .before .before .before .before .before .before .before .before .before .args in
     let inv = c .before .before .before .before .before .before .before .before .before .before .before .before .before .loop .inv in
-    let v = value-got (rowsIn (a .values .now)) (inv .0) (c .before .before .before .before .before .before .before .before .before .before .before .before .before .loop .next) (c .before .before .before .before .before .value .ensures) (c .before .row .given .1) in
+    let v = value-got (rowsIn (a .values .now)) (inv .0) (c .before .before .before .before .before .before .before .before .before .before .before .before .before .loop .next) (c .before .before .before .before .before .value .ensures) (c .before .n .given .1) in
     (inv .0, search needs, items-next (inv .2) (c .before .before .before .before .before .before .before .before .before .before .before .if1 .taken) (c .before .before .before .before .before .before .before .before .before .put-comma .ensures) v)
 
 list-put-byte-requires-2 : (t : ℕ) → list-lts.Need-put-byte-requires-2 (list-calls t) (list-at t) list.Post list-Inv-loop list-μ-loop
@@ -269,7 +269,7 @@ plain-enum-told t c = search needs
 plain-returns : (t : ℕ) → plain-lts.Need-returns (plain-calls t) (plain-at t) plain.Post
 plain-returns t c =
     let a = c .before .before .before .before .before .before .before .before .args in
-    gives-wrong (text-none _ _ _ _ (a .q) _ (rw (c .enum-told .given .1) at (c .before .before .row-at .ensures)))
+    gives-wrong (text-none _ _ _ _ (a .slot) _ (rw (c .enum-told .given .1) at (c .before .before .row-at .ensures)))
 
 plain-kind-of-requires : (t : ℕ) → plain-lts.Need-kind-of-requires (plain-calls t) (plain-at t) plain.Post
 plain-kind-of-requires t c κs = search needs
@@ -281,7 +281,7 @@ plain-returns-2 t c =
     let w = c .before .before .before .w .given .0 .0 in
     let found = rw (c .before .before .before .w .given .1) at (c .before .before .before .before .before .row-at .ensures) in
     let kind = (c .before .kind-of .ensures (a .names .now)) in
-    gives-wrong (plain-other (a .depth) t (a .pool .now) (a .r) (w .kind) (w .a) (w .b) (w .size) (a .q) (a .o) (c .before .before .before .before .before .before .before .before .before .before .before .pre .1 .1) (found .0) (λ e. c .if1 .taken (e ∙ sym kind)))
+    gives-wrong (plain-other (a .depth) t (a .pool .now) (a .row) (w .kind) (w .a) (w .b) (w .size) (a .slot) (a .offset) (c .before .before .before .before .before .before .before .before .before .before .before .pre .1 .1) (found .0) (λ e. c .if1 .taken (e ∙ sym kind)))
 
 plain-leaf-requires : (t : ℕ) → plain-lts.Need-leaf-requires (plain-calls t) (plain-at t) plain.Post
 plain-leaf-requires t c κs =
@@ -301,7 +301,7 @@ plain-returns-3 t c =
     let t = table (a .types .now) (a .names .now) in
     let w = c .before .before .before .before .before .before .before .before .w .given .0 .0 in
     let found = rw (c .before .before .before .before .before .before .before .before .w .given .1) at (c .before .before .before .before .before .before .before .before .before .before .row-at .ensures) in
-    writes-as (row-text (a .depth) t (a .pool .now) (a .r) (w .kind) (w .a) (w .b) (w .size) (a .q) (a .o) (c .before .before .before .before .before .before .before .before .before .before .before .before .before .before .before .before .pre .1 .1) (found .0)) (c .before .before .leaf .ensures _ _)
+    writes-as (row-text (a .depth) t (a .pool .now) (a .row) (w .kind) (w .a) (w .b) (w .size) (a .slot) (a .offset) (c .before .before .before .before .before .before .before .before .before .before .before .before .before .before .before .before .pre .1 .1) (found .0)) (c .before .before .leaf .ensures _ _)
 
 plain-returns-4 : (t : ℕ) → plain-lts.Need-returns-4 (plain-calls t) (plain-at t) plain.Post
 plain-returns-4 t c =
@@ -309,7 +309,7 @@ plain-returns-4 t c =
     let t = table (a .types .now) (a .names .now) in
     let w = c .before .before .before .before .before .w .given .0 .0 in
     let found = rw (c .before .before .before .before .before .w .given .1) at (c .before .before .before .before .before .before .before .row-at .ensures) in
-    gives-wrong (plain-deep (a .depth) t (a .pool .now) (a .r) (w .kind) (w .a) (w .b) (w .size) (a .q) (a .o) (c .before .before .before .before .before .before .before .before .before .before .before .before .before .pre .1 .1) (found .0) (c .before .if2 .left) (c .if3 .taken))
+    gives-wrong (plain-deep (a .depth) t (a .pool .now) (a .row) (w .kind) (w .a) (w .b) (w .size) (a .slot) (a .offset) (c .before .before .before .before .before .before .before .before .before .before .before .before .before .pre .1 .1) (found .0) (c .before .if2 .left) (c .if3 .taken))
 
 plain-returns-5 : (t : ℕ) → plain-lts.Need-returns-5 (plain-calls t) (plain-at t) plain.Post
 plain-returns-5 t c =
@@ -317,7 +317,7 @@ plain-returns-5 t c =
     let t = table (a .types .now) (a .names .now) in
     let w = c .before .before .before .before .before .before .before .w .given .0 .0 in
     let found = rw (c .before .before .before .before .before .before .before .w .given .1) at (c .before .before .before .before .before .before .before .before .before .row-at .ensures) in
-    gives-wrong (plain-b (a .depth) t (a .pool .now) (a .r) (w .kind) (w .a) (w .b) (w .size) (a .q) (a .o) (c .before .before .before .before .before .before .before .before .before .before .before .before .before .before .before .pre .1 .1) (found .0) (c .before .before .before .if2 .left) (c .if4 .taken))
+    gives-wrong (plain-b (a .depth) t (a .pool .now) (a .row) (w .kind) (w .a) (w .b) (w .size) (a .slot) (a .offset) (c .before .before .before .before .before .before .before .before .before .before .before .before .before .before .before .pre .1 .1) (found .0) (c .before .before .before .if2 .left) (c .if4 .taken))
 
 plain-sub-sequence : (t : ℕ) → plain-lts.Need-sub-sequence (plain-calls t) (plain-at t) plain.Post
 plain-sub-sequence t c = search needs
@@ -340,7 +340,7 @@ plain-returns-6 t c =
     let w = c .before .before .before .before .before .before .before .before .before .before .before .before .w .given .0 .0 in
     let found = rw (c .before .before .before .before .before .before .before .before .before .before .before .before .w .given .1) at (c .before .before .before .before .before .before .before .before .before .before .before .before .before .before .row-at .ensures) in
     let kind = (c .before .before .before .before .before .before .before .before .before .before .kind-of .ensures (a .names .now)) in
-    writes-as (plain-seq (a .depth) t (a .pool .now) (a .r) (w .kind) (w .a) (w .b) (w .size) (a .q) (a .o) (c .before .before .before .before .before .before .before .before .before .before .before .before .before .before .before .before .before .before .before .before .pre .1 .1) (found .0) (c .before .before .before .before .before .before .before .if3 .left) (c .before .before .before .before .before .before .before .before .before .if1 .left ∙ kind) (c .before .before .before .before .before .if4 .left) (c .before .before .before .before .if5 .taken)) (c .before .before .sequence .ensures)
+    writes-as (plain-seq (a .depth) t (a .pool .now) (a .row) (w .kind) (w .a) (w .b) (w .size) (a .slot) (a .offset) (c .before .before .before .before .before .before .before .before .before .before .before .before .before .before .before .before .before .before .before .before .pre .1 .1) (found .0) (c .before .before .before .before .before .before .before .if3 .left) (c .before .before .before .before .before .before .before .before .before .if1 .left ∙ kind) (c .before .before .before .before .before .if4 .left) (c .before .before .before .before .if5 .taken)) (c .before .before .sequence .ensures)
 
 plain-sub-list : (t : ℕ) → plain-lts.Need-sub-list (plain-calls t) (plain-at t) plain.Post
 plain-sub-list t c = search needs
@@ -363,7 +363,7 @@ plain-returns-7 t c =
     let w = c .before .before .before .before .before .before .before .before .before .before .before .before .before .w .given .0 .0 in
     let found = rw (c .before .before .before .before .before .before .before .before .before .before .before .before .before .w .given .1) at (c .before .before .before .before .before .before .before .before .before .before .before .before .before .before .before .row-at .ensures) in
     let kind = (c .before .before .before .before .before .before .before .before .before .before .before .kind-of .ensures (a .names .now)) in
-    writes-as (plain-list (a .depth) t (a .pool .now) (a .r) (w .kind) (w .a) (w .b) (w .size) (a .q) (a .o) (c .before .before .before .before .before .before .before .before .before .before .before .before .before .before .before .before .before .before .before .before .before .pre .1 .1) (found .0) (c .before .before .before .before .before .before .before .before .if3 .left) (c .before .before .before .before .before .before .before .before .before .before .if1 .left ∙ kind) (c .before .before .before .before .before .before .if4 .left) (c .before .before .before .before .if6 .taken)) (c .before .before .list .ensures)
+    writes-as (plain-list (a .depth) t (a .pool .now) (a .row) (w .kind) (w .a) (w .b) (w .size) (a .slot) (a .offset) (c .before .before .before .before .before .before .before .before .before .before .before .before .before .before .before .before .before .before .before .before .before .pre .1 .1) (found .0) (c .before .before .before .before .before .before .before .before .if3 .left) (c .before .before .before .before .before .before .before .before .before .before .if1 .left ∙ kind) (c .before .before .before .before .before .before .if4 .left) (c .before .before .before .before .if6 .taken)) (c .before .before .list .ensures)
 
 plain-returns-8 : (t : ℕ) → plain-lts.Need-returns-8 (plain-calls t) (plain-at t) plain.Post
 plain-returns-8 t c =
@@ -371,7 +371,7 @@ plain-returns-8 t c =
     let t = table (a .types .now) (a .names .now) in
     let w = c .before .before .before .before .before .before .before .before .before .before .w .given .0 .0 in
     let found = rw (c .before .before .before .before .before .before .before .before .before .before .w .given .1) at (c .before .before .before .before .before .before .before .before .before .before .before .before .row-at .ensures) in
-    gives-wrong (plain-kind (a .depth) t (a .pool .now) (a .r) (w .kind) (w .a) (w .b) (w .size) (a .q) (a .o) (c .before .before .before .before .before .before .before .before .before .before .before .before .before .before .before .before .before .before .pre .1 .1) (found .0) (c .before .before .before .before .before .before .if2 .left) (c .before .before .if5 .left) (c .before .if6 .left) (c .if7 .taken))
+    gives-wrong (plain-kind (a .depth) t (a .pool .now) (a .row) (w .kind) (w .a) (w .b) (w .size) (a .slot) (a .offset) (c .before .before .before .before .before .before .before .before .before .before .before .before .before .before .before .before .before .before .pre .1 .1) (found .0) (c .before .before .before .before .before .before .if2 .left) (c .before .before .if5 .left) (c .before .if6 .left) (c .if7 .taken))
 
 plain-count-of-requires : (t : ℕ) → plain-lts.Need-count-of-requires (plain-calls t) (plain-at t) plain.Post
 plain-count-of-requires t c κs = search needs
@@ -382,7 +382,7 @@ plain-returns-9 t c =
     let t = table (a .types .now) (a .names .now) in
     let w = c .before .before .before .before .before .before .before .before .before .before .before .before .before .w .given .0 .0 in
     let found = rw (c .before .before .before .before .before .before .before .before .before .before .before .before .before .w .given .1) at (c .before .before .before .before .before .before .before .before .before .before .before .before .before .before .before .row-at .ensures) in
-    gives-wrong (plain-position (a .depth) t (a .pool .now) (a .r) (w .kind) (w .a) (w .b) (w .size) (a .q) (a .o) (c .before .before .before .before .before .before .before .before .before .before .before .before .before .before .before .before .before .before .before .before .before .pre .1 .1) (found .0) (c .before .before .before .before .before .before .before .before .before .if2 .left) (c .before .before .before .before .before .if5 .left) (c .before .before .before .before .if6 .left) (omega (arith, c .before .before .count-of .ensures (a .names .now), c .if8 .taken)))
+    gives-wrong (plain-position (a .depth) t (a .pool .now) (a .row) (w .kind) (w .a) (w .b) (w .size) (a .slot) (a .offset) (c .before .before .before .before .before .before .before .before .before .before .before .before .before .before .before .before .before .before .before .before .before .pre .1 .1) (found .0) (c .before .before .before .before .before .before .before .before .before .if2 .left) (c .before .before .before .before .before .if5 .left) (c .before .before .before .before .if6 .left) (omega (arith, c .before .before .count-of .ensures (a .names .now), c .if8 .taken)))
 
 plain-sub-choice : (t : ℕ) → plain-lts.Need-sub-choice (plain-calls t) (plain-at t) plain.Post
 plain-sub-choice t c = search needs
@@ -405,13 +405,13 @@ plain-returns-10 t c =
     let w = c .before .before .before .before .before .before .before .before .before .before .before .before .before .before .before .before .before .w .given .0 .0 in
     let found = rw (c .before .before .before .before .before .before .before .before .before .before .before .before .before .before .before .before .before .w .given .1) at (c .before .before .before .before .before .before .before .before .before .before .before .before .before .before .before .before .before .before .before .row-at .ensures) in
     let kind = (c .before .before .before .before .before .before .before .before .before .before .before .before .before .before .before .kind-of .ensures (a .names .now)) in
-    writes-as (plain-choice (a .depth) t (a .pool .now) (a .r) (w .kind) (w .a) (w .b) (w .size) (a .q) (a .o) (c .before .before .before .before .before .before .before .before .before .before .before .before .before .before .before .before .before .before .before .before .before .before .before .before .before .pre .1 .1) (found .0) (c .before .before .before .before .before .before .before .before .before .before .before .before .if3 .left) (c .before .before .before .before .before .before .before .before .before .before .before .before .before .before .if1 .left ∙ kind) (c .before .before .before .before .before .before .before .before .before .before .if4 .left) (c .before .before .before .before .before .before .before .if7 .left) (omega (arith, c .before .before .before .before .before .before .count-of .ensures (a .names .now), c .before .before .before .before .if8 .left))) (c .before .before .choice .ensures)
+    writes-as (plain-choice (a .depth) t (a .pool .now) (a .row) (w .kind) (w .a) (w .b) (w .size) (a .slot) (a .offset) (c .before .before .before .before .before .before .before .before .before .before .before .before .before .before .before .before .before .before .before .before .before .before .before .before .before .pre .1 .1) (found .0) (c .before .before .before .before .before .before .before .before .before .before .before .before .if3 .left) (c .before .before .before .before .before .before .before .before .before .before .before .before .before .before .if1 .left ∙ kind) (c .before .before .before .before .before .before .before .before .before .before .if4 .left) (c .before .before .before .before .before .before .before .if7 .left) (omega (arith, c .before .before .before .before .before .before .count-of .ensures (a .names .now), c .before .before .before .before .if8 .left))) (c .before .before .choice .ensures)
 
 abbrev sequence-Inv-loop : sequence-lts.InvT-loop
-sequence-Inv-loop types names values pool text₀ w r q o k depth array count i₀ present₀ kept₀ next₀ used₀ p₀ text i present kept next used p = (count ≡ countOf (table types names) r) × (count < 4294967296) × (length text ≡ length text₀) × Members depth (table types names) pool (rowsIn values) (valueRow w) r q o p₀ array text₀ text i present kept next used p
+sequence-Inv-loop types names values pool text₀ w row slot offset place depth array count i₀ present₀ kept₀ next₀ used₀ p₀ text i present kept next used p = (count ≡ countOf (table types names) row) × (count < 4294967296) × (length text ≡ length text₀) × Members depth (table types names) pool (rowsIn values) (valueRow w) row slot offset p₀ array text₀ text i present kept next used p
 
 abbrev sequence-μ-loop : sequence-lts.MeasureT-loop
-sequence-μ-loop types names values pool text₀ w r q o k depth array count i₀ present₀ kept₀ next₀ used₀ p₀ text i present kept next used p = count - i
+sequence-μ-loop types names values pool text₀ w row slot offset place depth array count i₀ present₀ kept₀ next₀ used₀ p₀ text i present kept next used p = count - i
 
 sequence-at-requires : (t : ℕ) → sequence-lts.Need-at-requires (sequence-calls t) (sequence-at t) sequence.Post sequence-Inv-loop sequence-μ-loop
 sequence-at-requires t c κs = search needs
@@ -432,7 +432,7 @@ sequence-loop-holds : (t : ℕ) → sequence-lts.Need-loop-holds (sequence-calls
 sequence-loop-holds t c =
     let a = c .before .before .before .before .before .before .before .before .before .before .before .before .args in
     let t = table (a .types .now) (a .names .now) in
-    (c .before .before .before .before .count-of .ensures (a .names .now), omega arith, refl, members-start (sym (c .before .before .before .before .before .is-array .ensures t (a .r) (c .before .before .before .before .before .before .at .ensures (a .names .now)))) (omega arith))
+    (c .before .before .before .before .count-of .ensures (a .names .now), omega arith, refl, members-start (sym (c .before .before .before .before .before .is-array .ensures t (a .row) (c .before .before .before .before .before .before .at .ensures (a .names .now)))) (omega arith))
 
 sequence-type-at-requires : (t : ℕ) → sequence-lts.Need-type-at-requires (sequence-calls t) (sequence-at t) sequence.Post sequence-Inv-loop sequence-μ-loop
 sequence-type-at-requires t c κs = search needs
@@ -573,7 +573,7 @@ value-plain-requires t c κs =
     let a = c .before .before .before .before .before .before .before .before .before .args in
     let t = table (a .types .now) (a .names .now) in
     let rows = rowsIn (a .values .now) in
-    (omega arith, (c .before .before .before .before .before .before .before .before .before .pre .1, sym (c .before .before .is-unwrapped .ensures t (a .r) (c .before .before .before .at .ensures (a .names .now))) ∙ not-true _ (c .before .if1 .taken)))
+    (omega arith, (c .before .before .before .before .before .before .before .before .before .pre .1, sym (c .before .before .is-unwrapped .ensures t (a .row) (c .before .before .before .at .ensures (a .names .now))) ∙ not-true _ (c .before .if1 .taken)))
 
 value-same-length : (t : ℕ) → value-lts.Need-same-length (value-calls t) (value-at t) value.Post
 value-same-length t c = search needs
@@ -593,7 +593,7 @@ value-enum-told t c = search needs
 value-returns-2 : (t : ℕ) → value-lts.Need-returns-2 (value-calls t) (value-at t) value.Post
 value-returns-2 t c =
     let a = c .before .before .before .before .before .before .before .before .before .before .before .args in
-    gives-wrong (text-none _ _ _ _ (a .q) _ (rw (c .enum-told .given .1) at (c .before .before .row-at .ensures)))
+    gives-wrong (text-none _ _ _ _ (a .slot) _ (rw (c .enum-told .given .1) at (c .before .before .row-at .ensures)))
 
 value-count-of-requires : (t : ℕ) → value-lts.Need-count-of-requires (value-calls t) (value-at t) value.Post
 value-count-of-requires t c κs = search needs
@@ -603,11 +603,11 @@ value-returns-3 t c =
     let a = c .before .before .before .before .before .before .before .before .before .before .before .before .before .before .before .before .before .args in
     let t = table (a .types .now) (a .names .now) in
     let rows = rowsIn (a .values .now) in
-    let unwrapped = sym (c .before .before .before .before .before .before .before .before .before .before .is-unwrapped .ensures t (a .r) (c .before .before .before .before .before .before .before .before .before .before .before .at .ensures (a .names .now))) ∙ not-false _ (c .before .before .before .before .before .before .before .before .before .if1 .left) in
+    let unwrapped = sym (c .before .before .before .before .before .before .before .before .before .before .is-unwrapped .ensures t (a .row) (c .before .before .before .before .before .before .before .before .before .before .before .at .ensures (a .names .now))) ∙ not-false _ (c .before .before .before .before .before .before .before .before .before .if1 .left) in
     let w = c .before .before .before .before .before .before .w .given .0 .0 in
     let found = rw (c .before .before .before .before .before .before .w .given .1) at (c .before .before .before .before .before .before .before .before .row-at .ensures) in
     let right = right-is (w .kind) (w .a) (w .b) (c .before .before .before .count-of .ensures (a .names .now)) (not-true _ (c .if2 .taken)) in
-    gives-wrong (unwrapped-bad (a .depth) t (a .pool .now) rows (a .r) (a .q) (a .o) (valueRow w) unwrapped (found .0) right)
+    gives-wrong (unwrapped-bad (a .depth) t (a .pool .now) rows (a .row) (a .slot) (a .offset) (valueRow w) unwrapped (found .0) right)
 
 value-type-at-requires : (t : ℕ) → value-lts.Need-type-at-requires (value-calls t) (value-at t) value.Post
 value-type-at-requires t c κs = search needs
@@ -623,17 +623,17 @@ value-plain-requires-2 t c κs =
     let a = c .before .before .before .before .before .before .before .before .before .before .before .before .before .before .before .before .before .before .before .args in
     let t = table (a .types .now) (a .names .now) in
     let rows = rowsIn (a .values .now) in
-    let unwrapped = sym (c .before .before .before .before .before .before .before .before .before .before .before .before .is-unwrapped .ensures t (a .r) (c .before .before .before .before .before .before .before .before .before .before .before .before .before .at .ensures (a .names .now))) ∙ not-false _ (c .before .before .before .before .before .before .before .before .before .before .before .if1 .left) in
+    let unwrapped = sym (c .before .before .before .before .before .before .before .before .before .before .before .before .is-unwrapped .ensures t (a .row) (c .before .before .before .before .before .before .before .before .before .before .before .before .before .at .ensures (a .names .now))) ∙ not-false _ (c .before .before .before .before .before .before .before .before .before .before .before .if1 .left) in
     let w = c .before .before .before .before .before .before .before .before .w .given .0 .0 in
     let found = rw (c .before .before .before .before .before .before .before .before .w .given .1) at (c .before .before .before .before .before .before .before .before .before .before .row-at .ensures) in
     let right = right-is (w .kind) (w .a) (w .b) (c .before .before .before .before .before .count-of .ensures (a .names .now)) (not-false _ (c .before .before .if2 .left)) in
-    (omega (arith, c .before .before .before .before .before .before .before .before .before .before .before .before .before .before .before .before .before .before .before .pre .0), (c .before .before .before .before .before .before .before .before .before .before .before .before .before .before .before .before .before .before .before .pre .1, ap (isUnwrapped t) (c .before .type-at .ensures (a .names .now)) ∙ chosen-plain (a .depth) t (a .pool .now) rows (a .r) (a .q) (a .o) (valueRow w) unwrapped (found .0) (c .before .before .before .before .before .before .before .before .before .before .before .before .before .before .before .before .before .before .before .pre .1) right))
+    (omega (arith, c .before .before .before .before .before .before .before .before .before .before .before .before .before .before .before .before .before .before .before .pre .0), (c .before .before .before .before .before .before .before .before .before .before .before .before .before .before .before .before .before .before .before .pre .1, ap (isUnwrapped t) (c .before .type-at .ensures (a .names .now)) ∙ chosen-plain (a .depth) t (a .pool .now) rows (a .row) (a .slot) (a .offset) (valueRow w) unwrapped (found .0) (c .before .before .before .before .before .before .before .before .before .before .before .before .before .before .before .before .before .before .before .pre .1) right))
 
 value-enum-known-b : (t : ℕ) → value-lts.Need-enum-known-b (value-calls t) (value-at t) value.Post
 value-enum-known-b t c = search needs
 
-value-enum-known-row : (t : ℕ) → value-lts.Need-enum-known-row (value-calls t) (value-at t) value.Post
-value-enum-known-row t c = search needs
+value-enum-known-next : (t : ℕ) → value-lts.Need-enum-known-next (value-calls t) (value-at t) value.Post
+value-enum-known-next t c = search needs
 
 value-ended-requires : (t : ℕ) → value-lts.Need-ended-requires (value-calls t) (value-at t) value.Post
 value-ended-requires t c κs = search needs
@@ -646,11 +646,11 @@ value-returns-4 t c =
     let a = c .before .before .before .before .before .before .before .before .before .before .before .before .before .before .before .before .before .before .before .before .before .before .before .before .before .args in
     let t = table (a .types .now) (a .names .now) in
     let rows = rowsIn (a .values .now) in
-    let unwrapped = sym (c .before .before .before .before .before .before .before .before .before .before .before .before .before .before .before .before .before .before .is-unwrapped .ensures t (a .r) (c .before .before .before .before .before .before .before .before .before .before .before .before .before .before .before .before .before .before .before .at .ensures (a .names .now))) ∙ not-false _ (c .before .before .before .before .before .before .before .before .before .before .before .before .before .before .before .before .before .if1 .left) in
+    let unwrapped = sym (c .before .before .before .before .before .before .before .before .before .before .before .before .before .before .before .before .before .before .is-unwrapped .ensures t (a .row) (c .before .before .before .before .before .before .before .before .before .before .before .before .before .before .before .before .before .before .before .at .ensures (a .names .now))) ∙ not-false _ (c .before .before .before .before .before .before .before .before .before .before .before .before .before .before .before .before .before .if1 .left) in
     let w = c .before .before .before .before .before .before .before .before .before .before .before .before .before .before .w .given .0 .0 in
     let found = rw (c .before .before .before .before .before .before .before .before .before .before .before .before .before .before .w .given .1) at (c .before .before .before .before .before .before .before .before .before .before .before .before .before .before .before .before .row-at .ensures) in
     let right = right-is (w .kind) (w .a) (w .b) (c .before .before .before .before .before .before .before .before .before .before .before .count-of .ensures (a .names .now)) (not-false _ (c .before .before .before .before .before .before .before .before .if2 .left)) in
-    gives-wrong (unwrapped-wrong (a .depth) t (a .pool .now) rows (a .r) (a .q) (a .o) (valueRow w) unwrapped (found .0) (c .before .before .before .before .before .before .before .before .before .before .before .before .before .before .before .before .before .before .before .before .before .before .before .before .before .pre .1) right (value-wrong rows (c .before .before .before .before .before .before .before .type-at .ensures (a .names .now)) (a .q + 1) (c .before .before .before .before .before .plain2 .ensures) (c .before .b .given .1)))
+    gives-wrong (unwrapped-wrong (a .depth) t (a .pool .now) rows (a .row) (a .slot) (a .offset) (valueRow w) unwrapped (found .0) (c .before .before .before .before .before .before .before .before .before .before .before .before .before .before .before .before .before .before .before .before .before .before .before .before .before .pre .1) right (value-wrong rows (c .before .before .before .before .before .before .before .type-at .ensures (a .names .now)) (a .slot + 1) (c .before .before .before .before .before .plain2 .ensures) (c .before .b .given .1)))
 
 value-same-length-3 : (t : ℕ) → value-lts.Need-same-length-3 (value-calls t) (value-at t) value.Post
 value-same-length-3 t c = search needs
@@ -660,11 +660,11 @@ value-returns-5 t c =
     let a = c .before .before .before .before .before .before .before .before .before .before .before .before .before .before .before .before .before .before .before .before .before .before .before .before .before .before .args in
     let t = table (a .types .now) (a .names .now) in
     let rows = rowsIn (a .values .now) in
-    let unwrapped = sym (c .before .before .before .before .before .before .before .before .before .before .before .before .before .before .before .before .before .before .before .is-unwrapped .ensures t (a .r) (c .before .before .before .before .before .before .before .before .before .before .before .before .before .before .before .before .before .before .before .before .at .ensures (a .names .now))) ∙ not-false _ (c .before .before .before .before .before .before .before .before .before .before .before .before .before .before .before .before .before .before .if1 .left) in
+    let unwrapped = sym (c .before .before .before .before .before .before .before .before .before .before .before .before .before .before .before .before .before .before .before .is-unwrapped .ensures t (a .row) (c .before .before .before .before .before .before .before .before .before .before .before .before .before .before .before .before .before .before .before .before .at .ensures (a .names .now))) ∙ not-false _ (c .before .before .before .before .before .before .before .before .before .before .before .before .before .before .before .before .before .before .if1 .left) in
     let w = c .before .before .before .before .before .before .before .before .before .before .before .before .before .before .before .w .given .0 .0 in
     let found = rw (c .before .before .before .before .before .before .before .before .before .before .before .before .before .before .before .w .given .1) at (c .before .before .before .before .before .before .before .before .before .before .before .before .before .before .before .before .before .row-at .ensures) in
     let right = right-is (w .kind) (w .a) (w .b) (c .before .before .before .before .before .before .before .before .before .before .before .before .count-of .ensures (a .names .now)) (not-false _ (c .before .before .before .before .before .before .before .before .before .if2 .left)) in
-    writes-is (c .ended .ensures) (unwrapped-ends (a .depth) t (a .pool .now) rows (a .r) (a .q) (a .o) (valueRow w) unwrapped (found .0) (c .before .before .before .before .before .before .before .before .before .before .before .before .before .before .before .before .before .before .before .before .before .before .before .before .before .before .pre .1) right (value-got rows (c .before .before .before .before .before .before .before .before .type-at .ensures (a .names .now)) (a .q + 1) (c .before .before .before .before .before .before .plain2 .ensures) (c .before .before .row .given .1)))
+    writes-is (c .ended .ensures) (unwrapped-ends (a .depth) t (a .pool .now) rows (a .row) (a .slot) (a .offset) (valueRow w) unwrapped (found .0) (c .before .before .before .before .before .before .before .before .before .before .before .before .before .before .before .before .before .before .before .before .before .before .before .before .before .before .pre .1) right (value-got rows (c .before .before .before .before .before .before .before .before .type-at .ensures (a .names .now)) (a .slot + 1) (c .before .before .before .before .before .before .plain2 .ensures) (c .before .before .next .given .1)))
 
 pub +choice+judged+list+plain+sequence+value-spec : {M : Type 1} → statement M
 +choice+judged+list+plain+sequence+value-spec =
@@ -678,7 +678,7 @@ pub +choice+judged+list+plain+sequence+value-spec : {M : Type 1} → statement M
     (choice-add-value t)
     (choice-value-requires t)
     (choice-enum-known-b t)
-    (choice-enum-known-row t)
+    (choice-enum-known-next t)
     (choice-put-byte-requires-2 t)
     (choice-ended-requires t)
     (choice-same-length t)
@@ -701,7 +701,7 @@ pub +choice+judged+list+plain+sequence+value-spec : {M : Type 1} → statement M
     (list-enum-known-b t)
     (list-same-length t)
     (list-returns t)
-    (list-enum-known-row t)
+    (list-enum-known-n t)
     (list-add-i t)
     (list-loop-less t)
     (list-loop-again t)
@@ -792,7 +792,7 @@ pub +choice+judged+list+plain+sequence+value-spec : {M : Type 1} → statement M
     (value-add-plain t)
     (value-plain-requires-2 t)
     (value-enum-known-b t)
-    (value-enum-known-row t)
+    (value-enum-known-next t)
     (value-ended-requires t)
     (value-same-length-2 t)
     (value-returns-4 t)
