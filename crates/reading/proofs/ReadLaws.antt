@@ -101,7 +101,7 @@ module _ (t : Table) (s : List ℕ) (g : judged.Good ≡ tableJudged t) (h : jud
   pub given : {p : ℕ} → p ≡ pastSpace s 0 → Given t s 0 p (0 + 1) 0 32
   given e =
       let f = good-text s h in
-      record { sane = sane; typed = sane .whole; short = f .short; place = omega (arith, f .short, space-within s 65536 0 (f .short) (omega arith)); rowRoom = omega arith; byteRoom = omega arith }
+      record { sane = sane; typed = sane .whole; short = f .short; near = omega (arith, f .short, space-within s 65536 0 (f .short) (omega arith)); rowRoom = omega arith; byteRoom = omega arith }
 
   -- the meaning of the text
   pub meaning : bind (readAt 32 t s 0 (pastSpace s 0)) (λ g. ok (g .value)) ≡ readText t s

@@ -1,4 +1,5 @@
--- Made by tools/answers.py from answers/taken/is_hex.ans: edit that. 3cfead449e875be4
+-- Made by tools/answers.py from answers/taken/is_hex.ans: edit that. f680049b08ccbcfa
+use native.Mathlib.Omega.{arith}
 use Prim.Native.Nat.{_-_}
 use mathlib.Core.Path.{_≡_, sym, _∙_}
 use lib.ListN.{length, drop}
@@ -19,6 +20,9 @@ loop-holds c = search needs
 
 shared-slice-read-digit : tie.Need-shared-slice-read-digit Inv-loop μ-loop
 shared-slice-read-digit c = search needs
+
+cast-digit : tie.Need-cast-digit Inv-loop μ-loop
+cast-digit c = omega (arith, c .shared-slice-known2 .given (c .before .before .loop .i))
 
 digit-requires : tie.Need-digit-requires Inv-loop μ-loop
 digit-requires c κs = search needs
@@ -48,6 +52,7 @@ is-hex-spec =
     μ-loop
     loop-holds
     shared-slice-read-digit
+    cast-digit
     digit-requires
     returns
     add-i
