@@ -1,3 +1,4 @@
+-- Made by tools/answers.py from answers/cases.ans: edit that. 888075423767f526
 use mathlib.Core.Path.{_≡_}
 use lib.ListN.{length}
 use borrow.Author.Needs.{needs}

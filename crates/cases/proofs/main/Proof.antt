@@ -1,3 +1,4 @@
+-- Made by tools/answers.py from answers/main.ans: edit that. 7998e44cc3ab2b66
 use mathlib.Core.Path.{_≡_}
 use lib.ListN.{length}
 use borrow.Author.Needs.{needs}

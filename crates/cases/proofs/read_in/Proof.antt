@@ -1,3 +1,4 @@
+-- Made by tools/answers.py from answers/read_in.ans: edit that. 865b04db0e5e83e8
 use native.Mathlib.Omega.{arith}
 use mathlib.Core.Path.{sym}
 use lib.Seq.{length-take-le}

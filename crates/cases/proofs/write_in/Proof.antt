@@ -1,3 +1,4 @@
+-- Made by tools/answers.py from answers/write_in.ans: edit that. 7fafe775e006b6db
 use native.Mathlib.Omega.{arith}
 use mathlib.Core.Path.{sym}
 use lib.Seq.{length-take-le}
