@@ -14,6 +14,7 @@ pub mod Sane
 pub mod Cut
 pub mod Calls
 pub mod Contracts
+pub mod Each
 pub mod Samples
 pub mod Programs
 pub mod Moved

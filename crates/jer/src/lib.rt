@@ -63,6 +63,12 @@ pub enum Reading {
     Refused(Refusal),
 }
 
+// What reading many texts answers: of how many it is told what came of them, or why the type table is refused.
+pub enum Readings {
+    Answered(usize),
+    Refused(Refusal),
+}
+
 // What writing answers: how many bytes of text were stored.
 pub enum Writing {
     Written(usize),

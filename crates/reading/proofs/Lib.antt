@@ -1,2 +1,3 @@
 -- Laws of the definitions in the form that the code's proofs cite.
 pub mod ReadLaws
+pub mod EachLaws

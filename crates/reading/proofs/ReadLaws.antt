@@ -47,7 +47,7 @@ pub record Outcome (t : Table) (x : Res Val) (r : Reading) (rows₁ rows₀ pool
 
 -- ---- tables and texts that are judged
 
-table-refused : (t : Table) {e : Refusal} (x : Res Table) → judged.Refused e ≡ judgedBy x → x ≡ no e
+pub table-refused : (t : Table) {e : Refusal} (x : Res Table) → judged.Refused e ≡ judgedBy x → x ≡ no e
 unfolding judgedBy
 table-refused t (ok u) h = absurd (let z : _≡_ {A = ℕ} 0 1 = cc in omega arith)
 table-refused t (no y) h = cc
@@ -69,7 +69,7 @@ good-table t h = go (firstBad t) h
     go none h = refl
     go (some r) h = absurd (let z : _≡_ {A = ℕ} 0 1 = cc in omega arith)
 
-table-ok : (t : Table) → judged.Good ≡ tableJudged t → goodTable t ≡ ok t
+pub table-ok : (t : Table) → judged.Good ≡ tableJudged t → goodTable t ≡ ok t
 unfolding goodTable tableOf
 table-ok t h = rw (good-table t h)
 

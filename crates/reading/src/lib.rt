@@ -1,4 +1,6 @@
 // The call that reads: a type table and a text judged, the value measured, and stored in the rows and the pool that are lent.
+pub mod each; // each.rt: many texts under one type table
+
 use held::outermost;
 use jer::Judged;
 use jer::Limit;
@@ -20,10 +22,18 @@ pub fn read(types: &[u32], names: &[u8], s: &[u8], rows: &mut [u32], pool: &mut 
 {
     match types::check(types, names) {
         Judged::Refused(e) => Reading::Refused(e),
-        Judged::Good => match text::check(s) {
-            Judged::Refused(e) => Reading::Refused(e),
-            Judged::Good => measured(types, names, s, rows, pool),
-        },
+        Judged::Good => read_good(types, names, s, rows, pool),
+    }
+}
+
+// The same with a good type table.
+fn read_good(types: &[u32], names: &[u8], s: &[u8], rows: &mut [u32], pool: &mut [u8]) -> Reading
+    requires { ⌜ TableCall (table (now types) (now names)) judged.Good ⌝ }
+    ensures { λ r. ⌜ ReadCall (table (now (types .entry)) (now (names .entry))) (now (s .entry)) (now (rows .entry)) (now (pool .entry)) r (now (rows .exit)) (now (pool .exit)) ⌝ }
+{
+    match text::check(s) {
+        Judged::Refused(e) => Reading::Refused(e),
+        Judged::Good => measured(types, names, s, rows, pool),
     }
 }
 
