@@ -1,5 +1,5 @@
 -- Many texts, one after another: what is done, before what the rest gives.
-use Prim.Native.Nat.{ℕ, zero, suc, _+_, _-_, _*_, _/_, _<_, _≤_}
+use Prim.Native.Nat.{ℕ, zero, suc, _+_, _-_, _*_, _/_, _^_, _<_, _≤_}
 use mathlib.Core.Path.{_≡_, refl, sym, ap, _∙_}
 use mathlib.Core.List.{List, [], _∷_, _++_, append-assoc, append-nil}
 use mathlib.Core.Bool.{Bool, true, false, _&&_, false≢true}
@@ -297,6 +297,19 @@ module _ (t : Table) (s rows pool : List ℕ) (a m : ℕ) {r : Reading} {rows′
 
   pub one-pool : putMid m (length pool - m) pool pool′ ≡ take m pool ++ poolAfter t (length (drop a rows)) (drop m pool) (readText t s)
   one-pool = put-from pool m pool′ k ∙ ap (λ (z : List ℕ). take m pool ++ z) (rw (from-is rows a, from-is pool m) at (c .poolLeft))
+
+-- what the call does, of the lent rows and pool whose parts these are
+pub read-from : (t : Table) (s : List ℕ) (n m : ℕ) {r : Reading} (rows pool : Lent) {rows′ pool′ : List ℕ} → n * 4 ≤ length (before rows) → m ≤ length (before pool)
+    → ReadCall t s (take (length (before rows) - n * 4) (drop (n * 4) (before rows))) (take (length (before pool) - m) (drop m (before pool))) r rows′ pool′
+    → after rows ≡ putMid (n * 4) (length (before rows) - n * 4) (before rows) rows′ → after pool ≡ putMid m (length (before pool) - m) (before pool) pool′
+    → n + rowsUsed r < 2 ^ 62 → m + poolUsed r < 2 ^ 64 → ReadFrom t s n m r rows pool
+read-from t s n m rows pool h k c e f x y = record {
+  answer = one-answer t s (before rows) (before pool) (n * 4) m h k c;
+  rowsLeft = e ∙ one-rows t s (before rows) (before pool) (n * 4) m h k c;
+  poolLeft = f ∙ one-pool t s (before rows) (before pool) (n * 4) m h k c;
+  rowsFit = x;
+  poolFit = y;
+}
 
 -- ---- a turn of the loop
 

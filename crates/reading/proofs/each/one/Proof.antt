@@ -1,7 +1,9 @@
--- Made by tools/answers.py from answers/each/one.ans: edit that. e1b5861a36f1b0b2
-use Prim.Native.Nat.{_*_}
+-- Made by tools/answers.py from answers/each/one.ans: edit that. fb4c869aede6bf0a
+use Prim.Native.Nat.{_+_, _*_, _^_, _<_}
+use mathlib.Core.Path.{refl}
 use Rattle.jer.specs.Table.{table}
-use Rattle.reading.proofs.EachLaws.{one-answer, one-rows, one-pool, one-few}
+use Rattle.jer.specs.Each.{rowsUsed, poolUsed}
+use Rattle.reading.proofs.EachLaws.{one-few, read-from}
 use borrow.Author.Needs.{needs}
 use Rattle.reading.proofs.each.one.Statement.{statement}
 use Rattle.reading.proofs.each.one.Tie as tie
@@ -44,13 +46,11 @@ returns c =
     let a = c .before .before .before .before .before .before .before .before .before .before .before .before .args in
     let t = table (a .types .now) (a .names .now) in
     let few = one-few t (a .s .now) (a .rows .now) (a .pool .now) (a .n * 4) (a .m) (c .before .before .before .before .before .before .before .before .before .before .before .before .pre .1) (c .before .before .before .before .before .before .before .before .before .before .before .before .pre .2) (c .before .before .before .before .read-good .ensures) in
-    record {
-    answer = one-answer t (a .s .now) (a .rows .now) (a .pool .now) (a .n * 4) (a .m) (c .before .before .before .before .before .before .before .before .before .before .before .before .pre .1) (c .before .before .before .before .before .before .before .before .before .before .before .before .pre .2) (c .before .before .before .before .read-good .ensures);
-    rowsLeft = one-rows t (a .s .now) (a .rows .now) (a .pool .now) (a .n * 4) (a .m) (c .before .before .before .before .before .before .before .before .before .before .before .before .pre .1) (c .before .before .before .before .before .before .before .before .before .before .before .before .pre .2) (c .before .before .before .before .read-good .ensures);
-    poolLeft = one-pool t (a .s .now) (a .rows .now) (a .pool .now) (a .n * 4) (a .m) (c .before .before .before .before .before .before .before .before .before .before .before .before .pre .1) (c .before .before .before .before .before .before .before .before .before .before .before .before .pre .2) (c .before .before .before .before .read-good .ensures);
-    rowsFit = let w = few .0 in search needs;
-    poolFit = let w = few .1 in search needs;
-    }
+    let fewRows = few .0 in
+    let fewBytes = few .1 in
+    let x : a .n + rowsUsed (c .before .before .before .before .read-good .result) < 2 ^ 62 = search needs in
+    let y : a .m + poolUsed (c .before .before .before .before .read-good .result) < 2 ^ 64 = search needs in
+    read-from t (a .s .now) (a .n) (a .m) _ _ (c .before .before .before .before .before .before .before .before .before .before .before .before .pre .1) (c .before .before .before .before .before .before .before .before .before .before .before .before .pre .2) (c .before .before .before .before .read-good .ensures) refl refl x y
 
 pub one-spec : {M : Type 1} → statement M
 one-spec =
