@@ -6,11 +6,14 @@ use Rattle.jer.specs.declared.Judged.{Judged}
 use Rattle.jer.specs.declared.Judged.the-variants as judged
 use Rattle.jer.specs.declared.Reading.{Reading}
 use Rattle.jer.specs.declared.Reading.the-variants as reading
+use Rattle.jer.specs.declared.Readings.{Readings}
+use Rattle.jer.specs.declared.Readings.the-variants as readings
 use Rattle.jer.specs.declared.Writing.{Writing}
 use Rattle.jer.specs.declared.Writing.the-variants as writing
 use Rattle.jer.specs.Table.{Table}
 use Rattle.jer.specs.Answer.{Values, values, valuesOf}
 use Rattle.jer.specs.Contracts.{TableCall, ReadCall, WriteCall}
+use Rattle.jer.specs.Each.{EachCall}
 
 -- A success is number 0; a refusal has document 01's number and amounts (`valuesOf`).
 
@@ -23,6 +26,11 @@ ofTable (judged.Refused e) = valuesOf e
 unfoldable pub ofReading : Reading → Values
 ofReading (reading.Read n m) = values 0 n m
 ofReading (reading.Refused e) = valuesOf e
+
+-- many texts: how many are answered
+unfoldable pub ofReadings : Readings → Values
+ofReadings (readings.Answered n) = values 0 n 0
+ofReadings (readings.Refused e) = valuesOf e
 
 -- a text that was written: its bytes
 unfoldable pub ofWriting : Writing → Values
@@ -52,6 +60,12 @@ pub record ReadFromC (t : Table) (s rows pool amounts : List ℕ) (r : ℕ) (row
   pub call : ReadCall t s rows pool answer rows′ pool′
   pub number : r ≡ (ofReading answer) .number
   pub told : amounts′ ≡ amountsBy amounts (ofReading answer)
+
+pub record EachFromC (t : Table) (texts ends rows pool tells amounts : List ℕ) (r : ℕ) (rows′ pool′ tells′ amounts′ : List ℕ) : Type 0 where
+  pub answer : Readings
+  pub call : EachCall t texts ends rows pool tells answer rows′ pool′ tells′
+  pub number : r ≡ (ofReadings answer) .number
+  pub told : amounts′ ≡ amountsBy amounts (ofReadings answer)
 
 pub record WriteFromC (t : Table) (ns pool text amounts : List ℕ) (r : ℕ) (text′ amounts′ : List ℕ) : Type 0 where
   pub answer : Writing

@@ -2,13 +2,16 @@
 // Contracts cite specs/Answers.antt: each is a call of the library (`jer`'s Contracts.antt) whose answer is told in numbers.
 use jer::Judged;
 use jer::Reading;
+use jer::Readings;
 use jer::Refusal;
 use jer::Writing;
 use jer::report;
+use reading::each::read_each;
 ghost use mathlib.Core.Path.{_≡_};
 ghost use Rattle.jer.specs.Answer.{valuesOf};
 ghost use Rattle.jer.specs.Table.{table};
-ghost use Rattle.capi.specs.Answers.{amountsAfter, amountsBy, TableFromC, ReadFromC, WriteFromC};
+ghost use Rattle.slices.specs.Lent.{tableIn, before, after};
+ghost use Rattle.capi.specs.Answers.{amountsAfter, amountsBy, TableFromC, ReadFromC, EachFromC, WriteFromC};
 
 // Stores two amounts, if there is room for both.
 fn told(amounts: &mut [u64], first: u64, second: u64)
@@ -60,6 +63,29 @@ pub extern "C" fn attrywind_read(
         Reading::Refused(e) => refused(amounts, e),
         Reading::Read { rows: n, pool: m } => {
             told(amounts, n as u64, m as u64);
+            0
+        }
+    }
+}
+
+// Reads each of the texts that stand one after another and end at `ends`, by one type table.
+#[no_mangle]
+pub extern "C" fn attrywind_read_each(
+    types: &[u32],
+    names: &[u8],
+    texts: &[u8],
+    ends: &[u64],
+    rows: &mut [u32],
+    pool: &mut [u8],
+    tells: &mut [u64],
+    amounts: &mut [u64],
+) -> u32
+    ensures { λ r. ⌜ EachFromC (tableIn types names) (before texts) (before ends) (before rows) (before pool) (before tells) (before amounts) r (after rows) (after pool) (after tells) (after amounts) ⌝ }
+{
+    match read_each(types, names, texts, ends, rows, pool, tells) {
+        Readings::Refused(e) => refused(amounts, e),
+        Readings::Answered(n) => {
+            told(amounts, n as u64, 0);
             0
         }
     }
