@@ -1,0 +1,3 @@
+pub mod Stood
+pub mod Tape
+pub mod Taken

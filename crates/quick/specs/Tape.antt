@@ -1,0 +1,45 @@
+-- What a tape stands for. A value without parts has two words: those of its row. Any other has a header of three words, and then its parts.
+-- A SEQUENCE has, before its parts, a link for each member: 0, or where the member's value stands.
+use Prim.Native.Nat.{ℕ, suc, _+_, _≤_, _<_}
+use mathlib.Core.Path.{_≡_}
+use mathlib.Core.List.{List, []}
+use lib.ListN.{length, getD}
+use Rattle.jer.specs.Table.{Table, kindOf, elementOf, countOf, typeAt, NULL, SEQUENCE, SEQUENCE-OF, CHOICE}
+use Rattle.jer.specs.Value.{Leaf, Val, vLeaf, vSeq, vList, vChoice, Vals, vnil, vcons, countVals, Parts, pnil, absent, present, countPresent}
+use Rattle.jer.specs.Rows.{row, leafRow, leafPool, rowsOf, itemRows, partRows}
+
+-- the two tapes agree from j up to k
+pub record Alike (z y : List ℕ) (j k : ℕ) : Type 0 where
+  pub same : (i : ℕ) → j ≤ i → i < k → getD y i 0 ≡ getD z i 0
+
+-- the words a and b of a leaf of the type at r: the numbers of its row
+pub data Words (s : List ℕ) (t : Table) (r : ℕ) : Leaf → ℕ → ℕ → Type 0 where
+  inRow : {l : Leaf} {a b : ℕ} → kindOf t r ≤ NULL → leafPool l ≡ [] → ((o : ℕ) → leafRow l (kindOf t r) o ≡ row (kindOf t r) a b 1) → Words s t r l a b
+
+-- at j stands a header: the number that the row has, how many rows there are with the n of the parts, and where the parts end
+pub record Header (z : List ℕ) (j a n k : ℕ) : Type 0 where
+  pub number : getD z j 0 ≡ a
+  pub rows : getD z (j + 1) 0 ≡ suc n
+  pub end : getD z (j + 2) 0 ≡ k
+
+mutual
+  -- from j up to k the tape z stands for the value of the type at r, whose strings stand in the text s
+  pub data Stands (s z : List ℕ) (t : Table) : ℕ → Val → ℕ → ℕ → Type 0 where
+    aLeaf : {r j k : ℕ} {l : Leaf} → Words s t r l (getD z j 0) (getD z (j + 1) 0) → k ≡ j + 2 → Stands s z t r (vLeaf l) j k
+    aList : {r j k : ℕ} {vs : Vals} → kindOf t r ≡ SEQUENCE-OF → Header z j (countVals vs) (length (itemRows vs t (elementOf t r) 0)) k → Listed s z t (elementOf t r) vs (j + 3) k
+        → Stands s z t r (vList vs) j k
+    aSequence : {r j k : ℕ} {ps : Parts} → kindOf t r ≡ SEQUENCE → Header z j (countPresent ps) (length (partRows ps t r 0 0)) k → j + length (partRows ps t r 0 0) + 2 ≤ k
+        → Linked s z t r (j + 3) k 0 ps → Stands s z t r (vSeq ps) j k
+    aChoice : {r i j k : ℕ} {v : Val} → kindOf t r ≡ CHOICE → Header z j i (length (rowsOf v t (typeAt t r i) 0)) k → Stands s z t (typeAt t r i) v (j + 3) k → Stands s z t r (vChoice i v) j k
+
+  -- from j up to k stand the items of the type at r
+  pub data Listed (s z : List ℕ) (t : Table) : ℕ → Vals → ℕ → ℕ → Type 0 where
+    noItem : {r j k : ℕ} → k ≡ j → Listed s z t r vnil j k
+    item : {r j k l : ℕ} {v : Val} {vs : Vals} → Stands s z t r v j k → Listed s z t r vs k l → Listed s z t r (vcons v vs) j l
+
+  -- from b on stands a link for each member from the position i on: 0, or where its value stands, past the links and before k
+  pub data Linked (s z : List ℕ) (t : Table) : ℕ → ℕ → ℕ → ℕ → Parts → Type 0 where
+    noLink : {r b k i : ℕ} → i ≡ countOf t r → b + countOf t r ≤ k → Linked s z t r b k i pnil
+    noValue : {r b k i : ℕ} {ps : Parts} → i < countOf t r → getD z (b + i) 0 ≡ 0 → Linked s z t r b k (suc i) ps → Linked s z t r b k i (absent ps)
+    aValue : {r b k i w l : ℕ} {v : Val} {ps : Parts} → i < countOf t r → getD z (b + i) 0 ≡ w → b + countOf t r ≤ w → l ≤ k → Stands s z t (typeAt t r i) v w l
+        → Linked s z t r b k (suc i) ps → Linked s z t r b k i (present v ps)

@@ -1,0 +1,15 @@
+// A reading that only succeeds: one walk over the text notes the value on a tape, a second walk over the tape stores rows and pool.
+// What it does not take it answers by the place 0; the general calls read that. So its contracts say only what a success means.
+pub mod integer; // integer.rt: the INTEGER at a place
+pub mod bare; // bare.rt: a value without parts
+pub mod name; // name.rt: the name of a member
+pub mod note; // note.rt: words noted on the tape
+pub mod walk; // walk.rt: the walk over the text
+
+// What a value gives: the place after it, or 0 for what is not taken here; the tape's end; how many rows and pool bytes.
+pub struct Got {
+    pub next: usize,
+    pub tape: usize,
+    pub rows: usize,
+    pub pool: usize,
+}

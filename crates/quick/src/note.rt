@@ -1,0 +1,69 @@
+// Words noted on the tape.
+use crate::Got;
+use crate::bare::leaf;
+use types::row::wide;
+ghost use mathlib.Core.Path.{_≡_};
+ghost use mathlib.Core.List.{List};
+ghost use Prim.Native.Nat.{ℕ, _+_, _≤_, _<_};
+ghost use lib.ListN.{length, getD, set};
+ghost use Rattle.jer.specs.Table.{table};
+ghost use Rattle.quick.specs.Tape.{Alike};
+ghost use Rattle.quick.specs.Taken.{Given, Walked};
+
+pub fn other() -> Got
+    ensures { λ r. ⌜ r .next ≡ 0 ⌝ }
+{
+    Got { next: 0, tape: 0, rows: 0, pool: 0 }
+}
+
+// A value without parts: its two words from `top` on.
+pub fn note(types: &[u32], names: &[u8], s: &[u8], tape: &mut [u32], row: usize, place: usize, top: usize) -> Got
+    requires { ⌜ Given (table (now types) (now names)) (now s) (now tape) row place top ⌝ }
+    ensures { λ r. ⌜ ((d : ℕ) → Walked (table (now (types .entry)) (now (names .entry))) (now (s .entry)) (now (tape .entry)) (now (tape .exit)) d row place top r) ⌝ }
+{
+    if tape.len() < top + 2 {
+        return other();
+    }
+    let w = leaf(types, names, s, row, place);
+    if w.next == 0 {
+        return other();
+    }
+    tape[top] = w.a;
+    tape[top + 1] = w.b;
+    Got {
+        next: w.next,
+        tape: top + 2,
+        rows: 1,
+        pool: w.pool,
+    }
+}
+
+// The header at `top` of a bracket whose number is a and whose n rows of parts end at `end`; its closing bracket stands at `place`.
+pub fn head(tape: &mut [u32], top: usize, a: u32, n: usize, pool: usize, end: usize, next: usize) -> Got
+    requires { ⌜ (top + 3 ≤ length (now tape)) × (n ≤ 1048576) × (end ≤ 1048576) ⌝ }
+    ensures { λ r. ⌜ now (tape .exit) ≡ set (set (set (now (tape .entry)) top a) (top + 1) (n + 1)) (top + 2) end ⌝ }
+    ensures { λ r. ⌜ (r .next ≡ next) × (r .tape ≡ end) × (r .rows ≡ n + 1) × (r .pool ≡ pool) ⌝ }
+{
+    tape[top] = a;
+    tape[top + 1] = (n + 1) as u32;
+    tape[top + 2] = end as u32;
+    Got {
+        next,
+        tape: end,
+        rows: n + 1,
+        pool,
+    }
+}
+
+// No member is met yet: the links from `from` on are 0.
+pub fn clear(tape: &mut [u32], from: usize, count: u32)
+    requires { ⌜ from + count ≤ length (now tape) ⌝ }
+    ensures { λ _. ⌜ Alike (now (tape .entry)) (now (tape .exit)) 0 from ⌝ }
+    ensures { λ _. ⌜ ((i : ℕ) → i < count → getD (now (tape .exit)) (from + i) 0 ≡ 0) ⌝ }
+{
+    let mut k: u32 = 0;
+    while k < count {
+        tape[from + wide(k)] = 0;
+        k += 1;
+    }
+}
