@@ -5,4 +5,5 @@ pub mod PartLaws
 pub mod TapeLaws
 pub mod WalkLaws
 pub mod NameLaws
+pub mod MemberLaws
 pub mod ListingLaws

@@ -98,7 +98,7 @@ module _ (t : Table) (s : List ℕ) (d e : ℕ) where
       record {
         tree = k .tree;
         bytes = x .bytes ++ (k .here .bytes ++ y .bytes);
-        value = padded (x .space) (sym (x .end)) (k .here .value) (y .space) refl;
+        value = padded (x .holds) (sym (x .end)) (k .here .holds) (y .holds) refl;
         text = x .text ∙ rw (k .here .text, y .text, append-assoc, append-assoc);
         end = rw (past-append a (x .bytes) (k .here .bytes ++ y .bytes), x .end, past-append p (k .here .bytes) (y .bytes), k .here .end) (y .end);
         reads = k .reads;
@@ -168,7 +168,7 @@ module _ (t : Table) (s : List ℕ) (d r p : ℕ) (e : kindOf t r ≡ SEQUENCE-O
       let m : Ends t s d (elementOf t r) (suc p) q vs = rw (← add-one p) k in
       record {
         tree = jarr p (m .items);
-        here = record { bytes = 0x5B ∷ m .bytes; value = grammar.elements (m .value); text = byte-drop s p 0x5B h (omega arith) ∙ rw (m .text); end = m .end };
+        here = record { bytes = 0x5B ∷ m .bytes; holds = grammar.elements (m .value); text = byte-drop s p 0x5B h (omega arith) ∙ rw (m .text); end = m .end };
         reads = read-list t r p (m .items) vs e (m .reads);
       }
 
@@ -180,7 +180,7 @@ module _ (t : Table) (s : List ℕ) (d r p : ℕ) (e : kindOf t r ≡ SEQUENCE-O
         tree = jarr p inil;
         here = record {
           bytes = 0x5B ∷ x .bytes ++ (0x5D ∷ []);
-          value = noElements (x .space) refl;
+          holds = noElements (x .holds) refl;
           text = byte-drop s p 0x5B h (omega arith) ∙ rw (x .text, byte-drop s q 0x5D y (omega arith), append-assoc);
           end = past-append (suc p) (x .bytes) (0x5D ∷ []) ∙ rw (x .end);
         };

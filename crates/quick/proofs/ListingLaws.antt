@@ -11,11 +11,11 @@ use Rattle.jer.specs.Rows.{rowsOf, itemRows, poolOf, itemPool, above}
 use Rattle.tokens.specs.Places.{byteAt}
 use Rattle.quick.specs.declared.Got.{Got}
 use Rattle.quick.specs.Stood.{Spaces, Stood}
-use Rattle.quick.specs.Tape.{Alike, Stands, aList, Listed, noItem}
-use Rattle.quick.specs.Taken.{Given, Taken, Walked}
+use Rattle.quick.specs.Tape.{headed, Alike, Stands, aList, Listed, noItem}
+use Rattle.quick.specs.Taken.{Headed, Given, Taken, Walked}
 use Rattle.quick.proofs.ListLaws.{vsnoc, count-snoc, rows-snoc, pool-snoc, Item, item-padded, Some, some-none, some-more, some-last, list-stood, empty-stood}
 use Rattle.quick.proofs.TapeLaws.{alike-part, stands-ahead, listed-alike, listed-snoc}
-use Rattle.quick.proofs.WalkLaws.{alike-same, alike-then, mark-inside, headed, headed-after, header, Headed, bracket-closed}
+use Rattle.quick.proofs.WalkLaws.{alike-same, alike-then, mark-inside, headed-after, header, bracket-closed}
 
 -- after some items: the next is due at `at`, and is noted from `end` on
 pub record Listing (t : Table) (s z₀ z : List ℕ) (d r p j at end count n m : ℕ) : Type 0 where
@@ -90,11 +90,11 @@ module _ {t : Table} {s z₀ z y : List ℕ} {d r p j at end count n m : ℕ} (k
     listing-pool : m + g .pool ≡ length (itemPool (vsnoc (k .items) (listing-taken .value)))
     listing-pool = omega (arith, pool-snoc (k .items) (listing-taken .value), k .pool, listing-taken .pool)
 
-    module _ {c b : ℕ} (sp : Spaces s (g .next) c × (g .next ≤ c)) (bc : b ≡ byteAt s c) where
+    module _ {c b : ℕ} (sp : Spaces s (g .next) c × (g .next ≤ c) × (g .next ≤ length s → c ≤ length s)) (bc : b ≡ byteAt s c) where
       listing-item : Item t s d (elementOf t r) (k .place) c (listing-taken .value)
       listing-item = item-padded t s d (elementOf t r) (k .place) at (g .next) c (listing-taken .value) (k .due) (listing-taken .stood) (sp .0)
 
-      pub listing-more : {at′ : ℕ} → b ≡ 0x2C → Spaces s (c + 1) at′ × (c + 1 ≤ at′) → Listing t s z₀ y d r p j at′ (g .tape) (count + 1) (n + g .rows) (m + g .pool)
+      pub listing-more : {at′ : ℕ} → b ≡ 0x2C → Spaces s (c + 1) at′ × (c + 1 ≤ at′) × (c + 1 ≤ length s → at′ ≤ length s) → Listing t s z₀ y d r p j at′ (g .tape) (count + 1) (n + g .rows) (m + g .pool)
       listing-more f h =
           let v = listing-bounds in
           let l = sp .1 in

@@ -55,7 +55,7 @@ name-here s o q c ob n qb y cb =
       marks = us;
       quoted = quoted (n .chars) refl;
       gap = y .bytes;
-      space = y .space;
+      space = y .holds;
       text = byte-drop s o 0x22 ob (omega arith) ∙ rw (← add-one o, n .text, byte-drop s q 0x22 qb (omega arith), ← add-one q, y .text, byte-drop s c 0x3A cb (omega arith)) (simp append-assoc);
       end = rw (past-append o us (y .bytes ++ (0x3A ∷ [])), past-append (suc o) (n .bytes) (0x22 ∷ []), ← add-one o, n .end, ← add-one q, past-append (q + 1) (y .bytes) (0x3A ∷ []), y .end);
     })

@@ -74,7 +74,7 @@ read-int t r p n x m e h = rw (not-unwrapped t r INTEGER e refl, unwrapping) (rw
 pub taken-bare : (t : Table) (s : List ℕ) (d r p q n : ℕ) → kindOf t r ≡ INTEGER → WholeAt s p q n → n < 2 ^ 63 → Stood t s d r p q (vInt n)
 unfolding readInt
 taken-bare t s d r p q n e k l =
-    record { tree = jint p false n; here = record { bytes = k .bytes; value = whole (bare (k .whole)); text = k .text; end = k .end }; reads = read-int t r p n n false e (rw (lt-ltb n (2 ^ 63) l, readInt)) }
+    record { tree = jint p false n; here = record { bytes = k .bytes; holds = whole (bare (k .whole)); text = k .text; end = k .end }; reads = read-int t r p n n false e (rw (lt-ltb n (2 ^ 63) l, readInt)) }
 
 abbrev pub negative : ℕ → ℕ
 negative zero = 0
@@ -92,7 +92,7 @@ taken-minus t s d r p q n b e f g k l =
     let i : p < length s = inside s p (λ w. omega arith) in
     record {
       tree = jint p true n;
-      here = record { bytes = 0x2D ∷ k .bytes; value = whole (minus (k .whole)); text = rw (drop-cons s p 0 i, byte-inside s p i, h, ← add-one p, k .text); end = rw (← add-one p) (k .end) };
+      here = record { bytes = 0x2D ∷ k .bytes; holds = whole (minus (k .whole)); text = rw (drop-cons s p 0 i, byte-inside s p i, h, ← add-one p, k .text); end = rw (← add-one p) (k .end) };
       reads = read-int t r p n (negative n) true e (read-negative p n l);
     }
 

@@ -7,7 +7,7 @@ use native.Mathlib.Nat.{add-comm}
 use native.Mathlib.Omega.{arith}
 use borrow.Author.Tests.{eqb-true}
 use lib.Dec.{eqb}
-use lib.ListN.{length, drop}
+use lib.ListN.{length, drop, length-drop, length-append}
 use lib.Seq.{drop-drop}
 use Rattle.json.specs.Bytes.{past}
 use Rattle.json.specs.Grammar.{Space, noSpace, tab, feed, return, blank}
@@ -41,12 +41,22 @@ split-space (b ∷ l) = go (isSpace b) refl (split-space l)
     go true e k = rw (e, runLength) (record { bytes = b ∷ k .bytes; space = space-byte b (k .bytes) e (k .space); text = ap (λ (m : List ℕ). b ∷ m) (k .text); few = ap suc (k .few) })
     go false e k = rw (e, runLength) (record { bytes = []; space = noSpace; text = refl; few = refl })
 
+-- what stands somewhere ends inside the text
+pub ends-inside : (s bs : List ℕ) (p q : ℕ) → drop p s ≡ bs ++ drop q s → past p bs ≡ q → p ≤ length s → q ≤ length s
+ends-inside s bs p q h e l =
+    let a = length-drop p s in
+    let b = length-drop q s in
+    let c = ap (length {A = ℕ}) h in
+    let d = length-append bs (drop q s) in
+    let f = past-length p bs in
+    omega arith
+
 pub space-here : (s : List ℕ) (p : ℕ) → Spaces s p (pastSpace s p)
 unfolding pastSpace runFrom
 space-here s p =
     let k = split-space (drop p s) in
-    record { bytes = k .bytes; space = k .space; text = k .text ∙ ap (λ (m : List ℕ). k .bytes ++ m) (drop-drop (runLength isSpace (drop p s)) p s); end = past-length p (k .bytes) ∙ ap (λ (n : ℕ). p + n) (k .few) }
+    record { bytes = k .bytes; holds = k .space; text = k .text ∙ ap (λ (m : List ℕ). k .bytes ++ m) (drop-drop (runLength isSpace (drop p s)) p s); end = past-length p (k .bytes) ∙ ap (λ (n : ℕ). p + n) (k .few) }
 
-pub space-run : (s : List ℕ) (p q : ℕ) → q ≡ runFrom isSpace s p → Spaces s p q × (p ≤ q)
+pub space-run : (s : List ℕ) (p q : ℕ) → q ≡ runFrom isSpace s p → Spaces s p q × (p ≤ q) × (p ≤ length s → q ≤ length s)
 unfolding pastSpace
-space-run s p q h = (rw h (space-here s p), omega (arith, run-ahead isSpace s p))
+space-run s p q h = let x : Spaces s p q = rw h (space-here s p) in (x, omega (arith, run-ahead isSpace s p), λ l. ends-inside s (x .bytes) p q (x .text) (x .end) l)

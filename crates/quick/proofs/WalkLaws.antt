@@ -18,8 +18,8 @@ use Rattle.tokens.proofs.PlaceLaws.{inside}
 use Rattle.quick.specs.declared.Got.{Got}
 use Rattle.quick.specs.declared.bare.Words as declared-leaf
 use Rattle.quick.specs.Stood.{Stood, IntegerTaken}
-use Rattle.quick.specs.Tape.{Alike, Words, inRow, Header, Stands, aLeaf}
-use Rattle.quick.specs.Taken.{Given, LeafTaken, Taken, Walked}
+use Rattle.quick.specs.Tape.{headed, Alike, Words, inRow, Header, Stands, aLeaf}
+use Rattle.quick.specs.Taken.{Headed, Given, LeafTaken, Taken, Walked}
 use Rattle.quick.proofs.TapeLaws.{alike-part}
 
 pub alike-same : (z : List ℕ) (j k : ℕ) → Alike z z j k
@@ -104,9 +104,6 @@ leaf-noted t s z r p j w g l k e f h i d =
 
 -- ---- a header
 
-abbrev pub headed : List ℕ → ℕ → ℕ → ℕ → ℕ → List ℕ
-headed z j a b c = set (set (set z j a) (j + 1) b) (j + 2) c
-
 module _ (z : List ℕ) (j a b c : ℕ) where
   pub headed-before : Alike z (headed z j a b c) 0 j
   headed-before =
@@ -140,10 +137,6 @@ module _ (z : List ℕ) (j a b c : ℕ) where
 
 pub header : (z : List ℕ) (j a n k : ℕ) → j + 3 ≤ length z → Header (headed z j a (n + 1) k) j a n k
 header z j a n k l = record { number = headed-0 z j a (n + 1) k l; rows = headed-1 z j a (n + 1) k l ∙ add-one n; end = headed-2 z j a (n + 1) k l }
-
--- what a header's answer is
-abbrev pub Headed : ℕ → ℕ → ℕ → ℕ → Got → Type 0
-Headed n m end next g = (g .next ≡ next) × (g .tape ≡ end) × (g .rows ≡ n + 1) × (g .pool ≡ m)
 
 -- a bracket closed: its header stands before its parts, which y has
 pub bracket-closed : (t : Table) (s z y w : List ℕ) (d r p j a n m end next : ℕ) (v : Val) (g : Got) → Alike z y 0 j → j + 3 ≤ length y → w ≡ headed y j a (n + 1) end → Headed n m end next g

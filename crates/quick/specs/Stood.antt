@@ -11,21 +11,22 @@ use Rattle.jer.specs.Value.{Val, vInt}
 use Rattle.jer.specs.Answer.{ok}
 use Rattle.jer.specs.Read.{read}
 
--- from p up to q stands white space
-pub record Spaces (s : List ℕ) (p q : ℕ) : Type 0 where
+-- the bytes from p up to q are of R
+pub record Stretch (R : List ℕ → Type 0) (s : List ℕ) (p q : ℕ) : Type 0 where
   pub bytes : List ℕ
-  pub space : Space bytes
+  pub holds : R bytes
   pub text : drop p s ≡ bytes ++ drop q s
   pub end : past p bytes ≡ q
 
--- at p stands a JSON value of at most d open brackets, which ends at q
-pub record TreeAt (s : List ℕ) (d p q : ℕ) (tree : Json) : Type 0 where
-  pub bytes : List ℕ
-  pub value : Value d p tree bytes
-  pub text : drop p s ≡ bytes ++ drop q s
-  pub end : past p bytes ≡ q
+-- white space
+abbrev pub Spaces : List ℕ → ℕ → ℕ → Type 0
+Spaces s p q = Stretch Space s p q
 
--- and by the type at r it reads as v
+-- a JSON value of at most d open brackets
+abbrev pub TreeAt : List ℕ → ℕ → ℕ → ℕ → Json → Type 0
+TreeAt s d p q tree = Stretch (Value d p tree) s p q
+
+-- at p stands a JSON value that ends at q, and by the type at r it reads as v
 pub record Stood (t : Table) (s : List ℕ) (d r p q : ℕ) (v : Val) : Type 0 where
   pub tree : Json
   pub here : TreeAt s d p q tree

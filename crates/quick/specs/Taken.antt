@@ -59,6 +59,10 @@ pub record Walked (t : Table) (s z₀ z₁ : List ℕ) (d r p j : ℕ) (g : Got)
   pub kept : Alike z₀ z₁ 0 j
   pub taken : 0 < g .next → Taken t s z₁ d r p j g
 
+-- the answer of a bracket with n rows of parts
+abbrev pub Headed : ℕ → ℕ → ℕ → ℕ → Got → Type 0
+Headed n pool end next g = (g .next ≡ next) × (g .tape ≡ end) × (g .rows ≡ n + 1) × (g .pool ≡ pool)
+
 -- the whole text was taken: it is JSON, it reads as the value by the table's row 0, and the tape stands for it
 pub record Whole (t : Table) (s z : List ℕ) (g : Got) : Type 0 where
   pub value : Val

@@ -3,7 +3,7 @@
 use Prim.Native.Nat.{ℕ, suc, _+_, _≤_, _<_}
 use mathlib.Core.Path.{_≡_}
 use mathlib.Core.List.{List, []}
-use lib.ListN.{length, getD}
+use lib.ListN.{length, getD, set}
 use Rattle.jer.specs.Table.{Table, kindOf, elementOf, countOf, typeAt, NULL, SEQUENCE, SEQUENCE-OF, CHOICE}
 use Rattle.jer.specs.Value.{Leaf, Val, vLeaf, vSeq, vList, vChoice, Vals, vnil, vcons, countVals, Parts, pnil, absent, present, countPresent}
 use Rattle.jer.specs.Rows.{row, leafRow, leafPool, rowsOf, itemRows, partRows}
@@ -11,6 +11,10 @@ use Rattle.jer.specs.Rows.{row, leafRow, leafPool, rowsOf, itemRows, partRows}
 -- the two tapes agree from j up to k
 pub record Alike (z y : List ℕ) (j k : ℕ) : Type 0 where
   pub same : (i : ℕ) → j ≤ i → i < k → getD y i 0 ≡ getD z i 0
+
+-- the tape z with a header from j on
+abbrev pub headed : List ℕ → ℕ → ℕ → ℕ → ℕ → List ℕ
+headed z j a n k = set (set (set z j a) (j + 1) n) (j + 2) k
 
 -- the words a and b of a leaf of the type at r: the numbers of its row
 pub data Words (s : List ℕ) (t : Table) (r : ℕ) : Leaf → ℕ → ℕ → Type 0 where

@@ -2,6 +2,7 @@
 // What it does not take it answers by the place 0; the general calls read that. So its contracts say only what a success means.
 pub mod integer; // integer.rt: the INTEGER at a place
 pub mod bare; // bare.rt: a value without parts
+pub mod member; // member.rt: members that are absent
 pub mod name; // name.rt: the name of a member
 pub mod note; // note.rt: words noted on the tape
 pub mod walk; // walk.rt: the walk over the text

@@ -27,8 +27,7 @@ fn no_name() -> Name
 
 // The place after the white space from p on.
 pub fn space(s: &[u8], p: usize) -> usize
-    requires { ⌜ p ≤ 65537 ⌝ }
-    ensures { λ r. ⌜ Spaces (now (s .entry)) p r × (p ≤ r) ⌝ }
+    ensures { λ r. ⌜ Spaces (now (s .entry)) p r × (p ≤ r) × (p ≤ length (now (s .entry)) → r ≤ length (now (s .entry))) ⌝ }
 {
     run(s, p, Class::Space)
 }

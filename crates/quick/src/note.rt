@@ -5,10 +5,10 @@ use types::row::wide;
 ghost use mathlib.Core.Path.{_≡_};
 ghost use mathlib.Core.List.{List};
 ghost use Prim.Native.Nat.{ℕ, _+_, _≤_, _<_};
-ghost use lib.ListN.{length, getD, set};
+ghost use lib.ListN.{length, getD};
 ghost use Rattle.jer.specs.Table.{table};
-ghost use Rattle.quick.specs.Tape.{Alike};
-ghost use Rattle.quick.specs.Taken.{Given, Walked};
+ghost use Rattle.quick.specs.Tape.{Alike, headed};
+ghost use Rattle.quick.specs.Taken.{Headed, Given, Walked};
 
 pub fn other() -> Got
     ensures { λ r. ⌜ r .next ≡ 0 ⌝ }
@@ -41,8 +41,8 @@ pub fn note(types: &[u32], names: &[u8], s: &[u8], tape: &mut [u32], row: usize,
 // The header at `top` of a bracket whose number is a and whose n rows of parts end at `end`; its closing bracket stands at `place`.
 pub fn head(tape: &mut [u32], top: usize, a: u32, n: usize, pool: usize, end: usize, next: usize) -> Got
     requires { ⌜ (top + 3 ≤ length (now tape)) × (n ≤ 1048576) × (end ≤ 1048576) ⌝ }
-    ensures { λ r. ⌜ now (tape .exit) ≡ set (set (set (now (tape .entry)) top a) (top + 1) (n + 1)) (top + 2) end ⌝ }
-    ensures { λ r. ⌜ (r .next ≡ next) × (r .tape ≡ end) × (r .rows ≡ n + 1) × (r .pool ≡ pool) ⌝ }
+    ensures { λ r. ⌜ now (tape .exit) ≡ headed (now (tape .entry)) top a (n + 1) end ⌝ }
+    ensures { λ r. ⌜ Headed n pool end next r ⌝ }
 {
     tape[top] = a;
     tape[top + 1] = (n + 1) as u32;
