@@ -6,4 +6,8 @@ pub mod TapeLaws
 pub mod WalkLaws
 pub mod NameLaws
 pub mod MemberLaws
+pub mod ObjectLaws
+pub mod PartedLaws
+pub mod ObjectingLaws
+pub mod StepLaws
 pub mod ListingLaws

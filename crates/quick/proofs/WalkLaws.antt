@@ -6,20 +6,22 @@ use native.Mathlib.Numerals.{add-one}
 use native.Mathlib.Omega.{arith}
 use mathlib.Core.Bool.{Bool, true, false}
 use borrow.Author.Tests.{eqb-true, eqb-false}
+use lib.Count.{ones}
 use lib.Dec.{eqb}
 use lib.ListN.{length, getD, set, length-set}
 use lib.Seq.{getD-set-same, getD-set-other}
-use Rattle.jer.specs.Table.{Table, kindOf, isType, INTEGER}
+use Rattle.jer.specs.Table.{Table, kindOf, isType, countOf, mayMiss, INTEGER}
 use Rattle.jer.specs.Value.{Leaf, Val, vLeaf, lInt}
 use Rattle.jer.specs.Rows.{leafPool, rowsOf, poolOf}
 use Rattle.jer.specs.Sane.{Sane}
 use Rattle.tokens.specs.Places.{byteAt}
 use Rattle.tokens.proofs.PlaceLaws.{inside}
+use Rattle.places.specs.ByPlaces.{bitOf}
 use Rattle.quick.specs.declared.Got.{Got}
 use Rattle.quick.specs.declared.bare.Words as declared-leaf
 use Rattle.quick.specs.Stood.{Stood, IntegerTaken}
 use Rattle.quick.specs.Tape.{headed, Alike, Words, inRow, Header, Stands, aLeaf}
-use Rattle.quick.specs.Taken.{Headed, Given, LeafTaken, Taken, Walked}
+use Rattle.quick.specs.Taken.{Headed, Shut, Given, LeafTaken, Taken, Walked}
 use Rattle.quick.proofs.TapeLaws.{alike-part}
 
 pub alike-same : (z : List ℕ) (j k : ℕ) → Alike z z j k
@@ -159,6 +161,13 @@ bracket-closed t s z y w d r p j a n m end next v g f l e h k st rs ps ah pl wo 
       };
     }
 
+pub headed-kept : (z x : List ℕ) (j a b c : ℕ) → x ≡ headed z j a b c → Alike z x 0 j
+headed-kept z x j a b c e = rw e (headed-before z j a b c)
+
+pub shut-here : {t : Table} {r : ℕ} {z x : List ℕ} {j met has n pool end next : ℕ} {g : Got} (a w c : ℕ) → ((i : ℕ) → i < countOf t r → bitOf met i ≡ false → mayMiss t r i ≡ true) → a ≡ ones has → c ≡ countOf t r → w ≡ c - a
+    → x ≡ headed z j a (n + w + 1) end → Headed (n + w) pool end next g → Shut t r z x j met has n pool end next g
+shut-here a w c f e h i k l = record { complete = f; tape = rw (← e, ← h, ← i) k; answer = rw (← e, ← h, ← i) l }
+
 -- ---- links that are 0
 
 pub record Cleared (z y : List ℕ) (from k : ℕ) : Type 0 where
@@ -187,3 +196,13 @@ cleared-more z y from k w e c l =
 pub given-part : {t : Table} {s z y : List ℕ} {r p j e at end : ℕ} → Given t s z r p j → length y ≡ length z → isType t e ≡ true → at ≤ length s → end ≤ length y → Given t s y e at end
 given-part g k ty a b =
     record { sane = g .sane; typed = ty; short = g .short; room = omega (arith, g .room); here = omega (arith, g .short); start = omega (arith, g .room) }
+
+pub walked-from : {t : Table} {s a z x : List ℕ} {d r p j : ℕ} {g : Got} → Alike a z 0 j → Walked t s z x d r p j g → Walked t s a x d r p j g
+walked-from {a = a} {z = z} {x = x} {j = j} f k = record { kept = alike-then a z x 0 j f (k .kept); taken = k .taken }
+
+-- the same type further on
+pub given-on : {t : Table} {s z y : List ℕ} {r p j at end : ℕ} → Given t s z r p j → length y ≡ length z → at ≤ length s → end ≤ length y → Given t s y r at end
+given-on g k a b = given-part g k (g .typed) a b
+
+pub walked-if : {t : Table} {s z x : List ℕ} {d r p j : ℕ} {g : Got} → Alike z x 0 j → (0 < g .next → Walked t s z x d r p j g) → Walked t s z x d r p j g
+walked-if f k = record { kept = f; taken = λ h. k h .taken h }

@@ -1,12 +1,13 @@
 -- What the walk over the text is given, and what a success of it says.
-use Prim.Native.Nat.{ℕ, _+_, _≤_, _<_}
+use Prim.Native.Nat.{ℕ, _+_, _-_, _≤_, _<_}
 use mathlib.Core.Path.{_≡_}
 use mathlib.Core.Bool.{true, false, _&&_}
 use mathlib.Core.Option.{none, some}
 use mathlib.Core.List.{List}
+use lib.Count.{ones}
 use lib.ListN.{length, getD, set}
 use Rattle.json.specs.Tree.{Json}
-use Rattle.jer.specs.Table.{Table, isType, extensible, position, countOf, typeAt}
+use Rattle.jer.specs.Table.{Table, isType, extensible, position, countOf, typeAt, mayMiss}
 use Rattle.jer.specs.Value.{Leaf, Val, vLeaf}
 use Rattle.jer.specs.Answer.{ok, bind}
 use Rattle.jer.specs.Read.{read, readWhole, null?, nullAbsent}
@@ -17,9 +18,9 @@ use Rattle.places.specs.ByPlaces.{bitOf, withBit}
 use Rattle.quick.specs.declared.Got.{Got}
 use Rattle.quick.specs.declared.bare.Words as declared-leaf
 use Rattle.quick.specs.declared.name.Name as declared-name
-use Rattle.quick.specs.declared.walk.Step as declared-step
+use Rattle.quick.specs.declared.step.Step as declared-step
 use Rattle.quick.specs.Stood.{Spaces, TreeAt, Stood, NameAt}
-use Rattle.quick.specs.Tape.{Alike, Words, Stands}
+use Rattle.quick.specs.Tape.{Alike, headed, Words, Stands}
 
 -- a good table and a type's row, a text, a tape and a place in each within the sizes
 pub record Given (t : Table) (s z : List ℕ) (row place top : ℕ) : Type 0 where
@@ -63,6 +64,16 @@ pub record Walked (t : Table) (s z₀ z₁ : List ℕ) (d r p j : ℕ) (g : Got)
 abbrev pub Headed : ℕ → ℕ → ℕ → ℕ → Got → Type 0
 Headed n pool end next g = (g .next ≡ next) × (g .tape ≡ end) × (g .rows ≡ n + 1) × (g .pool ≡ pool)
 
+-- what closing a SEQUENCE is given: no more members present than there are, and their rows can be counted
+abbrev pub Shuts : Table → ℕ → ℕ → ℕ → Type 0
+Shuts t r present n = (countOf t r ≤ 64) × (ones present ≤ countOf t r) × (n + countOf t r ≤ 1048576)
+
+-- a SEQUENCE is closed: of its members every one that was not met may be missing; its header counts those present, and a row for each other one
+pub record Shut (t : Table) (r : ℕ) (z₀ z₁ : List ℕ) (j met present n pool end next : ℕ) (g : Got) : Type 0 where
+  pub complete : (i : ℕ) → i < countOf t r → bitOf met i ≡ false → mayMiss t r i ≡ true
+  pub tape : z₁ ≡ headed z₀ j (ones present) (n + (countOf t r - ones present) + 1) end
+  pub answer : Headed (n + (countOf t r - ones present)) pool end next g
+
 -- the whole text was taken: it is JSON, it reads as the value by the table's row 0, and the tape stands for it
 pub record Whole (t : Table) (s z : List ℕ) (g : Got) : Type 0 where
   pub value : Val
@@ -100,3 +111,12 @@ pub data Met (t : Table) (s z₀ z₁ : List ℕ) (d r p top end met present : �
       → z₁ ≡ z₀ → g .tape ≡ end → g .rows ≡ 0 → g .pool ≡ 0 → g .met ≡ withBit met i → g .present ≡ present → Met t s z₀ z₁ d r p top end met present g
   passed : {name : List ℕ} {tree : Json} → MemberAt s d p (g .next) name tree → position t r name ≡ none → extensible t r ≡ true
       → z₁ ≡ z₀ → g .tape ≡ end → g .rows ≡ 0 → g .pool ≡ 0 → g .met ≡ met → g .present ≡ present → Met t s z₀ z₁ d r p top end met present g
+
+-- what reading a member does: it keeps the tape before the links; a place that is not 0 says that it was taken, with numbers like those of a value
+pub record Stepped (t : Table) (s z₀ z₁ : List ℕ) (d r p top end met present : ℕ) (g : declared-step.Step) : Type 0 where
+  pub how : Met t s z₀ z₁ d r p top end met present g
+  pub ahead : p < g .next
+  pub placed : g .next ≤ length s
+  pub words : end + g .rows ≤ g .tape
+  pub inside : g .tape ≤ length z₁
+  pub few : p + g .pool ≤ g .next

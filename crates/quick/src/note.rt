@@ -1,14 +1,18 @@
 // Words noted on the tape.
 use crate::Got;
 use crate::bare::leaf;
+use crate::member::complete;
+use scan::met::ones;
+use types::row::count_of;
 use types::row::wide;
 ghost use mathlib.Core.Path.{_≡_};
 ghost use mathlib.Core.List.{List};
-ghost use Prim.Native.Nat.{ℕ, _+_, _≤_, _<_};
+ghost use Prim.Native.Nat.{ℕ, _+_, _-_, _≤_, _<_};
+ghost use lib.Count.{ones};
 ghost use lib.ListN.{length, getD};
-ghost use Rattle.jer.specs.Table.{table};
+ghost use Rattle.jer.specs.Table.{countOf, table};
 ghost use Rattle.quick.specs.Tape.{Alike, headed};
-ghost use Rattle.quick.specs.Taken.{Headed, Given, Walked};
+ghost use Rattle.quick.specs.Taken.{Headed, Given, Walked, Shuts, Shut};
 
 pub fn other() -> Got
     ensures { λ r. ⌜ r .next ≡ 0 ⌝ }
@@ -66,4 +70,18 @@ pub fn clear(tape: &mut [u32], from: usize, count: u32)
         tape[from + wide(k)] = 0;
         k += 1;
     }
+}
+
+// The header at `top` of a SEQUENCE, if every member that was not met may be missing; n rows are those of the members present.
+pub fn shut(types: &[u32], tape: &mut [u32], row: usize, top: usize, met: u64, present: u64, n: usize, pool: usize, end: usize, next: usize) -> Got
+    requires { ⌜ ((ns : List ℕ) → Shuts (table (now types) ns) row present n) × (top + 3 ≤ length (now tape)) × (end ≤ 1048576) ⌝ }
+    ensures { λ r. ⌜ Alike (now (tape .entry)) (now (tape .exit)) 0 top ⌝ }
+    ensures { λ r. ⌜ (0 < r .next → (ns : List ℕ) → Shut (table (now (types .entry)) ns) row (now (tape .entry)) (now (tape .exit)) top met present n pool end next r) ⌝ }
+{
+    if !complete(types, row, met) {
+        return other();
+    }
+    let a = ones(present);
+    let absent = count_of(types, row) - a;
+    head(tape, top, a, n + wide(absent), pool, end, next)
 }

@@ -1,28 +1,33 @@
 // The walk over the text, which notes the value on the tape. `depth` brackets may be open in a value.
 use crate::Got;
+use crate::member::absent_at;
+use crate::member::null_end;
+use crate::name::name_at;
 use crate::name::space;
+use crate::note::clear;
 use crate::note::head;
 use crate::note::note;
 use crate::note::other;
+use crate::note::shut;
+use crate::step::Step;
+use crate::step::gave;
+use crate::step::no_step;
+use scan::met::bit;
+use scan::met::with;
 use tokens::cursor::byte_at;
 use types::row::Row;
+use types::row::count_of;
 use types::row::element_of;
 use types::row::kind_of;
+use types::row::type_at;
+use types::row::wide;
 ghost use mathlib.Core.Path.{_≡_};
 ghost use Prim.Native.Nat.{_+_, _-_, _≤_, _<_};
 ghost use lib.ListN.{length};
-ghost use Rattle.jer.specs.Table.{kindOf, SEQUENCE-OF, table};
-ghost use Rattle.quick.specs.Taken.{Given, Walked};
-
-// What a member gives: the place after it, or 0; the tape's end; its rows and pool bytes; and the members met, and those present, with it.
-pub struct Step {
-    pub next: usize,
-    pub tape: usize,
-    pub rows: usize,
-    pub pool: usize,
-    pub met: u64,
-    pub present: u64,
-}
+ghost use mathlib.Core.Bool.{false};
+ghost use Rattle.jer.specs.Table.{kindOf, isArray, countOf, SEQUENCE, SEQUENCE-OF, table};
+ghost use Rattle.quick.specs.Tape.{Alike};
+ghost use Rattle.quick.specs.Taken.{Given, Walked, Stepped};
 
 // The value of the type at `row` from the place on, noted on the tape from `top` on.
 pub fn value(types: &[u32], names: &[u8], s: &[u8], tape: &mut [u32], row: usize, place: usize, top: usize, depth: u32) -> Got
@@ -41,6 +46,12 @@ pub fn value(types: &[u32], names: &[u8], s: &[u8], tape: &mut [u32], row: usize
     }
     if kind == Row::SEQUENCE_OF {
         return list(types, names, s, tape, row, place, top, depth - 1);
+    }
+    if kind == Row::SEQUENCE {
+        if Row::at(types, row).is_array() {
+            return other();
+        }
+        return object(types, names, s, tape, row, place, top, depth - 1);
     }
     other()
 }
@@ -85,4 +96,79 @@ fn list(types: &[u32], names: &[u8], s: &[u8], tape: &mut [u32], row: usize, pla
         n += g.rows;
         m += g.pool;
     }
+}
+
+// SEQUENCE as an object; `depth` brackets may be open in a member.
+fn object(types: &[u32], names: &[u8], s: &[u8], tape: &mut [u32], row: usize, place: usize, top: usize, depth: u32) -> Got
+    requires { ⌜ Given (table (now types) (now names)) (now s) (now tape) row place top ⌝ }
+    requires { ⌜ (kindOf (table (now types) (now names)) row ≡ SEQUENCE) × (isArray (table (now types) (now names)) row ≡ false) ⌝ }
+    ensures { λ r. ⌜ Walked (table (now (types .entry)) (now (names .entry))) (now (s .entry)) (now (tape .entry)) (now (tape .exit)) (depth + 1) row place top r ⌝ }
+{
+    if byte_at(s, place) != 0x7B {
+        return other();
+    }
+    let count = count_of(types, row);
+    let mut end = top + 3 + wide(count);
+    if tape.len() < end {
+        return other();
+    }
+    clear(tape, top + 3, count);
+    let mut at = space(s, place + 1);
+    if byte_at(s, at) == 0x7D {
+        return shut(types, tape, row, top, 0, 0, 0, 0, end, at + 1);
+    }
+    let mut met: u64 = 0;
+    let mut present: u64 = 0;
+    let mut n: usize = 0;
+    let mut m: usize = 0;
+    loop {
+        let g = member(types, names, s, tape, row, at, top, end, met, present, depth);
+        if g.next == 0 {
+            return other();
+        }
+        let c = space(s, g.next);
+        let b = byte_at(s, c);
+        if b == 0x7D {
+            return shut(types, tape, row, top, g.met, g.present, n + g.rows, m + g.pool, g.tape, c + 1);
+        }
+        if b != 0x2C {
+            return other();
+        }
+        at = space(s, c + 1);
+        end = g.tape;
+        met = g.met;
+        present = g.present;
+        n += g.rows;
+        m += g.pool;
+    }
+}
+
+// The member whose name stands at the place, of the object whose header is at `top`: its value is noted from `end` on, and linked.
+fn member(types: &[u32], names: &[u8], s: &[u8], tape: &mut [u32], row: usize, place: usize, top: usize, end: usize, met: u64, present: u64, depth: u32) -> Step
+    requires { ⌜ Given (table (now types) (now names)) (now s) (now tape) row place end ⌝ }
+    requires { ⌜ (top + 3 + countOf (table (now types) (now names)) row ≤ end) × (end ≤ length (now tape)) ⌝ }
+    ensures { λ r. ⌜ Alike (now (tape .entry)) (now (tape .exit)) 0 (top + 3) ⌝ }
+    ensures { λ r. ⌜ (0 < r .next → Stepped (table (now (types .entry)) (now (names .entry))) (now (s .entry)) (now (tape .entry)) (now (tape .exit)) depth row place top end met present r) ⌝ }
+{
+    let name = name_at(types, names, s, row, place);
+    if name.next == 0 {
+        return no_step();
+    }
+    let k = name.position;
+    if count_of(types, row) <= k {
+        return no_step();
+    }
+    if bit(met, k) {
+        return no_step();
+    }
+    let at = space(s, name.next);
+    if absent_at(types, s, row, k, at) {
+        return gave(null_end(s, at), end, 0, 0, with(met, k), present);
+    }
+    let g = value(types, names, s, tape, type_at(types, row, k), at, end, depth);
+    if g.next == 0 {
+        return no_step();
+    }
+    tape[top + 3 + wide(k)] = end as u32;
+    gave(g.next, g.tape, g.rows, g.pool, with(met, k), with(present, k))
 }

@@ -1,0 +1,918 @@
+-- Made by tools/answers.py from answers/walk/+list+member+object+value.ans: edit that. d5f312ecfa825ad7
+use Prim.Native.Nat.{ℕ, _<_, _≤_, _+_, _-_, _*_}
+use mathlib.Core.Path.{_≡_, refl, sym, ap, _∙_}
+use native.Mathlib.Omega.{arith}
+use lib.ListN.{length}
+use Rattle.jer.specs.Table.{table}
+use mathlib.Core.List.{[]}
+use lib.ListN.{length-set}
+use Rattle.quick.proofs.TapeLaws.{alike-part}
+use Rattle.quick.proofs.WalkLaws.{alike-same, alike-then, not-taken, not-here, at-depth, mark-inside, given-part, given-on, walked-from, walked-if}
+use Rattle.quick.proofs.StepLaws.{member-given, step-null, step-value, link-kept, known-at, links-at, cleared-below}
+use Rattle.quick.proofs.ObjectingLaws.{Objecting, objecting-start, objecting-more, objecting-last, objecting-after, shuts-any, shuts-none, shuts-after, object-none}
+use Rattle.quick.proofs.ListingLaws.{Listing, listing-start, listing-bounds, listing-kept, listing-more, listing-last, list-none}
+use borrow.Author.Needs.{needs}
+use borrow.Fn.Kinds.{In}
+use borrow.Fn.PlainCycle.{Measures, is, falls, and}
+use Rattle.quick.proofs.walk.list.Reads as list
+use Rattle.quick.proofs.walk.list.Kinds as list-kinds
+use Rattle.quick.proofs.walk.+list+member+object+value.Lts-list as list-lts
+use Rattle.quick.proofs.walk.member.Reads as member
+use Rattle.quick.proofs.walk.member.Kinds as member-kinds
+use Rattle.quick.proofs.walk.+list+member+object+value.Lts-member as member-lts
+use Rattle.quick.proofs.walk.object.Reads as object
+use Rattle.quick.proofs.walk.object.Kinds as object-kinds
+use Rattle.quick.proofs.walk.+list+member+object+value.Lts-object as object-lts
+use Rattle.quick.proofs.walk.value.Reads as value
+use Rattle.quick.proofs.walk.value.Kinds as value-kinds
+use Rattle.quick.proofs.walk.+list+member+object+value.Lts-value as value-lts
+use Rattle.quick.proofs.member.absent_at.Reads as absent-at-reads
+use Rattle.quick.proofs.member.null_end.Reads as null-end-reads
+use Rattle.quick.proofs.name.name_at.Reads as name-at-reads
+use Rattle.quick.proofs.name.space.Reads as space-reads
+use Rattle.quick.proofs.note.clear.Reads as clear-reads
+use Rattle.quick.proofs.note.head.Reads as head-reads
+use Rattle.quick.proofs.note.note.Reads as note-reads
+use Rattle.quick.proofs.note.other.Reads as other-reads
+use Rattle.quick.proofs.note.shut.Reads as shut-reads
+use Rattle.quick.proofs.step.gave.Reads as gave-reads
+use Rattle.quick.proofs.step.no_step.Reads as no-step-reads
+use Rattle.scan.proofs.met.bit.Reads as bit-reads
+use Rattle.scan.proofs.met.with.Reads as with-reads
+use Rattle.tokens.proofs.cursor.byte_at.Reads as byte-at-reads
+use Rattle.types.proofs.row.Row.at.Reads as at-reads
+use Rattle.types.proofs.row.Row.is_array.Reads as is-array-reads
+use Rattle.types.proofs.row.count_of.Reads as count-of-reads
+use Rattle.types.proofs.row.element_of.Reads as element-of-reads
+use Rattle.types.proofs.row.kind_of.Reads as kind-of-reads
+use Rattle.types.proofs.row.type_at.Reads as type-at-reads
+use Rattle.types.proofs.row.wide.Reads as wide-reads
+use Rattle.quick.proofs.walk.+list+member+object+value.{statement}
+use Rattle.quick.proofs.walk.+list+member+object+value.Tie.{close}
+
+abbrev μ-list : Measures 4 list-kinds.ps ℕ
+μ-list κs a = a .1 .1 .1 .1 .1 .1 .1 .0 * 4 + 5
+
+abbrev μ-member : Measures 4 member-kinds.ps ℕ
+μ-member κs a = a .1 .1 .1 .1 .1 .1 .1 .1 .1 .1 .0 * 4 + 4
+
+abbrev μ-object : Measures 4 object-kinds.ps ℕ
+μ-object κs a = a .1 .1 .1 .1 .1 .1 .1 .0 * 4 + 5
+
+abbrev μ-value : Measures 4 value-kinds.ps ℕ
+μ-value κs a = a .1 .1 .1 .1 .1 .1 .1 .0 * 4 + 3
+
+abbrev list-at : ℕ → In 4 list-kinds.ps
+list-at t = and 4 list-kinds.ps (is 4 list-kinds.ps μ-list t) list.Pre
+
+abbrev list-below : ℕ → In 4 list-kinds.ps
+list-below t = and 4 list-kinds.ps (falls 4 list-kinds.ps _<_ μ-list t) list.Pre
+
+abbrev member-at : ℕ → In 4 member-kinds.ps
+member-at t = and 4 member-kinds.ps (is 4 member-kinds.ps μ-member t) member.Pre
+
+abbrev member-below : ℕ → In 4 member-kinds.ps
+member-below t = and 4 member-kinds.ps (falls 4 member-kinds.ps _<_ μ-member t) member.Pre
+
+abbrev object-at : ℕ → In 4 object-kinds.ps
+object-at t = and 4 object-kinds.ps (is 4 object-kinds.ps μ-object t) object.Pre
+
+abbrev object-below : ℕ → In 4 object-kinds.ps
+object-below t = and 4 object-kinds.ps (falls 4 object-kinds.ps _<_ μ-object t) object.Pre
+
+abbrev value-at : ℕ → In 4 value-kinds.ps
+value-at t = and 4 value-kinds.ps (is 4 value-kinds.ps μ-value t) value.Pre
+
+abbrev value-below : ℕ → In 4 value-kinds.ps
+value-below t = and 4 value-kinds.ps (falls 4 value-kinds.ps _<_ μ-value t) value.Pre
+
+abbrev list-calls : ℕ → list-lts.Claims
+list-calls t = (byte-at-reads.Asked, byte-at-reads.Learnt, other-reads.Asked, other-reads.Learnt, element-of-reads.Asked, element-of-reads.Learnt, space-reads.Asked, space-reads.Learnt, head-reads.Asked, head-reads.Learnt, value-below t, value.Post)
+
+abbrev member-calls : ℕ → member-lts.Claims
+member-calls t = (name-at-reads.Asked, name-at-reads.Learnt, no-step-reads.Asked, no-step-reads.Learnt, count-of-reads.Asked, count-of-reads.Learnt, bit-reads.Asked, bit-reads.Learnt, space-reads.Asked, space-reads.Learnt, absent-at-reads.Asked, absent-at-reads.Learnt, null-end-reads.Asked, null-end-reads.Learnt, with-reads.Asked, with-reads.Learnt, gave-reads.Asked, gave-reads.Learnt, type-at-reads.Asked, type-at-reads.Learnt, value-below t, value.Post, wide-reads.Asked, wide-reads.Learnt)
+
+abbrev object-calls : ℕ → object-lts.Claims
+object-calls t = (byte-at-reads.Asked, byte-at-reads.Learnt, other-reads.Asked, other-reads.Learnt, count-of-reads.Asked, count-of-reads.Learnt, wide-reads.Asked, wide-reads.Learnt, clear-reads.Asked, clear-reads.Learnt, space-reads.Asked, space-reads.Learnt, shut-reads.Asked, shut-reads.Learnt, member-below t, member.Post)
+
+abbrev value-calls : ℕ → value-lts.Claims
+value-calls t = (kind-of-reads.Asked, kind-of-reads.Learnt, note-reads.Asked, note-reads.Learnt, other-reads.Asked, other-reads.Learnt, list-below t, list.Post, at-reads.Asked, at-reads.Learnt, is-array-reads.Asked, is-array-reads.Learnt, object-below t, object.Post)
+
+abbrev list-Inv-loop : list-lts.InvT-loop
+list-Inv-loop types names s tape₀ row place top depth element at₀ end₀ count₀ n₀ m₀ tape at end count n m = Listing (table types names) s tape₀ tape depth row place top at end count n m
+
+abbrev list-μ-loop : list-lts.MeasureT-loop
+list-μ-loop types names s tape₀ row place top depth element at₀ end₀ count₀ n₀ m₀ tape at end count n m = 65537 - at
+
+list-byte-at-requires : (t : ℕ) → list-lts.Need-byte-at-requires (list-calls t) (list-at t) list.Post list-Inv-loop list-μ-loop
+list-byte-at-requires t c κs = search needs
+
+list-other-requires : (t : ℕ) → list-lts.Need-other-requires (list-calls t) (list-at t) list.Post list-Inv-loop list-μ-loop
+list-other-requires t c κs = search needs
+
+list-returns : (t : ℕ) → list-lts.Need-returns (list-calls t) (list-at t) list.Post list-Inv-loop list-μ-loop
+list-returns t c =
+    let t = table (c .before .before .before .before .before .before .before .args .types .now) (c .before .before .before .before .before .before .before .args .names .now) in
+    let s = c .before .before .before .before .before .before .before .args .s .now in
+    let row = c .before .before .before .before .before .before .before .args .row in
+    let place = c .before .before .before .before .before .before .before .args .place in
+    let top = c .before .before .before .before .before .before .before .args .top in
+    not-here t s (c .before .before .before .before .before .before .before .args .tape .now) (c .before .before .before .before .before .before .before .args .depth + 1) row place top _ (c .other .ensures)
+
+list-element-of-requires : (t : ℕ) → list-lts.Need-element-of-requires (list-calls t) (list-at t) list.Post list-Inv-loop list-μ-loop
+list-element-of-requires t c κs = search needs
+
+list-add-space : (t : ℕ) → list-lts.Need-add-space (list-calls t) (list-at t) list.Post list-Inv-loop list-μ-loop
+list-add-space t c = search needs
+
+list-space-requires : (t : ℕ) → list-lts.Need-space-requires (list-calls t) (list-at t) list.Post list-Inv-loop list-μ-loop
+list-space-requires t c κs = search needs
+
+list-byte-at-requires-2 : (t : ℕ) → list-lts.Need-byte-at-requires-2 (list-calls t) (list-at t) list.Post list-Inv-loop list-μ-loop
+list-byte-at-requires-2 t c κs = search needs
+
+list-add-head : (t : ℕ) → list-lts.Need-add-head (list-calls t) (list-at t) list.Post list-Inv-loop list-μ-loop
+list-add-head t c = search needs
+
+list-add-head-2 : (t : ℕ) → list-lts.Need-add-head-2 (list-calls t) (list-at t) list.Post list-Inv-loop list-μ-loop
+list-add-head-2 t c =
+    let mark = mark-inside (c .before .before .before .before .before .before .before .before .before .before .before .args .s .now) (c .before .before .before .space .result) (c .before .before .byte-at2 .result) 0x5D (c .before .before .byte-at2 .ensures .0) (c .before .if2 .taken) (omega arith) in
+    omega (arith, mark, c .before .before .before .before .before .before .before .before .before .before .before .pre .1 .0)
+
+list-head-requires : (t : ℕ) → list-lts.Need-head-requires (list-calls t) (list-at t) list.Post list-Inv-loop list-μ-loop
+list-head-requires t c κs = search needs
+
+list-same-length : (t : ℕ) → list-lts.Need-same-length (list-calls t) (list-at t) list.Post list-Inv-loop list-μ-loop
+list-same-length t c = search needs
+
+list-returns-2 : (t : ℕ) → list-lts.Need-returns-2 (list-calls t) (list-at t) list.Post list-Inv-loop list-μ-loop
+list-returns-2 t c =
+    let t = table (c .before .before .before .before .before .before .before .before .before .before .before .before .before .before .args .types .now) (c .before .before .before .before .before .before .before .before .before .before .before .before .before .before .args .names .now) in
+    let s = c .before .before .before .before .before .before .before .before .before .before .before .before .before .before .args .s .now in
+    let row = c .before .before .before .before .before .before .before .before .before .before .before .before .before .before .args .row in
+    let place = c .before .before .before .before .before .before .before .before .before .before .before .before .before .before .args .place in
+    let top = c .before .before .before .before .before .before .before .before .before .before .before .before .before .before .args .top in
+    list-none t s (c .before .before .before .before .before .before .before .before .before .before .before .before .before .before .args .tape .now) _ (c .before .before .before .before .before .before .before .before .before .before .before .before .before .before .args .depth) row place top (c .before .before .before .before .before .before .space .result) (c .before .before .before .before .before .byte-at2 .result) (c .before .before .before .before .before .before .before .before .before .byte-at .result) _ (c .before .before .before .before .before .before .before .before .before .before .before .before .before .before .pre .1 .1 .1) (c .before .before .before .before .before .before .before .before .before .before .before .before .before .before .pre .1 .1 .0) (c .before .before .before .before .before .before .before .before .before .byte-at .ensures .0) (c .before .before .before .before .before .before .before .before .if1 .left) (c .before .before .before .before .before .before .space .ensures .0) (c .before .before .before .before .before .before .space .ensures .1) (c .before .before .before .before .before .byte-at2 .ensures .0) (c .before .before .before .before .if2 .taken) (c .before .before .head .ensures .0) (c .before .before .head .ensures .1)
+
+list-add-end : (t : ℕ) → list-lts.Need-add-end (list-calls t) (list-at t) list.Post list-Inv-loop list-μ-loop
+list-add-end t c = search needs
+
+list-loop-holds : (t : ℕ) → list-lts.Need-loop-holds (list-calls t) (list-at t) list.Post list-Inv-loop list-μ-loop
+list-loop-holds t c =
+    let t = table (c .before .before .before .before .before .before .before .before .before .before .args .types .now) (c .before .before .before .before .before .before .before .before .before .before .args .names .now) in
+    let s = c .before .before .before .before .before .before .before .before .before .before .args .s .now in
+    let row = c .before .before .before .before .before .before .before .before .before .before .args .row in
+    let place = c .before .before .before .before .before .before .before .before .before .before .args .place in
+    let top = c .before .before .before .before .before .before .before .before .before .before .args .top in
+    listing-start t s (c .before .before .before .before .before .before .before .before .before .before .args .tape .now) (c .before .before .before .before .before .before .before .before .before .before .args .depth) row place top (c .before .before .space .result) (c .before .before .space .ensures .0) (c .before .before .space .ensures .1) (c .before .before .before .before .before .before .before .before .before .before .pre .1 .1 .0)
+
+list-other-requires-2 : (t : ℕ) → list-lts.Need-other-requires-2 (list-calls t) (list-at t) list.Post list-Inv-loop list-μ-loop
+list-other-requires-2 t c κs = search needs
+
+list-same-length-2 : (t : ℕ) → list-lts.Need-same-length-2 (list-calls t) (list-at t) list.Post list-Inv-loop list-μ-loop
+list-same-length-2 t c = search needs
+
+list-returns-3 : (t : ℕ) → list-lts.Need-returns-3 (list-calls t) (list-at t) list.Post list-Inv-loop list-μ-loop
+list-returns-3 t c =
+    let t = table (c .before .before .before .before .before .before .before .before .before .before .before .before .before .args .types .now) (c .before .before .before .before .before .before .before .before .before .before .before .before .before .args .names .now) in
+    let s = c .before .before .before .before .before .before .before .before .before .before .before .before .before .args .s .now in
+    let row = c .before .before .before .before .before .before .before .before .before .before .before .before .before .args .row in
+    let place = c .before .before .before .before .before .before .before .before .before .before .before .before .before .args .place in
+    let top = c .before .before .before .before .before .before .before .before .before .before .before .before .before .args .top in
+    not-taken t s (c .before .before .before .before .before .before .before .before .before .before .before .before .before .args .tape .now) _ (c .before .before .before .before .before .before .before .before .before .before .before .before .before .args .depth + 1) row place top _ (c .before .before .loop .inv .kept) (c .other2 .ensures)
+
+list-value-requires : (t : ℕ) → list-lts.Need-value-requires (list-calls t) (list-at t) list.Post list-Inv-loop list-μ-loop
+list-value-requires t c κs =
+    let names = c .before .before .before .before .before .before .before .before .before .before .before .before .before .args .names .now in
+    let row = c .before .before .before .before .before .before .before .before .before .before .before .before .before .args .row in
+    (omega arith, given-part (c .before .before .before .before .before .before .before .before .before .before .before .before .before .pre .1 .0) (c .before .before .loop .inv .same) (rw (c .before .before .before .before .before .before .element-of .ensures names) ((c .before .before .before .before .before .before .before .before .before .before .before .before .before .pre .1 .0) .sane .element row (c .before .before .before .before .before .before .before .before .before .before .before .before .before .pre .1 .1 .1))) (omega (arith, c .before .if3 .left)) (c .before .before .loop .inv .inside))
+
+list-other-requires-3 : (t : ℕ) → list-lts.Need-other-requires-3 (list-calls t) (list-at t) list.Post list-Inv-loop list-μ-loop
+list-other-requires-3 t c κs = search needs
+
+list-same-length-3 : (t : ℕ) → list-lts.Need-same-length-3 (list-calls t) (list-at t) list.Post list-Inv-loop list-μ-loop
+list-same-length-3 t c = search needs
+
+list-returns-4 : (t : ℕ) → list-lts.Need-returns-4 (list-calls t) (list-at t) list.Post list-Inv-loop list-μ-loop
+list-returns-4 t c =
+    let names = c .before .before .before .before .before .before .before .before .before .before .before .before .before .before .before .before .before .before .before .args .names .now in
+    let t = table (c .before .before .before .before .before .before .before .before .before .before .before .before .before .before .before .before .before .before .before .args .types .now) (c .before .before .before .before .before .before .before .before .before .before .before .before .before .before .before .before .before .before .before .args .names .now) in
+    let s = c .before .before .before .before .before .before .before .before .before .before .before .before .before .before .before .before .before .before .before .args .s .now in
+    let row = c .before .before .before .before .before .before .before .before .before .before .before .before .before .before .before .before .before .before .before .args .row in
+    let place = c .before .before .before .before .before .before .before .before .before .before .before .before .before .before .before .before .before .before .before .args .place in
+    let top = c .before .before .before .before .before .before .before .before .before .before .before .before .before .before .before .before .before .before .before .args .top in
+    let kept = listing-kept (c .before .before .before .before .before .before .before .before .loop .inv) (c .before .before .before .before .before .before .before .before .before .before .before .before .element-of .ensures names) (c .before .before .before .before .before .value .ensures) in
+    not-taken t s (c .before .before .before .before .before .before .before .before .before .before .before .before .before .before .before .before .before .before .before .args .tape .now) _ (c .before .before .before .before .before .before .before .before .before .before .before .before .before .before .before .before .before .before .before .args .depth + 1) row place top _ kept (c .other3 .ensures)
+
+list-space-requires-2 : (t : ℕ) → list-lts.Need-space-requires-2 (list-calls t) (list-at t) list.Post list-Inv-loop list-μ-loop
+list-space-requires-2 t c κs =
+    let names = c .before .before .before .before .before .before .before .before .before .before .before .before .before .before .before .before .before .before .args .names .now in
+    let numbers = listing-bounds (c .before .before .before .before .before .before .before .loop .inv) (c .before .before .before .before .before .before .before .before .before .before .before .element-of .ensures names) (c .before .before .before .before .value .ensures) (c .if4 .left) (c .before .before .before .before .value .kept .1 .1 .1 .0) in
+    omega (arith, numbers, (c .before .before .before .before .before .before .before .before .before .before .before .before .before .before .before .before .before .before .pre .1 .0) .short)
+
+list-byte-at-requires-3 : (t : ℕ) → list-lts.Need-byte-at-requires-3 (list-calls t) (list-at t) list.Post list-Inv-loop list-μ-loop
+list-byte-at-requires-3 t c κs = search needs
+
+list-add-head-3 : (t : ℕ) → list-lts.Need-add-head-3 (list-calls t) (list-at t) list.Post list-Inv-loop list-μ-loop
+list-add-head-3 t c =
+    let names = c .before .before .before .before .before .before .before .before .before .before .before .before .before .before .before .before .before .before .before .before .before .before .args .names .now in
+    let numbers = listing-bounds (c .before .before .before .before .before .before .before .before .before .before .before .loop .inv) (c .before .before .before .before .before .before .before .before .before .before .before .before .before .before .before .element-of .ensures names) (c .before .before .before .before .before .before .before .before .value .ensures) (c .before .before .before .before .if4 .left) (c .before .before .before .before .before .before .before .before .value .kept .1 .1 .1 .0) in
+    omega (arith, numbers, c .before .before .before .before .before .before .before .before .before .before .before .loop .inv .each, c .before .before .before .before .before .before .before .before .before .before .before .loop .inv .inside, c .before .before .before .before .before .before .before .before .before .before .before .loop .inv .same, (c .before .before .before .before .before .before .before .before .before .before .before .before .before .before .before .before .before .before .before .before .before .before .pre .1 .0) .room)
+
+list-add-head-4 : (t : ℕ) → list-lts.Need-add-head-4 (list-calls t) (list-at t) list.Post list-Inv-loop list-μ-loop
+list-add-head-4 t c =
+    let names = c .before .before .before .before .before .before .before .before .before .before .before .before .before .before .before .before .before .before .before .before .before .before .before .args .names .now in
+    let numbers = listing-bounds (c .before .before .before .before .before .before .before .before .before .before .before .before .loop .inv) (c .before .before .before .before .before .before .before .before .before .before .before .before .before .before .before .before .element-of .ensures names) (c .before .before .before .before .before .before .before .before .before .value .ensures) (c .before .before .before .before .before .if4 .left) (c .before .before .before .before .before .before .before .before .before .value .kept .1 .1 .1 .0) in
+    omega (arith, numbers, c .before .before .before .before .before .before .before .before .before .before .before .before .loop .inv .words, (c .before .before .before .before .before .before .before .before .before .before .before .before .before .before .before .before .before .before .before .before .before .before .before .pre .1 .0) .room)
+
+list-add-head-5 : (t : ℕ) → list-lts.Need-add-head-5 (list-calls t) (list-at t) list.Post list-Inv-loop list-μ-loop
+list-add-head-5 t c =
+    let names = c .before .before .before .before .before .before .before .before .before .before .before .before .before .before .before .before .before .before .before .before .before .before .before .before .args .names .now in
+    let numbers = listing-bounds (c .before .before .before .before .before .before .before .before .before .before .before .before .before .loop .inv) (c .before .before .before .before .before .before .before .before .before .before .before .before .before .before .before .before .before .element-of .ensures names) (c .before .before .before .before .before .before .before .before .before .before .value .ensures) (c .before .before .before .before .before .before .if4 .left) (c .before .before .before .before .before .before .before .before .before .before .value .kept .1 .1 .1 .0) in
+    omega (arith, numbers, c .before .before .before .before .before .before .before .before .before .before .before .before .before .loop .inv .few, (c .before .before .before .before .before .before .before .before .before .before .before .before .before .before .before .before .before .before .before .before .before .before .before .before .pre .1 .0) .short)
+
+list-add-head-6 : (t : ℕ) → list-lts.Need-add-head-6 (list-calls t) (list-at t) list.Post list-Inv-loop list-μ-loop
+list-add-head-6 t c =
+    let mark = mark-inside (c .before .before .before .before .before .before .before .before .before .before .before .before .before .before .before .before .before .before .before .before .before .before .before .before .args .s .now) (c .before .before .before .before .before .space2 .result) (c .before .before .before .before .byte-at3 .result) 0x5D (c .before .before .before .before .byte-at3 .ensures .0) (c .before .before .before .if5 .taken) (omega arith) in
+    omega (arith, mark, (c .before .before .before .before .before .before .before .before .before .before .before .before .before .before .before .before .before .before .before .before .before .before .before .before .pre .1 .0) .short)
+
+list-head-requires-2 : (t : ℕ) → list-lts.Need-head-requires-2 (list-calls t) (list-at t) list.Post list-Inv-loop list-μ-loop
+list-head-requires-2 t c κs =
+    let names = c .before .before .before .before .before .before .before .before .before .before .before .before .before .before .before .before .before .before .before .before .before .before .before .before .args .names .now in
+    let numbers = listing-bounds (c .before .before .before .before .before .before .before .before .before .before .before .before .before .loop .inv) (c .before .before .before .before .before .before .before .before .before .before .before .before .before .before .before .before .before .element-of .ensures names) (c .before .before .before .before .before .before .before .before .before .before .value .ensures) (c .before .before .before .before .before .before .if4 .left) (c .before .before .before .before .before .before .before .before .before .before .value .kept .1 .1 .1 .0) in
+    omega (arith, numbers, c .before .before .before .before .before .before .before .before .before .before .before .before .before .loop .inv .words, c .before .before .before .before .before .before .before .before .before .before .before .before .before .loop .inv .start, c .before .before .before .before .before .before .before .before .before .before .before .before .before .loop .inv .same, c .before .before .before .before .before .before .before .before .before .before .before .before .before .loop .inv .inside, c .before .before .before .before .before .before .before .before .before .before .value .kept .1 .1 .1 .0, (c .before .before .before .before .before .before .before .before .before .before .before .before .before .before .before .before .before .before .before .before .before .before .before .before .pre .1 .0) .room)
+
+list-same-length-4 : (t : ℕ) → list-lts.Need-same-length-4 (list-calls t) (list-at t) list.Post list-Inv-loop list-μ-loop
+list-same-length-4 t c = search needs
+
+list-returns-5 : (t : ℕ) → list-lts.Need-returns-5 (list-calls t) (list-at t) list.Post list-Inv-loop list-μ-loop
+list-returns-5 t c =
+    let names = c .before .before .before .before .before .before .before .before .before .before .before .before .before .before .before .before .before .before .before .before .before .before .before .before .before .before .before .args .names .now in
+    listing-last (c .before .before .before .before .before .before .before .before .before .before .before .before .before .before .before .before .loop .inv) (c .before .before .before .before .before .before .before .before .before .before .before .before .before .before .before .before .before .before .before .before .element-of .ensures names) (c .before .before .before .before .before .before .before .before .before .before .before .before .before .value .ensures) (c .before .before .before .before .before .before .before .before .before .if4 .left) (c .before .before .before .before .before .before .before .before .before .before .before .before .before .value .kept .1 .1 .1 .0) (c .before .before .before .before .before .before .before .before .space2 .ensures) (c .before .before .before .before .before .before .before .byte-at3 .ensures .0) (c .before .before .before .before .before .before .before .before .before .before .before .before .before .before .before .before .before .before .before .before .before .before .before .before .before .before .before .pre .1 .1 .1) (c .before .before .before .before .before .before .before .before .before .before .before .before .before .before .before .before .before .before .before .before .before .before .byte-at .ensures .0) (c .before .before .before .before .before .before .before .before .before .before .before .before .before .before .before .before .before .before .before .before .before .if1 .left) (c .before .before .before .before .before .before .if5 .taken) (c .before .before .head2 .ensures .0) (c .before .before .head2 .ensures .1)
+
+list-other-requires-4 : (t : ℕ) → list-lts.Need-other-requires-4 (list-calls t) (list-at t) list.Post list-Inv-loop list-μ-loop
+list-other-requires-4 t c κs = search needs
+
+list-same-length-5 : (t : ℕ) → list-lts.Need-same-length-5 (list-calls t) (list-at t) list.Post list-Inv-loop list-μ-loop
+list-same-length-5 t c = search needs
+
+list-returns-6 : (t : ℕ) → list-lts.Need-returns-6 (list-calls t) (list-at t) list.Post list-Inv-loop list-μ-loop
+list-returns-6 t c =
+    let names = c .before .before .before .before .before .before .before .before .before .before .before .before .before .before .before .before .before .before .before .before .before .before .before .args .names .now in
+    let t = table (c .before .before .before .before .before .before .before .before .before .before .before .before .before .before .before .before .before .before .before .before .before .before .before .args .types .now) (c .before .before .before .before .before .before .before .before .before .before .before .before .before .before .before .before .before .before .before .before .before .before .before .args .names .now) in
+    let s = c .before .before .before .before .before .before .before .before .before .before .before .before .before .before .before .before .before .before .before .before .before .before .before .args .s .now in
+    let row = c .before .before .before .before .before .before .before .before .before .before .before .before .before .before .before .before .before .before .before .before .before .before .before .args .row in
+    let place = c .before .before .before .before .before .before .before .before .before .before .before .before .before .before .before .before .before .before .before .before .before .before .before .args .place in
+    let top = c .before .before .before .before .before .before .before .before .before .before .before .before .before .before .before .before .before .before .before .before .before .before .before .args .top in
+    let kept = listing-kept (c .before .before .before .before .before .before .before .before .before .before .before .before .loop .inv) (c .before .before .before .before .before .before .before .before .before .before .before .before .before .before .before .before .element-of .ensures names) (c .before .before .before .before .before .before .before .before .before .value .ensures) in
+    not-taken t s (c .before .before .before .before .before .before .before .before .before .before .before .before .before .before .before .before .before .before .before .before .before .before .before .args .tape .now) _ (c .before .before .before .before .before .before .before .before .before .before .before .before .before .before .before .before .before .before .before .before .before .before .before .args .depth + 1) row place top _ kept (c .other4 .ensures)
+
+list-add-space-2 : (t : ℕ) → list-lts.Need-add-space-2 (list-calls t) (list-at t) list.Post list-Inv-loop list-μ-loop
+list-add-space-2 t c =
+    let comma = mark-inside (c .before .before .before .before .before .before .before .before .before .before .before .before .before .before .before .before .before .before .before .before .before .before .args .s .now) (c .before .before .before .space2 .result) (c .before .before .byte-at3 .result) 0x2C (c .before .before .byte-at3 .ensures .0) (c .if6 .left) (omega arith) in
+    omega (arith, comma, (c .before .before .before .before .before .before .before .before .before .before .before .before .before .before .before .before .before .before .before .before .before .before .pre .1 .0) .short)
+
+list-space-requires-3 : (t : ℕ) → list-lts.Need-space-requires-3 (list-calls t) (list-at t) list.Post list-Inv-loop list-μ-loop
+list-space-requires-3 t c κs =
+    let comma = mark-inside (c .before .before .before .before .before .before .before .before .before .before .before .before .before .before .before .before .before .before .before .before .before .before .args .s .now) (c .before .before .before .space2 .result) (c .before .before .byte-at3 .result) 0x2C (c .before .before .byte-at3 .ensures .0) (c .if6 .left) (omega arith) in
+    omega (arith, comma, (c .before .before .before .before .before .before .before .before .before .before .before .before .before .before .before .before .before .before .before .before .before .before .pre .1 .0) .short)
+
+list-add-count : (t : ℕ) → list-lts.Need-add-count (list-calls t) (list-at t) list.Post list-Inv-loop list-μ-loop
+list-add-count t c =
+    let names = c .before .before .before .before .before .before .before .before .before .before .before .before .before .before .before .before .before .before .before .before .before .before .before .args .names .now in
+    let numbers = listing-bounds (c .before .before .before .before .before .before .before .before .before .before .before .before .loop .inv) (c .before .before .before .before .before .before .before .before .before .before .before .before .before .before .before .before .element-of .ensures names) (c .before .before .before .before .before .before .before .before .before .value .ensures) (c .before .before .before .before .before .if4 .left) (c .before .before .before .before .before .before .before .before .before .value .kept .1 .1 .1 .0) in
+    omega (arith, numbers, c .before .before .before .before .before .before .before .before .before .before .before .before .loop .inv .each, c .before .before .before .before .before .before .before .before .before .before .before .before .loop .inv .inside, c .before .before .before .before .before .before .before .before .before .before .before .before .loop .inv .same, (c .before .before .before .before .before .before .before .before .before .before .before .before .before .before .before .before .before .before .before .before .before .before .before .pre .1 .0) .room)
+
+list-add-n : (t : ℕ) → list-lts.Need-add-n (list-calls t) (list-at t) list.Post list-Inv-loop list-μ-loop
+list-add-n t c =
+    let names = c .before .before .before .before .before .before .before .before .before .before .before .before .before .before .before .before .before .before .before .before .before .before .before .before .args .names .now in
+    let numbers = listing-bounds (c .before .before .before .before .before .before .before .before .before .before .before .before .before .loop .inv) (c .before .before .before .before .before .before .before .before .before .before .before .before .before .before .before .before .before .element-of .ensures names) (c .before .before .before .before .before .before .before .before .before .before .value .ensures) (c .before .before .before .before .before .before .if4 .left) (c .before .before .before .before .before .before .before .before .before .before .value .kept .1 .1 .1 .0) in
+    omega (arith, numbers, c .before .before .before .before .before .before .before .before .before .before .before .before .before .loop .inv .words, (c .before .before .before .before .before .before .before .before .before .before .before .before .before .before .before .before .before .before .before .before .before .before .before .before .pre .1 .0) .room)
+
+list-add-m : (t : ℕ) → list-lts.Need-add-m (list-calls t) (list-at t) list.Post list-Inv-loop list-μ-loop
+list-add-m t c =
+    let names = c .before .before .before .before .before .before .before .before .before .before .before .before .before .before .before .before .before .before .before .before .before .before .before .before .before .args .names .now in
+    let numbers = listing-bounds (c .before .before .before .before .before .before .before .before .before .before .before .before .before .before .loop .inv) (c .before .before .before .before .before .before .before .before .before .before .before .before .before .before .before .before .before .before .element-of .ensures names) (c .before .before .before .before .before .before .before .before .before .before .before .value .ensures) (c .before .before .before .before .before .before .before .if4 .left) (c .before .before .before .before .before .before .before .before .before .before .before .value .kept .1 .1 .1 .0) in
+    omega (arith, numbers, c .before .before .before .before .before .before .before .before .before .before .before .before .before .before .loop .inv .few, (c .before .before .before .before .before .before .before .before .before .before .before .before .before .before .before .before .before .before .before .before .before .before .before .before .before .pre .1 .0) .short)
+
+list-loop-less : (t : ℕ) → list-lts.Need-loop-less (list-calls t) (list-at t) list.Post list-Inv-loop list-μ-loop
+list-loop-less t c =
+    let names = c .before .before .before .before .before .before .before .before .before .before .before .before .before .before .before .before .before .before .before .before .before .before .before .before .before .args .names .now in
+    let numbers = listing-bounds (c .before .before .before .before .before .before .before .before .before .before .before .before .before .before .loop .inv) (c .before .before .before .before .before .before .before .before .before .before .before .before .before .before .before .before .before .before .element-of .ensures names) (c .before .before .before .before .before .before .before .before .before .before .before .value .ensures) (c .before .before .before .before .before .before .before .if4 .left) (c .before .before .before .before .before .before .before .before .before .before .before .value .kept .1 .1 .1 .0) in
+    omega (arith, numbers, c .before .before .before .before .before .before .space2 .ensures .1, c .before .before .space3 .ensures .1, c .before .before .before .before .before .before .before .before .before .before .before .before .before .if3 .left, (c .before .before .before .before .before .before .before .before .before .before .before .before .before .before .before .before .before .before .before .before .before .before .before .before .before .pre .1 .0) .short)
+
+list-loop-again : (t : ℕ) → list-lts.Need-loop-again (list-calls t) (list-at t) list.Post list-Inv-loop list-μ-loop
+list-loop-again t c =
+    let names = c .before .before .before .before .before .before .before .before .before .before .before .before .before .before .before .before .before .before .before .before .before .before .before .before .before .args .names .now in
+    listing-more (c .before .before .before .before .before .before .before .before .before .before .before .before .before .before .loop .inv) (c .before .before .before .before .before .before .before .before .before .before .before .before .before .before .before .before .before .before .element-of .ensures names) (c .before .before .before .before .before .before .before .before .before .before .before .value .ensures) (c .before .before .before .before .before .before .before .if4 .left) (c .before .before .before .before .before .before .before .before .before .before .before .value .kept .1 .1 .1 .0) (c .before .before .before .before .before .before .space2 .ensures) (c .before .before .before .before .before .byte-at3 .ensures .0) (c .before .before .before .if6 .left) (c .before .before .space3 .ensures)
+
+member-name-at-requires : (t : ℕ) → member-lts.Need-name-at-requires (member-calls t) (member-at t) member.Post
+member-name-at-requires t c κs = search needs
+
+member-no-step-requires : (t : ℕ) → member-lts.Need-no-step-requires (member-calls t) (member-at t) member.Post
+member-no-step-requires t c κs = search needs
+
+member-returns : (t : ℕ) → member-lts.Need-returns (member-calls t) (member-at t) member.Post
+member-returns t c = (alike-same _ _ _, λ h. absurd (omega (arith, c .no-step .ensures)))
+
+member-count-of-requires : (t : ℕ) → member-lts.Need-count-of-requires (member-calls t) (member-at t) member.Post
+member-count-of-requires t c κs = search needs
+
+member-no-step-requires-2 : (t : ℕ) → member-lts.Need-no-step-requires-2 (member-calls t) (member-at t) member.Post
+member-no-step-requires-2 t c κs = search needs
+
+member-returns-2 : (t : ℕ) → member-lts.Need-returns-2 (member-calls t) (member-at t) member.Post
+member-returns-2 t c = (alike-same _ _ _, λ h. absurd (omega (arith, c .no-step2 .ensures)))
+
+member-bit-requires : (t : ℕ) → member-lts.Need-bit-requires (member-calls t) (member-at t) member.Post
+member-bit-requires t c κs =
+    let names = c .before .before .before .before .before .before .before .before .before .args .names .now in
+    let row = c .before .before .before .before .before .before .before .before .before .args .row in
+    omega (arith, c .if2 .left, c .before .count-of .ensures names, (c .before .before .before .before .before .before .before .before .before .pre .1 .0) .sane .few row ((c .before .before .before .before .before .before .before .before .before .pre .1 .0) .typed))
+
+member-no-step-requires-3 : (t : ℕ) → member-lts.Need-no-step-requires-3 (member-calls t) (member-at t) member.Post
+member-no-step-requires-3 t c κs = search needs
+
+member-returns-3 : (t : ℕ) → member-lts.Need-returns-3 (member-calls t) (member-at t) member.Post
+member-returns-3 t c = (alike-same _ _ _, λ h. absurd (omega (arith, c .no-step3 .ensures)))
+
+member-space-requires : (t : ℕ) → member-lts.Need-space-requires (member-calls t) (member-at t) member.Post
+member-space-requires t c κs = search needs
+
+member-absent-at-requires : (t : ℕ) → member-lts.Need-absent-at-requires (member-calls t) (member-at t) member.Post
+member-absent-at-requires t c κs = search needs
+
+member-null-end-requires : (t : ℕ) → member-lts.Need-null-end-requires (member-calls t) (member-at t) member.Post
+member-null-end-requires t c κs =
+    let nt = c .before .before .before .before .before .before .before .before .before .name-at .ensures (omega (arith, c .before .before .before .before .before .before .before .if1 .left)) in omega (arith, c .before .before .space .ensures .2 (nt .placed), (c .before .before .before .before .before .before .before .before .before .before .before .before .before .before .pre .1 .0) .short)
+
+member-with-requires : (t : ℕ) → member-lts.Need-with-requires (member-calls t) (member-at t) member.Post
+member-with-requires t c κs =
+    let names = c .before .before .before .before .before .before .before .before .before .before .before .before .before .before .before .args .names .now in
+    let row = c .before .before .before .before .before .before .before .before .before .before .before .before .before .before .before .args .row in
+    let given = c .before .before .before .before .before .before .before .before .before .before .before .before .before .before .before .pre .1 .0 in
+    let known = known-at (c .before .before .before .before .before .before .if2 .left) (c .before .before .before .before .before .before .before .count-of .ensures names) in
+    omega (arith, known, given .sane .few row (given .typed))
+
+member-gave-requires : (t : ℕ) → member-lts.Need-gave-requires (member-calls t) (member-at t) member.Post
+member-gave-requires t c κs = search needs
+
+member-returns-4 : (t : ℕ) → member-lts.Need-returns-4 (member-calls t) (member-at t) member.Post
+member-returns-4 t c =
+    let names = c .before .before .before .before .before .before .before .before .before .before .before .before .before .before .before .before .before .args .names .now in
+    (alike-same _ _ _, step-null (c .before .before .before .before .before .before .before .before .before .before .before .before .name-at .ensures (omega (arith, c .before .before .before .before .before .before .before .before .before .before .if1 .left))) refl (omega (arith, c .before .before .before .before .before .before .before .before .if2 .left, c .before .before .before .before .before .before .before .before .before .count-of .ensures names)) (sym (c .before .before .before .before .before .before .before .bit .ensures) ∙ c .before .before .before .before .before .before .if3 .left) (c .before .before .before .before .before .space .ensures) (c .before .before .before .before .absent-at .ensures names) (c .before .before .before .if4 .taken) (c .before .before .null-end .result) (c .before .before .null-end .ensures) (c .before .with .ensures) (c .gave .ensures) (c .before .before .before .before .before .before .before .before .before .before .before .before .before .before .before .before .before .pre .1 .1 .1))
+
+member-type-at-requires : (t : ℕ) → member-lts.Need-type-at-requires (member-calls t) (member-at t) member.Post
+member-type-at-requires t c κs = search needs
+
+member-value-requires : (t : ℕ) → member-lts.Need-value-requires (member-calls t) (member-at t) member.Post
+member-value-requires t c κs =
+    let names = c .before .before .before .before .before .before .before .before .before .before .before .before .before .before .before .before .args .names .now in
+    let nt = c .before .before .before .before .before .before .before .before .before .before .before .name-at .ensures (omega (arith, c .before .before .before .before .before .before .before .before .before .if1 .left)) in (omega arith, member-given (c .before .before .before .before .before .before .before .before .before .before .before .before .before .before .before .before .pre .1 .0) (omega (arith, c .before .before .before .before .before .before .before .if2 .left, c .before .before .before .before .before .before .before .before .count-of .ensures names)) (c .type-at .ensures names) (c .before .before .before .before .space .ensures .2 (nt .placed)))
+
+member-no-step-requires-4 : (t : ℕ) → member-lts.Need-no-step-requires-4 (member-calls t) (member-at t) member.Post
+member-no-step-requires-4 t c κs = search needs
+
+member-same-length : (t : ℕ) → member-lts.Need-same-length (member-calls t) (member-at t) member.Post
+member-same-length t c = search needs
+
+member-returns-5 : (t : ℕ) → member-lts.Need-returns-5 (member-calls t) (member-at t) member.Post
+member-returns-5 t c = (alike-part 0 (c .before .before .before .before .before .before .before .before .before .before .before .before .before .before .before .before .before .before .before .before .before .before .args .top + 3) (c .before .before .before .before .before .value .ensures .kept) (omega arith) (omega (arith, c .before .before .before .before .before .before .before .before .before .before .before .before .before .before .before .before .before .before .before .before .before .before .pre .1 .1 .0)), λ h. absurd (omega (arith, c .no-step4 .ensures)))
+
+member-cast-tape : (t : ℕ) → member-lts.Need-cast-tape (member-calls t) (member-at t) member.Post
+member-cast-tape t c =
+    let given = c .before .before .before .before .before .before .before .before .before .before .before .before .before .before .before .before .before .before .before .before .before .pre .1 .0 in
+    omega (arith, given .start)
+
+member-add-tape : (t : ℕ) → member-lts.Need-add-tape (member-calls t) (member-at t) member.Post
+member-add-tape t c =
+    let given = c .before .before .before .before .before .before .before .before .before .before .before .before .before .before .before .before .before .before .before .before .before .pre .1 .0 in
+    omega (arith, given .start, c .before .before .before .before .before .before .before .before .before .before .before .before .before .before .before .before .before .before .before .before .before .pre .1 .1 .0)
+
+member-wide-requires : (t : ℕ) → member-lts.Need-wide-requires (member-calls t) (member-at t) member.Post
+member-wide-requires t c κs = search needs
+
+member-add-tape-2 : (t : ℕ) → member-lts.Need-add-tape-2 (member-calls t) (member-at t) member.Post
+member-add-tape-2 t c =
+    let names = c .before .before .before .before .before .before .before .before .before .before .before .before .before .before .before .before .before .before .before .before .before .before .args .names .now in
+    let given = c .before .before .before .before .before .before .before .before .before .before .before .before .before .before .before .before .before .before .before .before .before .before .pre .1 .0 in
+    let known = known-at (c .before .before .before .before .before .before .before .before .before .before .before .before .before .if2 .left) (c .before .before .before .before .before .before .before .before .before .before .before .before .before .before .count-of .ensures names) in
+    omega (arith, given .start, c .before .before .before .before .before .before .before .before .before .before .before .before .before .before .before .before .before .before .before .before .before .before .pre .1 .1 .0, known, c .wide .ensures .0)
+
+member-mul-tape : (t : ℕ) → member-lts.Need-mul-tape (member-calls t) (member-at t) member.Post
+member-mul-tape t c =
+    let names = c .before .before .before .before .before .before .before .before .before .before .before .before .before .before .before .before .before .before .before .before .before .before .args .names .now in
+    let given = c .before .before .before .before .before .before .before .before .before .before .before .before .before .before .before .before .before .before .before .before .before .before .pre .1 .0 in
+    let known = known-at (c .before .before .before .before .before .before .before .before .before .before .before .before .before .if2 .left) (c .before .before .before .before .before .before .before .before .before .before .before .before .before .before .count-of .ensures names) in
+    omega (arith, given .start, c .before .before .before .before .before .before .before .before .before .before .before .before .before .before .before .before .before .before .before .before .before .before .pre .1 .1 .0, known, c .wide .ensures .0)
+
+member-slice-write-tape : (t : ℕ) → member-lts.Need-slice-write-tape (member-calls t) (member-at t) member.Post
+member-slice-write-tape t c =
+    let names = c .before .before .before .before .before .before .before .before .before .before .before .before .before .before .before .before .before .before .before .before .before .before .args .names .now in
+    let known = known-at (c .before .before .before .before .before .before .before .before .before .before .before .before .before .if2 .left) (c .before .before .before .before .before .before .before .before .before .before .before .before .before .before .count-of .ensures names) in
+    omega (arith, c .before .before .before .before .before .before .before .before .before .before .before .before .before .before .before .before .before .before .before .before .before .before .pre .1 .1 .0, c .before .before .before .before .before .before .before .before .before .before .before .before .before .before .before .before .before .before .before .before .before .before .pre .1 .1 .1, known, c .wide .ensures .0, c .before .before .before .before .before .value .kept .1 .1 .1 .0)
+
+member-with-requires-2 : (t : ℕ) → member-lts.Need-with-requires-2 (member-calls t) (member-at t) member.Post
+member-with-requires-2 t c κs =
+    let names = c .before .before .before .before .before .before .before .before .before .before .before .before .before .before .before .before .before .before .before .before .before .before .args .names .now in
+    let row = c .before .before .before .before .before .before .before .before .before .before .before .before .before .before .before .before .before .before .before .before .before .before .args .row in
+    let given = c .before .before .before .before .before .before .before .before .before .before .before .before .before .before .before .before .before .before .before .before .before .before .pre .1 .0 in
+    let known = known-at (c .before .before .before .before .before .before .before .before .before .before .before .before .before .if2 .left) (c .before .before .before .before .before .before .before .before .before .before .before .before .before .before .count-of .ensures names) in
+    omega (arith, known, given .sane .few row (given .typed))
+
+member-with-requires-3 : (t : ℕ) → member-lts.Need-with-requires-3 (member-calls t) (member-at t) member.Post
+member-with-requires-3 t c κs =
+    let names = c .before .before .before .before .before .before .before .before .before .before .before .before .before .before .before .before .before .before .before .before .before .before .before .args .names .now in
+    let row = c .before .before .before .before .before .before .before .before .before .before .before .before .before .before .before .before .before .before .before .before .before .before .before .args .row in
+    let given = c .before .before .before .before .before .before .before .before .before .before .before .before .before .before .before .before .before .before .before .before .before .before .before .pre .1 .0 in
+    let known = known-at (c .before .before .before .before .before .before .before .before .before .before .before .before .before .before .if2 .left) (c .before .before .before .before .before .before .before .before .before .before .before .before .before .before .before .count-of .ensures names) in
+    omega (arith, known, given .sane .few row (given .typed))
+
+member-gave-requires-2 : (t : ℕ) → member-lts.Need-gave-requires-2 (member-calls t) (member-at t) member.Post
+member-gave-requires-2 t c κs = search needs
+
+member-same-length-2 : (t : ℕ) → member-lts.Need-same-length-2 (member-calls t) (member-at t) member.Post
+member-same-length-2 t c = search needs
+
+member-returns-6 : (t : ℕ) → member-lts.Need-returns-6 (member-calls t) (member-at t) member.Post
+member-returns-6 t c =
+    let names = c .before .before .before .before .before .before .before .before .before .before .before .before .before .before .before .before .before .before .before .before .before .before .before .before .before .args .names .now in
+    (link-kept (c .before .before .before .before .before .before .before .before .before .before .before .before .before .before .before .before .before .before .before .before .before .before .before .before .before .args .top + 3) (c .before .before .before .wide .result) (c .before .before .before .before .before .before .before .before .value .ensures) (omega (arith, c .before .before .before .before .before .before .before .before .before .before .before .before .before .before .before .before .before .before .before .before .before .before .before .before .before .pre .1 .1 .0)), λ _. step-value (c .before .before .before .before .before .before .before .before .before .before .before .before .before .before .before .before .before .before .before .before .name-at .ensures (omega (arith, c .before .before .before .before .before .before .before .before .before .before .before .before .before .before .before .before .before .before .if1 .left))) refl (omega (arith, c .before .before .before .before .before .before .before .before .before .before .before .before .before .before .before .before .if2 .left, c .before .before .before .before .before .before .before .before .before .before .before .before .before .before .before .before .before .count-of .ensures names)) (sym (c .before .before .before .before .before .before .before .before .before .before .before .before .before .before .before .bit .ensures) ∙ c .before .before .before .before .before .before .before .before .before .before .before .before .before .before .if3 .left) (c .before .before .before .before .before .before .before .before .before .before .before .before .before .space .ensures) (c .before .before .before .before .before .before .before .before .before .before .before .before .absent-at .ensures names) (c .before .before .before .before .before .before .before .before .before .before .before .if4 .left) (c .before .before .before .before .before .before .before .before .before .type-at .result) (c .before .before .before .wide .result) (c .before .before .before .before .before .before .before .before .value .result) (c .before .before .before .before .before .before .before .before .value .last .1 .1 .1 .0) (c .before .before .before .before .before .before .before .before .before .type-at .ensures names) (c .before .before .before .wide .ensures .0) (c .before .before .before .before .before .before .before .before .value .ensures) (c .before .before .before .before .if5 .left) (c .before .before .with2 .ensures) (c .before .with3 .ensures) (c .gave2 .ensures))
+
+abbrev object-Inv-loop : object-lts.InvT-loop
+object-Inv-loop types names s tape₀ row place top depth count end₀ at₀ met₀ present₀ n₀ m₀ tape end at met present n m = Objecting (table types names) s tape₀ tape depth row place top at end met present n m
+
+abbrev object-μ-loop : object-lts.MeasureT-loop
+object-μ-loop types names s tape₀ row place top depth count end₀ at₀ met₀ present₀ n₀ m₀ tape end at met present n m = 65537 - at
+
+object-byte-at-requires : (t : ℕ) → object-lts.Need-byte-at-requires (object-calls t) (object-at t) object.Post object-Inv-loop object-μ-loop
+object-byte-at-requires t c κs = search needs
+
+object-other-requires : (t : ℕ) → object-lts.Need-other-requires (object-calls t) (object-at t) object.Post object-Inv-loop object-μ-loop
+object-other-requires t c κs = search needs
+
+object-returns : (t : ℕ) → object-lts.Need-returns (object-calls t) (object-at t) object.Post object-Inv-loop object-μ-loop
+object-returns t c =
+    let t = table (c .before .before .before .before .before .before .before .args .types .now) (c .before .before .before .before .before .before .before .args .names .now) in
+    let s = c .before .before .before .before .before .before .before .args .s .now in
+    let row = c .before .before .before .before .before .before .before .args .row in
+    let place = c .before .before .before .before .before .before .before .args .place in
+    let top = c .before .before .before .before .before .before .before .args .top in
+    not-here t s (c .before .before .before .before .before .before .before .args .tape .now) (c .before .before .before .before .before .before .before .args .depth + 1) row place top _ (c .other .ensures)
+
+object-count-of-requires : (t : ℕ) → object-lts.Need-count-of-requires (object-calls t) (object-at t) object.Post object-Inv-loop object-μ-loop
+object-count-of-requires t c κs = search needs
+
+object-add-end : (t : ℕ) → object-lts.Need-add-end (object-calls t) (object-at t) object.Post object-Inv-loop object-μ-loop
+object-add-end t c =
+    let given = c .before .before .before .before .before .before .before .pre .1 .0 in
+    omega (arith, given .start)
+
+object-wide-requires : (t : ℕ) → object-lts.Need-wide-requires (object-calls t) (object-at t) object.Post object-Inv-loop object-μ-loop
+object-wide-requires t c κs = search needs
+
+object-add-end-2 : (t : ℕ) → object-lts.Need-add-end-2 (object-calls t) (object-at t) object.Post object-Inv-loop object-μ-loop
+object-add-end-2 t c =
+    let names = c .before .before .before .before .before .before .before .before .args .names .now in
+    let row = c .before .before .before .before .before .before .before .before .args .row in
+    let given = c .before .before .before .before .before .before .before .before .pre .1 .0 in
+    let links = links-at (c .before .before .before .before .before .before .before .before .args .top + 3) _ _ _ (c .wide .ensures .0) (c .before .count-of .ensures names) in
+    omega (arith, given .start, links, given .sane .few row (given .typed))
+
+object-other-requires-2 : (t : ℕ) → object-lts.Need-other-requires-2 (object-calls t) (object-at t) object.Post object-Inv-loop object-μ-loop
+object-other-requires-2 t c κs = search needs
+
+object-returns-2 : (t : ℕ) → object-lts.Need-returns-2 (object-calls t) (object-at t) object.Post object-Inv-loop object-μ-loop
+object-returns-2 t c =
+    let t = table (c .before .before .before .before .before .before .before .before .before .before .args .types .now) (c .before .before .before .before .before .before .before .before .before .before .args .names .now) in
+    let s = c .before .before .before .before .before .before .before .before .before .before .args .s .now in
+    let row = c .before .before .before .before .before .before .before .before .before .before .args .row in
+    let place = c .before .before .before .before .before .before .before .before .before .before .args .place in
+    let top = c .before .before .before .before .before .before .before .before .before .before .args .top in
+    not-here t s (c .before .before .before .before .before .before .before .before .before .before .args .tape .now) (c .before .before .before .before .before .before .before .before .before .before .args .depth + 1) row place top _ (c .other2 .ensures)
+
+object-add-clear : (t : ℕ) → object-lts.Need-add-clear (object-calls t) (object-at t) object.Post object-Inv-loop object-μ-loop
+object-add-clear t c = search needs
+
+object-clear-requires : (t : ℕ) → object-lts.Need-clear-requires (object-calls t) (object-at t) object.Post object-Inv-loop object-μ-loop
+object-clear-requires t c κs = omega (arith, c .before .if2 .left, c .before .before .wide .ensures .0)
+
+object-add-space : (t : ℕ) → object-lts.Need-add-space (object-calls t) (object-at t) object.Post object-Inv-loop object-μ-loop
+object-add-space t c = search needs
+
+object-space-requires : (t : ℕ) → object-lts.Need-space-requires (object-calls t) (object-at t) object.Post object-Inv-loop object-μ-loop
+object-space-requires t c κs = search needs
+
+object-byte-at-requires-2 : (t : ℕ) → object-lts.Need-byte-at-requires-2 (object-calls t) (object-at t) object.Post object-Inv-loop object-μ-loop
+object-byte-at-requires-2 t c κs = search needs
+
+object-add-shut : (t : ℕ) → object-lts.Need-add-shut (object-calls t) (object-at t) object.Post object-Inv-loop object-μ-loop
+object-add-shut t c =
+    let brace = mark-inside (c .before .before .before .before .before .before .before .before .before .before .before .before .before .before .before .before .before .args .s .now) (c .before .before .before .space .result) (c .before .before .byte-at2 .result) 0x7D (c .before .before .byte-at2 .ensures .0) (c .before .if3 .taken) (omega arith) in
+    let given = c .before .before .before .before .before .before .before .before .before .before .before .before .before .before .before .before .before .pre .1 .0 in
+    omega (arith, brace, given .short)
+
+object-shut-requires : (t : ℕ) → object-lts.Need-shut-requires (object-calls t) (object-at t) object.Post object-Inv-loop object-μ-loop
+object-shut-requires t c κs =
+    let names = c .before .before .before .before .before .before .before .before .before .before .before .before .before .before .before .before .before .args .names .now in
+    let t = table (c .before .before .before .before .before .before .before .before .before .before .before .before .before .before .before .before .before .args .types .now) (c .before .before .before .before .before .before .before .before .before .before .before .before .before .before .before .before .before .args .names .now) in
+    let row = c .before .before .before .before .before .before .before .before .before .before .before .before .before .before .before .before .before .args .row in
+    let given = c .before .before .before .before .before .before .before .before .before .before .before .before .before .before .before .before .before .pre .1 .0 in
+    (shuts-any (c .before .before .before .before .before .before .before .before .before .before .before .before .before .before .before .before .before .args .types .now) names row 0 0 (shuts-none t row (given .sane) (given .typed)), omega (arith, c .before .before .before .before .before .before .before .before .if2 .left, c .before .before .before .before .before .before .clear .kept .0), omega (arith, c .before .before .before .before .before .before .before .before .if2 .left, given .room))
+
+object-same-length : (t : ℕ) → object-lts.Need-same-length (object-calls t) (object-at t) object.Post object-Inv-loop object-μ-loop
+object-same-length t c = search needs
+
+object-returns-3 : (t : ℕ) → object-lts.Need-returns-3 (object-calls t) (object-at t) object.Post object-Inv-loop object-μ-loop
+object-returns-3 t c =
+    let names = c .before .before .before .before .before .before .before .before .before .before .before .before .before .before .before .before .before .before .before .before .args .names .now in
+    let top = c .before .before .before .before .before .before .before .before .before .before .before .before .before .before .before .before .before .before .before .before .args .top in
+    let links = links-at (c .before .before .before .before .before .before .before .before .before .before .before .before .before .before .before .before .before .before .before .before .args .top + 3) _ _ _ (c .before .before .before .before .before .before .before .before .before .before .before .before .wide .ensures .0) (c .before .before .before .before .before .before .before .before .before .before .before .before .before .count-of .ensures names) in
+    let cleared = cleared-below (c .before .before .before .before .before .before .before .before .before .clear .last .0) (c .before .before .before .before .before .before .before .before .before .before .before .before .before .before .before .before .before .before .before .before .args .top + 3) _ _ (c .before .before .before .before .before .before .before .before .before .clear .ensures .1) (c .before .before .before .before .before .before .before .before .before .before .before .before .before .count-of .ensures names) in
+    walked-if (alike-then _ _ _ 0 top (alike-part 0 top (c .before .before .before .before .before .before .before .before .before .clear .ensures .0) (omega arith) (omega arith)) (c .before .before .shut .ensures .0)) (λ h. object-none (c .before .before .before .before .before .before .before .before .before .before .before .before .before .before .before .before .before .before .before .before .args .depth) (c .before .before .before .before .before .before .space .ensures .0) (c .before .before .before .before .before .before .space .ensures .1) (c .before .before .before .before .before .before .before .before .before .clear .ensures .0) cleared links (omega (arith, c .before .before .before .before .before .before .before .before .before .before .before .if2 .left, c .before .before .before .before .before .before .before .before .before .clear .kept .0)) (c .before .before .before .before .before .before .before .before .before .before .before .before .before .before .before .before .before .before .before .before .pre .1 .1 .0) (c .before .before .before .before .before .before .before .before .before .before .before .before .before .before .before .before .before .before .before .before .pre .1 .1 .1) (c .before .before .before .before .before .before .before .before .before .before .before .before .before .before .before .byte-at .ensures .0) (c .before .before .before .before .before .before .before .before .before .before .before .before .before .before .if1 .left) (c .before .before .before .before .before .byte-at2 .ensures .0) (c .before .before .before .before .if3 .taken) (c .before .before .shut .ensures .1 h names))
+
+object-loop-holds : (t : ℕ) → object-lts.Need-loop-holds (object-calls t) (object-at t) object.Post object-Inv-loop object-μ-loop
+object-loop-holds t c =
+    let names = c .before .before .before .before .before .before .before .before .before .before .before .before .before .before .before .before .args .names .now in
+    let t = table (c .before .before .before .before .before .before .before .before .before .before .before .before .before .before .before .before .args .types .now) (c .before .before .before .before .before .before .before .before .before .before .before .before .before .before .before .before .args .names .now) in
+    let s = c .before .before .before .before .before .before .before .before .before .before .before .before .before .before .before .before .args .s .now in
+    let row = c .before .before .before .before .before .before .before .before .before .before .before .before .before .before .before .before .args .row in
+    let place = c .before .before .before .before .before .before .before .before .before .before .before .before .before .before .before .before .args .place in
+    let top = c .before .before .before .before .before .before .before .before .before .before .before .before .before .before .before .before .args .top in
+    let links = links-at (c .before .before .before .before .before .before .before .before .before .before .before .before .before .before .before .before .args .top + 3) _ _ _ (c .before .before .before .before .before .before .before .before .wide .ensures .0) (c .before .before .before .before .before .before .before .before .before .count-of .ensures names) in
+    let cleared = cleared-below (c .before .before .before .before .before .clear .last .0) (c .before .before .before .before .before .before .before .before .before .before .before .before .before .before .before .before .args .top + 3) _ _ (c .before .before .before .before .before .clear .ensures .1) (c .before .before .before .before .before .before .before .before .before .count-of .ensures names) in
+    objecting-start t s _ _ (c .before .before .before .before .before .before .before .before .before .before .before .before .before .before .before .before .args .depth) row place top (c .before .before .space .result) (c .before .before .space .ensures .0) (c .before .before .space .ensures .1) (c .before .before .space .ensures .2 (omega (arith, mark-inside s place (c .before .before .before .before .before .before .before .before .before .before .before .byte-at .result) 0x7B (c .before .before .before .before .before .before .before .before .before .before .before .byte-at .ensures .0) (c .before .before .before .before .before .before .before .before .before .before .if1 .left) (omega arith)))) (alike-same _ _ _) cleared refl (top + 3 + c .before .before .before .before .before .before .before .before .wide .result) links (omega (arith, c .before .before .before .before .before .before .before .if2 .left, c .before .before .before .before .before .clear .kept .0))
+
+object-member-requires : (t : ℕ) → object-lts.Need-member-requires (object-calls t) (object-at t) object.Post object-Inv-loop object-μ-loop
+object-member-requires t c κs =
+    let given = c .before .before .before .before .before .before .before .before .before .before .before .before .before .before .before .before .before .before .pre .1 .0 in
+    (omega arith, (given-on given (c .before .loop .inv .same ∙ c .before .before .before .before .before .before .before .clear .kept .0) (c .before .loop .inv .here) (c .before .loop .inv .inside), (c .before .loop .inv .start, c .before .loop .inv .inside)))
+
+object-other-requires-3 : (t : ℕ) → object-lts.Need-other-requires-3 (object-calls t) (object-at t) object.Post object-Inv-loop object-μ-loop
+object-other-requires-3 t c κs = search needs
+
+object-same-length-2 : (t : ℕ) → object-lts.Need-same-length-2 (object-calls t) (object-at t) object.Post object-Inv-loop object-μ-loop
+object-same-length-2 t c = search needs
+
+object-returns-4 : (t : ℕ) → object-lts.Need-returns-4 (object-calls t) (object-at t) object.Post object-Inv-loop object-μ-loop
+object-returns-4 t c =
+    let t = table (c .before .before .before .before .before .before .before .before .before .before .before .before .before .before .before .before .before .before .before .before .before .before .before .before .args .types .now) (c .before .before .before .before .before .before .before .before .before .before .before .before .before .before .before .before .before .before .before .before .before .before .before .before .args .names .now) in
+    let s = c .before .before .before .before .before .before .before .before .before .before .before .before .before .before .before .before .before .before .before .before .before .before .before .before .args .s .now in
+    let row = c .before .before .before .before .before .before .before .before .before .before .before .before .before .before .before .before .before .before .before .before .before .before .before .before .args .row in
+    let place = c .before .before .before .before .before .before .before .before .before .before .before .before .before .before .before .before .before .before .before .before .before .before .before .before .args .place in
+    let top = c .before .before .before .before .before .before .before .before .before .before .before .before .before .before .before .before .before .before .before .before .before .before .before .before .args .top in
+    not-taken t s (c .before .before .before .before .before .before .before .before .before .before .before .before .before .before .before .before .before .before .before .before .before .before .before .before .args .tape .now) _ (c .before .before .before .before .before .before .before .before .before .before .before .before .before .before .before .before .before .before .before .before .before .before .before .before .args .depth + 1) row place top _ (alike-then _ _ _ 0 top (alike-part 0 top (c .before .before .before .before .before .before .before .before .before .before .before .before .before .clear .ensures .0) (omega arith) (omega arith)) (alike-then _ _ _ 0 top (c .before .before .before .before .before .before .before .loop .inv .kept) (alike-part 0 top (c .before .before .before .before .before .member .ensures .0) (omega arith) (omega arith)))) (c .other3 .ensures)
+
+object-space-requires-2 : (t : ℕ) → object-lts.Need-space-requires-2 (object-calls t) (object-at t) object.Post object-Inv-loop object-μ-loop
+object-space-requires-2 t c κs =
+    let given = c .before .before .before .before .before .before .before .before .before .before .before .before .before .before .before .before .before .before .before .before .before .before .before .pre .1 .0 in
+    let stepped = c .before .before .before .before .member .ensures .1 (omega (arith, c .if4 .left)) in
+    omega (arith, stepped .placed, given .short)
+
+object-byte-at-requires-3 : (t : ℕ) → object-lts.Need-byte-at-requires-3 (object-calls t) (object-at t) object.Post object-Inv-loop object-μ-loop
+object-byte-at-requires-3 t c κs = search needs
+
+object-add-shut-2 : (t : ℕ) → object-lts.Need-add-shut-2 (object-calls t) (object-at t) object.Post object-Inv-loop object-μ-loop
+object-add-shut-2 t c =
+    let given = c .before .before .before .before .before .before .before .before .before .before .before .before .before .before .before .before .before .before .before .before .before .before .before .before .before .before .before .before .pre .1 .0 in
+    let stepped = c .before .before .before .before .before .before .before .before .before .member .ensures .1 (omega (arith, c .before .before .before .before .before .if4 .left)) in
+    omega (arith, stepped .words, stepped .inside, c .before .before .before .before .before .before .before .before .before .member .kept .1 .1 .1 .0, c .before .before .before .before .before .before .before .before .before .before .before .loop .inv .same, c .before .before .before .before .before .before .before .before .before .before .before .before .before .before .before .before .before .clear .kept .0, c .before .before .before .before .before .before .before .before .before .before .before .loop .inv .words, given .room)
+
+object-add-shut-3 : (t : ℕ) → object-lts.Need-add-shut-3 (object-calls t) (object-at t) object.Post object-Inv-loop object-μ-loop
+object-add-shut-3 t c =
+    let given = c .before .before .before .before .before .before .before .before .before .before .before .before .before .before .before .before .before .before .before .before .before .before .before .before .before .before .before .before .before .pre .1 .0 in
+    let stepped = c .before .before .before .before .before .before .before .before .before .before .member .ensures .1 (omega (arith, c .before .before .before .before .before .before .if4 .left)) in
+    omega (arith, stepped .few, stepped .placed, c .before .before .before .before .before .before .before .before .before .before .before .before .loop .inv .few, given .short)
+
+object-add-shut-4 : (t : ℕ) → object-lts.Need-add-shut-4 (object-calls t) (object-at t) object.Post object-Inv-loop object-μ-loop
+object-add-shut-4 t c =
+    let brace = mark-inside (c .before .before .before .before .before .before .before .before .before .before .before .before .before .before .before .before .before .before .before .before .before .before .before .before .before .before .before .before .before .args .s .now) (c .before .before .before .before .before .space2 .result) (c .before .before .before .before .byte-at3 .result) 0x7D (c .before .before .before .before .byte-at3 .ensures .0) (c .before .before .before .if5 .taken) (omega arith) in
+    let given = c .before .before .before .before .before .before .before .before .before .before .before .before .before .before .before .before .before .before .before .before .before .before .before .before .before .before .before .before .before .pre .1 .0 in
+    omega (arith, brace, given .short)
+
+object-shut-requires-2 : (t : ℕ) → object-lts.Need-shut-requires-2 (object-calls t) (object-at t) object.Post object-Inv-loop object-μ-loop
+object-shut-requires-2 t c κs =
+    let names = c .before .before .before .before .before .before .before .before .before .before .before .before .before .before .before .before .before .before .before .before .before .before .before .before .before .before .before .before .before .args .names .now in
+    let row = c .before .before .before .before .before .before .before .before .before .before .before .before .before .before .before .before .before .before .before .before .before .before .before .before .before .before .before .before .before .args .row in
+    let given = c .before .before .before .before .before .before .before .before .before .before .before .before .before .before .before .before .before .before .before .before .before .before .before .before .before .before .before .before .before .pre .1 .0 in
+    let stepped = c .before .before .before .before .before .before .before .before .before .before .member .ensures .1 (omega (arith, c .before .before .before .before .before .before .if4 .left)) in
+    (shuts-any (c .before .before .before .before .before .before .before .before .before .before .before .before .before .before .before .before .before .before .before .before .before .before .before .before .before .before .before .before .before .args .types .now) names row _ _ (shuts-after (objecting-after (c .before .before .before .before .before .before .before .before .before .before .before .before .loop .inv) (given .sane) (given .typed) stepped (c .before .before .before .before .before .before .before .before .before .before .member .kept .1 .1 .1 .0) (c .before .before .before .before .before .before .before .before .before .before .member .ensures .0) (c .before .before .before .before .before .space2 .ensures .0)) (given .sane) (given .typed) (omega (arith, stepped .words, stepped .inside, c .before .before .before .before .before .before .before .before .before .before .member .kept .1 .1 .1 .0, c .before .before .before .before .before .before .before .before .before .before .before .before .loop .inv .same, c .before .before .before .before .before .before .before .before .before .before .before .before .before .before .before .before .before .before .clear .kept .0, c .before .before .before .before .before .before .before .before .before .before .before .before .loop .inv .words, given .room))), omega (arith, c .before .before .before .before .before .before .before .before .before .before .member .kept .1 .1 .1 .0, c .before .before .before .before .before .before .before .before .before .before .before .before .loop .inv .start, c .before .before .before .before .before .before .before .before .before .before .before .before .loop .inv .inside), omega (arith, stepped .inside, c .before .before .before .before .before .before .before .before .before .before .member .kept .1 .1 .1 .0, c .before .before .before .before .before .before .before .before .before .before .before .before .loop .inv .same, c .before .before .before .before .before .before .before .before .before .before .before .before .before .before .before .before .before .before .clear .kept .0, given .room))
+
+object-same-length-3 : (t : ℕ) → object-lts.Need-same-length-3 (object-calls t) (object-at t) object.Post object-Inv-loop object-μ-loop
+object-same-length-3 t c = c .before .before .shut2 .kept .1 .0 ∙ c .before .before .before .before .before .before .before .before .before .before .before .before .before .member .kept .1 .1 .1 .0 ∙ c .before .before .before .before .before .before .before .before .before .before .before .before .before .before .before .loop .inv .same ∙ c .before .before .before .before .before .before .before .before .before .before .before .before .before .before .before .before .before .before .before .before .before .clear .kept .0
+
+object-returns-5 : (t : ℕ) → object-lts.Need-returns-5 (object-calls t) (object-at t) object.Post object-Inv-loop object-μ-loop
+object-returns-5 t c =
+    let names = c .before .before .before .before .before .before .before .before .before .before .before .before .before .before .before .before .before .before .before .before .before .before .before .before .before .before .before .before .before .before .before .before .args .names .now in
+    let top = c .before .before .before .before .before .before .before .before .before .before .before .before .before .before .before .before .before .before .before .before .before .before .before .before .before .before .before .before .before .before .before .before .args .top in
+    let given = c .before .before .before .before .before .before .before .before .before .before .before .before .before .before .before .before .before .before .before .before .before .before .before .before .before .before .before .before .before .before .before .before .pre .1 .0 in
+    let step = c .before .before .before .before .before .before .before .before .before .before .before .before .before .member .ensures .1 (omega (arith, c .before .before .before .before .before .before .before .before .before .if4 .left)) in
+    let before = alike-part 0 top (c .before .before .before .before .before .before .before .before .before .before .before .before .before .before .before .before .before .before .before .before .before .clear .ensures .0) (omega arith) (omega arith) in
+    walked-from before (walked-if (alike-then _ _ _ 0 top (alike-then _ _ _ 0 top (c .before .before .before .before .before .before .before .before .before .before .before .before .before .before .before .loop .inv .kept) (alike-part 0 top (c .before .before .before .before .before .before .before .before .before .before .before .before .before .member .ensures .0) (omega arith) (omega arith))) (c .before .before .shut2 .ensures .0))
+    (λ h. objecting-last (c .before .before .before .before .before .before .before .before .before .before .before .before .before .before .before .loop .inv) (given .sane) (given .typed) step (c .before .before .before .before .before .before .before .before .before .before .before .before .before .member .kept .1 .1 .1 .0) (c .before .before .before .before .before .before .before .before .before .before .before .before .before .member .ensures .0) (c .before .before .before .before .before .before .before .before .space2 .ensures .0) (c .before .before .before .before .before .before .before .before .before .before .before .before .before .before .before .before .before .before .before .before .before .before .before .before .before .before .before .before .before .before .before .before .pre .1 .1 .0) (c .before .before .before .before .before .before .before .before .before .before .before .before .before .before .before .before .before .before .before .before .before .before .before .before .before .before .before .before .before .before .before .before .pre .1 .1 .1) (c .before .before .before .before .before .before .before .before .before .before .before .before .before .before .before .before .before .before .before .before .before .before .before .before .before .before .before .byte-at .ensures .0) (c .before .before .before .before .before .before .before .before .before .before .before .before .before .before .before .before .before .before .before .before .before .before .before .before .before .before .if1 .left) (c .before .before .before .before .before .before .before .byte-at3 .ensures .0) (c .before .before .before .before .before .before .if5 .taken) (c .before .before .before .before .before .before .before .before .space2 .ensures .1) (c .before .before .shut2 .ensures .1 h names)))
+
+object-other-requires-4 : (t : ℕ) → object-lts.Need-other-requires-4 (object-calls t) (object-at t) object.Post object-Inv-loop object-μ-loop
+object-other-requires-4 t c κs = search needs
+
+object-same-length-4 : (t : ℕ) → object-lts.Need-same-length-4 (object-calls t) (object-at t) object.Post object-Inv-loop object-μ-loop
+object-same-length-4 t c = search needs
+
+object-returns-6 : (t : ℕ) → object-lts.Need-returns-6 (object-calls t) (object-at t) object.Post object-Inv-loop object-μ-loop
+object-returns-6 t c =
+    let t = table (c .before .before .before .before .before .before .before .before .before .before .before .before .before .before .before .before .before .before .before .before .before .before .before .before .before .before .before .before .args .types .now) (c .before .before .before .before .before .before .before .before .before .before .before .before .before .before .before .before .before .before .before .before .before .before .before .before .before .before .before .before .args .names .now) in
+    let s = c .before .before .before .before .before .before .before .before .before .before .before .before .before .before .before .before .before .before .before .before .before .before .before .before .before .before .before .before .args .s .now in
+    let row = c .before .before .before .before .before .before .before .before .before .before .before .before .before .before .before .before .before .before .before .before .before .before .before .before .before .before .before .before .args .row in
+    let place = c .before .before .before .before .before .before .before .before .before .before .before .before .before .before .before .before .before .before .before .before .before .before .before .before .before .before .before .before .args .place in
+    let top = c .before .before .before .before .before .before .before .before .before .before .before .before .before .before .before .before .before .before .before .before .before .before .before .before .before .before .before .before .args .top in
+    not-taken t s (c .before .before .before .before .before .before .before .before .before .before .before .before .before .before .before .before .before .before .before .before .before .before .before .before .before .before .before .before .args .tape .now) _ (c .before .before .before .before .before .before .before .before .before .before .before .before .before .before .before .before .before .before .before .before .before .before .before .before .before .before .before .before .args .depth + 1) row place top _ (alike-then _ _ _ 0 top (alike-part 0 top (c .before .before .before .before .before .before .before .before .before .before .before .before .before .before .before .before .before .clear .ensures .0) (omega arith) (omega arith)) (alike-then _ _ _ 0 top (c .before .before .before .before .before .before .before .before .before .before .before .loop .inv .kept) (alike-part 0 top (c .before .before .before .before .before .before .before .before .before .member .ensures .0) (omega arith) (omega arith)))) (c .other4 .ensures)
+
+object-add-space-2 : (t : ℕ) → object-lts.Need-add-space-2 (object-calls t) (object-at t) object.Post object-Inv-loop object-μ-loop
+object-add-space-2 t c =
+    let comma = mark-inside (c .before .before .before .before .before .before .before .before .before .before .before .before .before .before .before .before .before .before .before .before .before .before .before .before .before .before .before .args .s .now) (c .before .before .before .space2 .result) (c .before .before .byte-at3 .result) 0x2C (c .before .before .byte-at3 .ensures .0) (c .if6 .left) (omega arith) in
+    let given = c .before .before .before .before .before .before .before .before .before .before .before .before .before .before .before .before .before .before .before .before .before .before .before .before .before .before .before .pre .1 .0 in
+    omega (arith, comma, given .short)
+
+object-space-requires-3 : (t : ℕ) → object-lts.Need-space-requires-3 (object-calls t) (object-at t) object.Post object-Inv-loop object-μ-loop
+object-space-requires-3 t c κs = search needs
+
+object-add-n : (t : ℕ) → object-lts.Need-add-n (object-calls t) (object-at t) object.Post object-Inv-loop object-μ-loop
+object-add-n t c =
+    let given = c .before .before .before .before .before .before .before .before .before .before .before .before .before .before .before .before .before .before .before .before .before .before .before .before .before .before .before .before .before .pre .1 .0 in
+    let stepped = c .before .before .before .before .before .before .before .before .before .before .member .ensures .1 (omega (arith, c .before .before .before .before .before .before .if4 .left)) in
+    omega (arith, stepped .words, stepped .inside, c .before .before .before .before .before .before .before .before .before .before .member .kept .1 .1 .1 .0, c .before .before .before .before .before .before .before .before .before .before .before .before .loop .inv .same, c .before .before .before .before .before .before .before .before .before .before .before .before .before .before .before .before .before .before .clear .kept .0, c .before .before .before .before .before .before .before .before .before .before .before .before .loop .inv .words, given .room)
+
+object-add-m : (t : ℕ) → object-lts.Need-add-m (object-calls t) (object-at t) object.Post object-Inv-loop object-μ-loop
+object-add-m t c =
+    let given = c .before .before .before .before .before .before .before .before .before .before .before .before .before .before .before .before .before .before .before .before .before .before .before .before .before .before .before .before .before .before .pre .1 .0 in
+    let stepped = c .before .before .before .before .before .before .before .before .before .before .before .member .ensures .1 (omega (arith, c .before .before .before .before .before .before .before .if4 .left)) in
+    omega (arith, stepped .few, stepped .placed, c .before .before .before .before .before .before .before .before .before .before .before .before .before .loop .inv .few, given .short)
+
+object-loop-less : (t : ℕ) → object-lts.Need-loop-less (object-calls t) (object-at t) object.Post object-Inv-loop object-μ-loop
+object-loop-less t c =
+    let given = c .before .before .before .before .before .before .before .before .before .before .before .before .before .before .before .before .before .before .before .before .before .before .before .before .before .before .before .before .before .before .pre .1 .0 in
+    let stepped = c .before .before .before .before .before .before .before .before .before .before .before .member .ensures .1 (omega (arith, c .before .before .before .before .before .before .before .if4 .left)) in
+    omega (arith, stepped .ahead, c .before .before .before .before .before .before .space2 .ensures .1, c .before .before .space3 .ensures .1, c .before .before .before .before .before .before .before .before .before .before .before .before .before .loop .inv .here, given .short)
+
+object-loop-again : (t : ℕ) → object-lts.Need-loop-again (object-calls t) (object-at t) object.Post object-Inv-loop object-μ-loop
+object-loop-again t c =
+    let s = c .before .before .before .before .before .before .before .before .before .before .before .before .before .before .before .before .before .before .before .before .before .before .before .before .before .before .before .before .before .before .args .s .now in
+    let given = c .before .before .before .before .before .before .before .before .before .before .before .before .before .before .before .before .before .before .before .before .before .before .before .before .before .before .before .before .before .before .pre .1 .0 in
+    let stepped = c .before .before .before .before .before .before .before .before .before .before .before .member .ensures .1 (omega (arith, c .before .before .before .before .before .before .before .if4 .left)) in
+    objecting-more (c .before .before .before .before .before .before .before .before .before .before .before .before .before .loop .inv) (given .sane) (given .typed) stepped (c .before .before .before .before .before .before .before .before .before .before .before .member .kept .1 .1 .1 .0) (c .before .before .before .before .before .before .before .before .before .before .before .member .ensures .0) (c .before .before .before .before .before .before .space2 .ensures .0) (c .before .before .before .before .before .byte-at3 .ensures .0) (c .before .before .before .if6 .left) (c .before .before .before .before .before .before .space2 .ensures .1) (c .before .before .space3 .ensures .0) (c .before .before .space3 .ensures .1) (c .before .before .space3 .ensures .2 (omega (arith, mark-inside s (c .before .before .before .before .before .before .space2 .result) (c .before .before .before .before .before .byte-at3 .result) 0x2C (c .before .before .before .before .before .byte-at3 .ensures .0) (c .before .before .before .if6 .left) (omega arith))))
+
+value-kind-of-requires : (t : ℕ) → value-lts.Need-kind-of-requires (value-calls t) (value-at t) value.Post
+value-kind-of-requires t c κs = search needs
+
+value-note-requires : (t : ℕ) → value-lts.Need-note-requires (value-calls t) (value-at t) value.Post
+value-note-requires t c κs = search needs
+
+value-same-length : (t : ℕ) → value-lts.Need-same-length (value-calls t) (value-at t) value.Post
+value-same-length t c = search needs
+
+value-returns : (t : ℕ) → value-lts.Need-returns (value-calls t) (value-at t) value.Post
+value-returns t c = c .before .before .note .ensures (c .before .before .before .before .before .before .before .before .before .before .args .depth)
+
+value-other-requires : (t : ℕ) → value-lts.Need-other-requires (value-calls t) (value-at t) value.Post
+value-other-requires t c κs = search needs
+
+value-returns-2 : (t : ℕ) → value-lts.Need-returns-2 (value-calls t) (value-at t) value.Post
+value-returns-2 t c =
+    let t = table (c .before .before .before .before .before .before .before .before .args .types .now) (c .before .before .before .before .before .before .before .before .args .names .now) in
+    let s = c .before .before .before .before .before .before .before .before .args .s .now in
+    let row = c .before .before .before .before .before .before .before .before .args .row in
+    let place = c .before .before .before .before .before .before .before .before .args .place in
+    let top = c .before .before .before .before .before .before .before .before .args .top in
+    not-here t s (c .before .before .before .before .before .before .before .before .args .tape .now) (c .before .before .before .before .before .before .before .before .args .depth) row place top _ (c .other .ensures)
+
+value-add-if3 : (t : ℕ) → value-lts.Need-add-if3 (value-calls t) (value-at t) value.Post
+value-add-if3 t c = search needs
+
+value-other-requires-2 : (t : ℕ) → value-lts.Need-other-requires-2 (value-calls t) (value-at t) value.Post
+value-other-requires-2 t c κs = search needs
+
+value-returns-3 : (t : ℕ) → value-lts.Need-returns-3 (value-calls t) (value-at t) value.Post
+value-returns-3 t c =
+    let t = table (c .before .before .before .before .before .before .before .before .before .args .types .now) (c .before .before .before .before .before .before .before .before .before .args .names .now) in
+    let s = c .before .before .before .before .before .before .before .before .before .args .s .now in
+    let row = c .before .before .before .before .before .before .before .before .before .args .row in
+    let place = c .before .before .before .before .before .before .before .before .before .args .place in
+    let top = c .before .before .before .before .before .before .before .before .before .args .top in
+    not-here t s (c .before .before .before .before .before .before .before .before .before .args .tape .now) (c .before .before .before .before .before .before .before .before .before .args .depth) row place top _ (c .other2 .ensures)
+
+value-sub-list : (t : ℕ) → value-lts.Need-sub-list (value-calls t) (value-at t) value.Post
+value-sub-list t c = search needs
+
+value-list-requires : (t : ℕ) → value-lts.Need-list-requires (value-calls t) (value-at t) value.Post
+value-list-requires t c κs =
+    let names = c .before .before .before .before .before .before .before .before .before .before .args .names .now in
+    (omega (arith, c .before .before .before .if2 .left), (c .before .before .before .before .before .before .before .before .before .before .pre .1, (omega (arith, c .before .before .if3 .left), sym (c .before .before .before .before .before .kind-of .ensures names) ∙ c .before .if4 .taken)))
+
+value-same-length-2 : (t : ℕ) → value-lts.Need-same-length-2 (value-calls t) (value-at t) value.Post
+value-same-length-2 t c = search needs
+
+value-returns-4 : (t : ℕ) → value-lts.Need-returns-4 (value-calls t) (value-at t) value.Post
+value-returns-4 t c =
+    let t = table (c .before .before .before .before .before .before .before .before .before .before .before .before .before .args .types .now) (c .before .before .before .before .before .before .before .before .before .before .before .before .before .args .names .now) in
+    let s = c .before .before .before .before .before .before .before .before .before .before .before .before .before .args .s .now in
+    let row = c .before .before .before .before .before .before .before .before .before .before .before .before .before .args .row in
+    let place = c .before .before .before .before .before .before .before .before .before .before .before .before .before .args .place in
+    let top = c .before .before .before .before .before .before .before .before .before .before .before .before .before .args .top in
+    at-depth t s (c .before .before .before .before .before .before .before .before .before .before .before .before .before .args .tape .now) _ _ (c .before .before .before .before .before .before .before .before .before .before .before .before .before .args .depth) row place top _ (omega (arith, c .before .before .before .before .before .before .if2 .left)) (c .before .before .list .ensures)
+
+value-at-requires : (t : ℕ) → value-lts.Need-at-requires (value-calls t) (value-at t) value.Post
+value-at-requires t c κs = search needs
+
+value-is-array-requires : (t : ℕ) → value-lts.Need-is-array-requires (value-calls t) (value-at t) value.Post
+value-is-array-requires t c κs = search needs
+
+value-other-requires-3 : (t : ℕ) → value-lts.Need-other-requires-3 (value-calls t) (value-at t) value.Post
+value-other-requires-3 t c κs = search needs
+
+value-returns-5 : (t : ℕ) → value-lts.Need-returns-5 (value-calls t) (value-at t) value.Post
+value-returns-5 t c =
+    let t = table (c .before .before .before .before .before .before .before .before .before .before .before .before .before .before .args .types .now) (c .before .before .before .before .before .before .before .before .before .before .before .before .before .before .args .names .now) in
+    let s = c .before .before .before .before .before .before .before .before .before .before .before .before .before .before .args .s .now in
+    let row = c .before .before .before .before .before .before .before .before .before .before .before .before .before .before .args .row in
+    let place = c .before .before .before .before .before .before .before .before .before .before .before .before .before .before .args .place in
+    let top = c .before .before .before .before .before .before .before .before .before .before .before .before .before .before .args .top in
+    not-here t s (c .before .before .before .before .before .before .before .before .before .before .before .before .before .before .args .tape .now) (c .before .before .before .before .before .before .before .before .before .before .before .before .before .before .args .depth) row place top _ (c .other3 .ensures)
+
+value-sub-object : (t : ℕ) → value-lts.Need-sub-object (value-calls t) (value-at t) value.Post
+value-sub-object t c = search needs
+
+value-object-requires : (t : ℕ) → value-lts.Need-object-requires (value-calls t) (value-at t) value.Post
+value-object-requires t c κs =
+    let names = c .before .before .before .before .before .before .before .before .before .before .before .before .before .before .args .names .now in
+    let t = table (c .before .before .before .before .before .before .before .before .before .before .before .before .before .before .args .types .now) (c .before .before .before .before .before .before .before .before .before .before .before .before .before .before .args .names .now) in
+    let row = c .before .before .before .before .before .before .before .before .before .before .before .before .before .before .args .row in
+    (omega (arith, c .before .before .before .before .before .before .before .if2 .left), (c .before .before .before .before .before .before .before .before .before .before .before .before .before .before .pre .1, (sym (c .before .before .before .before .before .before .before .before .before .kind-of .ensures names) ∙ c .before .before .before .before .if5 .taken, sym (c .before .before .is-array .ensures t row (c .before .before .before .at .ensures names)) ∙ c .before .if6 .left)))
+
+value-same-length-3 : (t : ℕ) → value-lts.Need-same-length-3 (value-calls t) (value-at t) value.Post
+value-same-length-3 t c = search needs
+
+value-returns-6 : (t : ℕ) → value-lts.Need-returns-6 (value-calls t) (value-at t) value.Post
+value-returns-6 t c =
+    let t = table (c .before .before .before .before .before .before .before .before .before .before .before .before .before .before .before .before .before .args .types .now) (c .before .before .before .before .before .before .before .before .before .before .before .before .before .before .before .before .before .args .names .now) in
+    let s = c .before .before .before .before .before .before .before .before .before .before .before .before .before .before .before .before .before .args .s .now in
+    let row = c .before .before .before .before .before .before .before .before .before .before .before .before .before .before .before .before .before .args .row in
+    let place = c .before .before .before .before .before .before .before .before .before .before .before .before .before .before .before .before .before .args .place in
+    let top = c .before .before .before .before .before .before .before .before .before .before .before .before .before .before .before .before .before .args .top in
+    at-depth t s (c .before .before .before .before .before .before .before .before .before .before .before .before .before .before .before .before .before .args .tape .now) _ _ (c .before .before .before .before .before .before .before .before .before .before .before .before .before .before .before .before .before .args .depth) row place top _ (omega (arith, c .before .before .before .before .before .before .before .before .before .before .if2 .left)) (c .before .before .object .ensures)
+
+value-other-requires-4 : (t : ℕ) → value-lts.Need-other-requires-4 (value-calls t) (value-at t) value.Post
+value-other-requires-4 t c κs = search needs
+
+value-returns-7 : (t : ℕ) → value-lts.Need-returns-7 (value-calls t) (value-at t) value.Post
+value-returns-7 t c =
+    let t = table (c .before .before .before .before .before .before .before .before .before .before .before .args .types .now) (c .before .before .before .before .before .before .before .before .before .before .before .args .names .now) in
+    let s = c .before .before .before .before .before .before .before .before .before .before .before .args .s .now in
+    let row = c .before .before .before .before .before .before .before .before .before .before .before .args .row in
+    let place = c .before .before .before .before .before .before .before .before .before .before .before .args .place in
+    let top = c .before .before .before .before .before .before .before .before .before .before .before .args .top in
+    not-here t s (c .before .before .before .before .before .before .before .before .before .before .before .args .tape .now) (c .before .before .before .before .before .before .before .before .before .before .before .args .depth) row place top _ (c .other4 .ensures)
+
+pub +list+member+object+value-spec : {M : Type 1} → statement M
++list+member+object+value-spec =
+    close μ-list μ-member μ-object μ-value
+    (λ t. list-lts.spec (list-calls t) (list-at t) list.Post
+    list-Inv-loop
+    list-μ-loop
+    (list-byte-at-requires t)
+    (list-other-requires t)
+    (list-returns t)
+    (list-element-of-requires t)
+    (list-add-space t)
+    (list-space-requires t)
+    (list-byte-at-requires-2 t)
+    (list-add-head t)
+    (list-add-head-2 t)
+    (list-head-requires t)
+    (list-same-length t)
+    (list-returns-2 t)
+    (list-add-end t)
+    (list-loop-holds t)
+    (list-other-requires-2 t)
+    (list-same-length-2 t)
+    (list-returns-3 t)
+    (list-value-requires t)
+    (list-other-requires-3 t)
+    (list-same-length-3 t)
+    (list-returns-4 t)
+    (list-space-requires-2 t)
+    (list-byte-at-requires-3 t)
+    (list-add-head-3 t)
+    (list-add-head-4 t)
+    (list-add-head-5 t)
+    (list-add-head-6 t)
+    (list-head-requires-2 t)
+    (list-same-length-4 t)
+    (list-returns-5 t)
+    (list-other-requires-4 t)
+    (list-same-length-5 t)
+    (list-returns-6 t)
+    (list-add-space-2 t)
+    (list-space-requires-3 t)
+    (list-add-count t)
+    (list-add-n t)
+    (list-add-m t)
+    (list-loop-less t)
+    (list-loop-again t))
+    (λ t. member-lts.spec (member-calls t) (member-at t) member.Post
+    (member-name-at-requires t)
+    (member-no-step-requires t)
+    (member-returns t)
+    (member-count-of-requires t)
+    (member-no-step-requires-2 t)
+    (member-returns-2 t)
+    (member-bit-requires t)
+    (member-no-step-requires-3 t)
+    (member-returns-3 t)
+    (member-space-requires t)
+    (member-absent-at-requires t)
+    (member-null-end-requires t)
+    (member-with-requires t)
+    (member-gave-requires t)
+    (member-returns-4 t)
+    (member-type-at-requires t)
+    (member-value-requires t)
+    (member-no-step-requires-4 t)
+    (member-same-length t)
+    (member-returns-5 t)
+    (member-cast-tape t)
+    (member-add-tape t)
+    (member-wide-requires t)
+    (member-add-tape-2 t)
+    (member-mul-tape t)
+    (member-slice-write-tape t)
+    (member-with-requires-2 t)
+    (member-with-requires-3 t)
+    (member-gave-requires-2 t)
+    (member-same-length-2 t)
+    (member-returns-6 t))
+    (λ t. object-lts.spec (object-calls t) (object-at t) object.Post
+    object-Inv-loop
+    object-μ-loop
+    (object-byte-at-requires t)
+    (object-other-requires t)
+    (object-returns t)
+    (object-count-of-requires t)
+    (object-add-end t)
+    (object-wide-requires t)
+    (object-add-end-2 t)
+    (object-other-requires-2 t)
+    (object-returns-2 t)
+    (object-add-clear t)
+    (object-clear-requires t)
+    (object-add-space t)
+    (object-space-requires t)
+    (object-byte-at-requires-2 t)
+    (object-add-shut t)
+    (object-shut-requires t)
+    (object-same-length t)
+    (object-returns-3 t)
+    (object-loop-holds t)
+    (object-member-requires t)
+    (object-other-requires-3 t)
+    (object-same-length-2 t)
+    (object-returns-4 t)
+    (object-space-requires-2 t)
+    (object-byte-at-requires-3 t)
+    (object-add-shut-2 t)
+    (object-add-shut-3 t)
+    (object-add-shut-4 t)
+    (object-shut-requires-2 t)
+    (object-same-length-3 t)
+    (object-returns-5 t)
+    (object-other-requires-4 t)
+    (object-same-length-4 t)
+    (object-returns-6 t)
+    (object-add-space-2 t)
+    (object-space-requires-3 t)
+    (object-add-n t)
+    (object-add-m t)
+    (object-loop-less t)
+    (object-loop-again t))
+    λ t. value-lts.spec (value-calls t) (value-at t) value.Post
+    (value-kind-of-requires t)
+    (value-note-requires t)
+    (value-same-length t)
+    (value-returns t)
+    (value-other-requires t)
+    (value-returns-2 t)
+    (value-add-if3 t)
+    (value-other-requires-2 t)
+    (value-returns-3 t)
+    (value-sub-list t)
+    (value-list-requires t)
+    (value-same-length-2 t)
+    (value-returns-4 t)
+    (value-at-requires t)
+    (value-is-array-requires t)
+    (value-other-requires-3 t)
+    (value-returns-5 t)
+    (value-sub-object t)
+    (value-object-requires t)
+    (value-same-length-3 t)
+    (value-returns-6 t)
+    (value-other-requires-4 t)
+    (value-returns-7 t)
