@@ -1,0 +1,8 @@
+// What stands at a place of a text, by the grammar of JSON: each function answers a place after it, or 0 where it does not take it.
+// A reading that only succeeds is made of these. Contracts cite `specs/`, which cites the grammar.
+mod character; // character.rt: characters that are escaped, or of more than one byte
+pub mod integer; // integer.rt: INTEGER
+pub mod plain; // plain.rt: runs of characters that stand for themselves
+pub mod space; // space.rt: white space
+pub mod string; // string.rt: strings
+pub mod word; // word.rt: the literals
