@@ -27,8 +27,8 @@ abbrev pub SelfByte : ℕ → Type 0
 SelfByte b = (0x20 ≤ b) × (b ≤ 0x7F) × (b ≡ 0x22 → ⊥) × (b ≡ 0x5C → ⊥)
 
 -- the table has 0 for such bytes alone
-abbrev pub IsFlags : List ℕ → Type 0
-IsFlags f = (b : ℕ) → b < 256 → getD f b 0 ≡ 0 → SelfByte b
+pub record IsFlags (f : List ℕ) : Type 0 where
+  pub self : (b : ℕ) → b < 256 → getD f b 0 ≡ 0 → SelfByte b
 
 -- a letter that may follow a backslash
 pub record Letter (b : ℕ) : Type 0 where

@@ -1,2 +1,3 @@
 pub mod Stretch
 pub mod Leaves
+pub mod Bytes

@@ -1,11 +1,11 @@
 -- What stands in a text from one place up to another, by the relations of the grammar.
 use Prim.Native.Nat.{ℕ, _-_, _+_, _<_, _≤_}
 use mathlib.Core.Path.{_≡_}
-use mathlib.Core.List.{List, _++_}
+use mathlib.Core.List.{List, [], _∷_, _++_}
 use lib.ListN.{length, drop}
 use Rattle.json.specs.Bytes.{past}
 use Rattle.json.specs.Tree.{Json}
-use Rattle.json.specs.Grammar.{Value, Chars}
+use Rattle.json.specs.Grammar.{Space, Value, Chars}
 
 -- the bytes from p up to q are of R
 pub record Stretch (R : List ℕ → Type 0) (s : List ℕ) (p q : ℕ) : Type 0 where
@@ -23,6 +23,10 @@ pub record Passed (R : List ℕ → Type 0) (s : List ℕ) (p q : ℕ) : Type 0 
 -- none or more, and they end inside the text if p is inside
 abbrev pub Within : List ℕ → ℕ → ℕ → Type 0
 Within s p q = (p ≤ q) × (q ≤ p + (length s - p))
+
+-- a byte of white space
+abbrev pub Blank : ℕ → Type 0
+Blank b = Space (b ∷ [])
 
 -- characters that stand for themselves
 abbrev pub Selves : List ℕ → Type 0

@@ -1,4 +1,5 @@
 // One character of a string: escaped, or of more than one byte.
+use crate::bytes::byte;
 use tokens::cursor::byte_at;
 ghost use mathlib.Core.Path.{_≡_};
 ghost use mathlib.Core.Bool.{true};
@@ -125,7 +126,7 @@ pub fn escape(s: &[u8], p: usize) -> Escaped
 // Whether these are a character of three bytes.
 fn three(a: u32, b: u32, c: u32) -> bool
     requires { ⌜ (0xE0 ≤ a) × (a ≤ 0xEF) ⌝ }
-    ensures { λ r. ⌜ (r ≡ true → Wide (a ∷ b ∷ c ∷ [])) ⌝ }
+    ensures { λ r. ⌜ (r ≡ true → Wide (a ∷ b ∷ c ∷ []) × (c < 256)) ⌝ }
 {
     if !later(b) {
         return false;
@@ -145,7 +146,7 @@ fn three(a: u32, b: u32, c: u32) -> bool
 // Whether these are one of four.
 fn four(a: u32, b: u32, c: u32, d: u32) -> bool
     requires { ⌜ 0xF0 ≤ a ⌝ }
-    ensures { λ r. ⌜ (r ≡ true → Wide (a ∷ b ∷ c ∷ d ∷ [])) ⌝ }
+    ensures { λ r. ⌜ (r ≡ true → Wide (a ∷ b ∷ c ∷ d ∷ []) × (d < 256)) ⌝ }
 {
     if !later(b) {
         return false;
@@ -169,7 +170,10 @@ fn four(a: u32, b: u32, c: u32, d: u32) -> bool
 fn later(b: u32) -> bool
     ensures { λ r. ⌜ (r ≡ true → (0x80 ≤ b) × (b ≤ 0xBF)) ⌝ }
 {
-    (0x80 <= b) & (b <= 0xBF)
+    if b < 0x80 {
+        return false;
+    }
+    b <= 0xBF
 }
 
 // How many bytes the character at p has, if more than one; 0 for any other.
@@ -178,7 +182,7 @@ pub fn wide(s: &[u8], p: usize) -> usize
     ensures { λ r. ⌜ (0 < r → Passed Wide (now (s .entry)) p (p + r)) ⌝ }
     ensures { λ r. ⌜ r ≤ 4 ⌝ }
 {
-    let a = s[p] as u32;
+    let a = byte(s, p);
     let b = byte_at(s, p + 1);
     if a < 0xC2 {
         return 0;

@@ -1,7 +1,14 @@
 // White space.
-ghost use Prim.Native.Nat.{_≤_};
+ghost use mathlib.Core.Path.{_≡_};
+ghost use mathlib.Core.Bool.{true};
 ghost use Rattle.json.specs.Grammar.{Space};
-ghost use Rattle.spelled.specs.Stretch.{Stretch, Within};
+ghost use Rattle.spelled.specs.Stretch.{Stretch, Within, Blank};
+
+fn is_space(b: u8) -> bool
+    ensures { λ r. ⌜ (r ≡ true → Blank b) ⌝ }
+{
+    b == 0x20 || (b == 0x0A || (b == 0x0D || b == 0x09))
+}
 
 // The place after the white space at p.
 pub fn space(s: &[u8], p: usize) -> usize
@@ -14,7 +21,7 @@ pub fn space(s: &[u8], p: usize) -> usize
         if 0x20 < b {
             return i;
         }
-        if !(b == 0x20 || (b == 0x09 || (b == 0x0A || b == 0x0D))) {
+        if !is_space(b) {
             return i;
         }
         i += 1;
