@@ -36,8 +36,8 @@ module _ (a b c : ℕ) (i : In 0x80 0xBF b) (j : In 0x80 0xBF c) where
   three-other l h x y = go (leb a 0xEC) refl
     where
       go : (t : Bool) → leb a 0xEC ≡ t → Wide (a ∷ b ∷ c ∷ [])
-      go true e = threeE1 (omega arith, leb-true a 0xEC e) i j
-      go false e = let g = leb-false a 0xEC e in threeEE (omega arith, h) i j
+      go true e = threeE1 {a = a} (omega arith, leb-true a 0xEC e) i j
+      go false e = let g = leb-false a 0xEC e in threeEE {a = a} (omega arith, h) i j
 
   module _ (d : ℕ) (k : In 0x80 0xBF d) where
     pub four-low : a ≡ 0xF0 → 0x90 ≤ b → Wide (a ∷ b ∷ c ∷ d ∷ [])
@@ -47,7 +47,7 @@ module _ (a b c : ℕ) (i : In 0x80 0xBF b) (j : In 0x80 0xBF c) where
     four-high e h = rw e (fourF4 (i .0, h) j k)
 
     pub four-other : 0xF0 ≤ a → (a ≡ 0xF0 → ⊥) → a < 0xF4 → Wide (a ∷ b ∷ c ∷ d ∷ [])
-    four-other l x h = fourF1 (omega arith, omega arith) i j k
+    four-other l x h = fourF1 {a = a} (omega arith, omega arith) i j k
 
 pub wide-here : (s : List ℕ) (p x : ℕ) (xs : List ℕ) → byteAt s p ≡ x → x < 256 → Bytes s p 1 xs → Wide (x ∷ xs) → Passed Wide s p (p + suc (length xs))
 wide-here s p x xs e l h w =
@@ -104,22 +104,25 @@ Found s p q n = CharAt s p q n true × (p < q)
 found : (s c : List ℕ) (p q n : ℕ) → Stretch (Char c) s p q → n ≡ length c → p + n ≤ q → 0 < n → Found s p q n
 found s c p q n k e l m = (record { chars = c; stretch = k; size = e; few = l; plain = λ h. absurd (true-false h) }, omega arith)
 
+letter-small : {c b : ℕ} → Escape c b → b < 256
+letter-small grammar.quote = omega arith
+letter-small grammar.backslash = omega arith
+letter-small grammar.slash = omega arith
+letter-small grammar.backspace = omega arith
+letter-small grammar.formFeed = omega arith
+letter-small grammar.lineFeed = omega arith
+letter-small grammar.carriageReturn = omega arith
+letter-small grammar.tabulation = omega arith
+
+pub letter-not : {b : ℕ} → Letter b → b ≡ 256 → ⊥
+letter-not k e = let l = letter-small (k .escape) in omega arith
+
 pub escape-letter : (s : List ℕ) (p b : ℕ) → byteAt s p ≡ 0x5C → b ≡ byteAt s (p + 1) → Letter b → Found s p (p + 2) 1
 escape-letter s p b e f k =
     let c = k .char in
     found s (c ∷ []) p (p + 2) 1
     (stretch-as (Exactly (0x5C ∷ b ∷ [])) (Char (c ∷ [])) s p (p + 2) (λ ys g. rw g (escape (k .escape))) (bytes-here s p 0x5C (b ∷ []) e (omega arith) (sym f, letter-small (k .escape), tt)))
     refl (omega arith) (omega arith)
-  where
-    letter-small : {c b : ℕ} → Escape c b → b < 256
-    letter-small grammar.quote = omega arith
-    letter-small grammar.backslash = omega arith
-    letter-small grammar.slash = omega arith
-    letter-small grammar.backspace = omega arith
-    letter-small grammar.formFeed = omega arith
-    letter-small grammar.lineFeed = omega arith
-    letter-small grammar.carriageReturn = omega arith
-    letter-small grammar.tabulation = omega arith
 
 unit-char : {x : ℕ} {bs : List ℕ} → (In 0xD800 0xDFFF x → ⊥) → Coded x bs → Char (encode x) bs
 unit-char n (coded f) = unit f n refl

@@ -40,6 +40,7 @@ length-of : (s : List ℕ) (R : List ℕ → Type 0) (p q : ℕ) (k : Stretch R 
 length-of s R p q k = sym (past-length p (k .bytes)) ∙ k .end
 
 pub chars-none : (s : List ℕ) (p : ℕ) → CharsAt s p p 0 false
+unfolding past
 chars-none s p = record { chars = []; stretch = record { bytes = []; holds = noChar; text = refl; end = refl }; size = refl; few = omega arith; plain = λ h. refl }
 
 -- some that stand for themselves
@@ -66,6 +67,9 @@ chars-one : (s : List ℕ) (p q n : ℕ) (e : Bool) → CharAt s p q n e → Cha
 unfolding stretch-as
 chars-one s p q n e k =
     record { chars = k .chars; stretch = stretch-as (Char (k .chars)) (Chars (k .chars)) s p q (λ xs h. one-char h) (k .stretch); size = k .size; few = k .few; plain = k .plain }
+
+pub char-inside : (s : List ℕ) (p q n : ℕ) (e : Bool) → CharAt s p q n e → p < q → q ≤ length s
+char-inside s p q n e k l = stretch-inside (Char (k .chars)) s p q (k .stretch) l
 
 -- one more: it stands for itself, has more than one byte, or is escaped
 pub chars-self : (s : List ℕ) (p q n : ℕ) (e : Bool) → CharsAt s p q n e → q < length s → SelfByte (getD s q 0) → CharsAt s p (q + 1) (n + 1) e
@@ -109,5 +113,5 @@ string-of s p q n e a k b =
       size = k .size;
       few = omega (arith, k .few);
       plain = λ h. let i = k .plain h in
-        (sym (rw (k .stretch .text, i, k .size) (take-append-seam t (drop q s))), omega (arith, k .size, ap (length {A = ℕ}) i));
+          (sym (rw (k .stretch .text, i, k .size) (take-append-seam t (drop q s))), omega (arith, k .size, ap (length {A = ℕ}) i));
     }

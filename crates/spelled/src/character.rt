@@ -92,17 +92,29 @@ pub fn escape(s: &[u8], p: usize) -> Escaped
     ensures { λ r. ⌜ (0 < r .next → CharAt (now (s .entry)) p (r .next) (r .count) true × (p < r .next)) ⌝ }
 {
     if letter(byte_at(s, p + 1)) {
-        return Escaped { next: p + 2, count: 1 };
+        return Escaped {
+            next: p + 2,
+            count: 1,
+        };
     }
     let x = unit(s, p);
     if x < 0x80 {
-        return Escaped { next: p + 6, count: 1 };
+        return Escaped {
+            next: p + 6,
+            count: 1,
+        };
     }
     if x < 0x800 {
-        return Escaped { next: p + 6, count: 2 };
+        return Escaped {
+            next: p + 6,
+            count: 2,
+        };
     }
     if x < 0xD800 {
-        return Escaped { next: p + 6, count: 3 };
+        return Escaped {
+            next: p + 6,
+            count: 3,
+        };
     }
     if x < 0xDC00 {
         let y = unit(s, p + 6);
@@ -112,13 +124,19 @@ pub fn escape(s: &[u8], p: usize) -> Escaped
         if 0xDFFF < y {
             return none();
         }
-        return Escaped { next: p + 12, count: 4 };
+        return Escaped {
+            next: p + 12,
+            count: 4,
+        };
     }
     if x < 0xE000 {
         return none();
     }
     if x < 65536 {
-        return Escaped { next: p + 6, count: 3 };
+        return Escaped {
+            next: p + 6,
+            count: 3,
+        };
     }
     none()
 }

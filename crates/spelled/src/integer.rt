@@ -52,7 +52,10 @@ fn whole(s: &[u8], p: usize) -> Number
     }
     let b = s[p];
     if b == 0x30 {
-        return Number { next: p + 1, value: 0 };
+        return Number {
+            next: p + 1,
+            value: 0,
+        };
     }
     if b < 0x31 {
         return Number { next: 0, value: 0 };
@@ -71,12 +74,24 @@ pub fn integer(s: &[u8], p: usize) -> Halves
         let w = whole(s, p + 1);
         let m = w.value;
         if m == 0 {
-            return Halves { next: w.next, low: 0, high: 0 };
+            return Halves {
+                next: w.next,
+                low: 0,
+                high: 0,
+            };
         }
         let n = 18446744073709551615 - m + 1;
-        return Halves { next: w.next, low: (n % 4294967296) as u32, high: (n / 4294967296) as u32 };
+        return Halves {
+            next: w.next,
+            low: (n % 4294967296) as u32,
+            high: (n / 4294967296) as u32,
+        };
     }
     let w = whole(s, p);
     let m = w.value;
-    Halves { next: w.next, low: (m % 4294967296) as u32, high: (m / 4294967296) as u32 }
+    Halves {
+        next: w.next,
+        low: (m % 4294967296) as u32,
+        high: (m / 4294967296) as u32,
+    }
 }

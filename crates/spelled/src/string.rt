@@ -18,7 +18,11 @@ pub struct Text {
 fn none() -> Text
     ensures { λ r. ⌜ r .next ≡ 0 ⌝ }
 {
-    Text { next: 0, count: 0, escaped: false }
+    Text {
+        next: 0,
+        count: 0,
+        escaped: false,
+    }
 }
 
 // The characters from p on. `next` is the place of the closing quotation mark.
@@ -31,7 +35,11 @@ fn rest(s: &[u8], p: usize) -> Text
     while i < s.len() {
         let b = s[i];
         if b == 0x22 {
-            return Text { next: i, count: n, escaped: escaped };
+            return Text {
+                next: i,
+                count: n,
+                escaped: escaped,
+            };
         }
         if b < 0x20 {
             return none();
@@ -70,11 +78,19 @@ pub fn string(s: &[u8], p: usize, flags: &[u8; 256]) -> Text
     let q = plain::run(s, p + 1, flags);
     let n = q - p - 1;
     if byte_at(s, q) == 0x22 {
-        return Text { next: q + 1, count: n, escaped: false };
+        return Text {
+            next: q + 1,
+            count: n,
+            escaped: false,
+        };
     }
     let r = rest(s, q);
     if r.next == 0 {
         return none();
     }
-    Text { next: r.next + 1, count: n + r.count, escaped: r.escaped }
+    Text {
+        next: r.next + 1,
+        count: n + r.count,
+        escaped: r.escaped,
+    }
 }

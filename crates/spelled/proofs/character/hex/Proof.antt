@@ -1,4 +1,4 @@
--- Made by tools/answers.py from answers/character/hex.ans: edit that. 74130bbde09c163b
+-- Made by tools/answers.py from answers/character/hex.ans: edit that. 29e3ab840557a2d4
 use mathlib.Core.Path.{refl}
 use native.Mathlib.Omega.{arith}
 use Rattle.json.specs.Grammar.{digit, upper, lower}
@@ -22,13 +22,13 @@ cast-result-3 : tie.Need-cast-result-3
 cast-result-3 c = search needs
 
 returns : tie.Need-returns
-returns c = (omega arith, λ h. digit (omega arith) refl)
+returns c = (omega arith, λ h. digit {b = c .before .before .args .b} (omega arith) refl)
 
 returns-2 : tie.Need-returns-2
-returns-2 c = (omega arith, λ h. upper (omega arith) refl)
+returns-2 c = (omega arith, λ h. upper {b = c .before .before .before .before .args .b} (omega arith) refl)
 
 returns-3 : tie.Need-returns-3
-returns-3 c = (omega arith, λ h. lower (omega arith) refl)
+returns-3 c = (omega arith, λ h. lower {b = c .before .before .before .before .before .before .args .b} (omega arith) refl)
 
 returns-4 : tie.Need-returns-4
 returns-4 c = (omega arith, λ h. absurd (omega arith))

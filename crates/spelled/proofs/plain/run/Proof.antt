@@ -1,4 +1,4 @@
--- Made by tools/answers.py from answers/plain/run.ans: edit that. 99a524fac9f5ab7f
+-- Made by tools/answers.py from answers/plain/run.ans: edit that. 5fd36eeca3c03a9b
 use Prim.Native.Nat.{_-_}
 use lib.ListN.{length}
 use native.Mathlib.Omega.{arith}
@@ -23,10 +23,14 @@ shared-slice-read-if1 : tie.Need-shared-slice-read-if1 Inv-loop μ-loop
 shared-slice-read-if1 c = search needs
 
 cast-if1 : tie.Need-cast-if1 Inv-loop μ-loop
-cast-if1 c = search needs
+cast-if1 c =
+    let l = c .before .before .loop in
+    omega (arith, c .shared-slice-known .given (l .i))
 
 element-copy-out-if1 : tie.Need-element-copy-out-if1 Inv-loop μ-loop
-element-copy-out-if1 c = search needs
+element-copy-out-if1 c =
+    let l = c .before .before .loop in
+    omega (arith, c .shared-slice-known .given (l .i))
 
 returns : tie.Need-returns Inv-loop μ-loop
 returns c =
@@ -43,7 +47,7 @@ loop-again : tie.Need-loop-again Inv-loop μ-loop
 loop-again c =
     let s = c .before .before .before .before .before .args .s .now in
     let l = c .before .before .before .before .loop in
-    (selves-more s (c .before .before .before .before .before .args .flags .now) (c .before .before .before .before .before .args .p) (l .i) c .before .before .before .before .before .pre (l .inv .0) (c .before .before .before .loop-test .taken) (c .before .before .shared-slice-known .given (l .i) .fits) (c .if1 .left), omega arith)
+    (selves-more s (c .before .before .before .before .before .args .flags .now) (c .before .before .before .before .before .args .p) (l .i) (c .before .before .before .before .before .pre) (l .inv .0) (c .before .before .before .loop-test .taken) (c .before .before .shared-slice-known .given (l .i) .fits) (c .if1 .left), omega arith)
 
 returns-2 : tie.Need-returns-2 Inv-loop μ-loop
 returns-2 c =
