@@ -6,3 +6,5 @@ pub mod WordLaws
 pub mod StringLaws
 pub mod FlagLaws
 pub mod CharLaws
+pub mod AnyNumber
+pub mod SkipLaws

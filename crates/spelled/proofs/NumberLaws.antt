@@ -22,7 +22,7 @@ use Rattle.spelled.proofs.StretchLaws.{Exactly, stretch-none, stretch-a
 
 -- ---- digits
 
-onward-snoc : {m n b : ℕ} {bs : List ℕ} → Onward m n bs → In 0x30 0x39 b → Onward m (n * 10 + (b - 0x30)) (bs ++ (b ∷ []))
+pub onward-snoc : {m n b : ℕ} {bs : List ℕ} → Onward m n bs → In 0x30 0x39 b → Onward m (n * 10 + (b - 0x30)) (bs ++ (b ∷ []))
 onward-snoc stop i = onward i stop
 onward-snoc (onward h o) i = onward h (onward-snoc o i)
 

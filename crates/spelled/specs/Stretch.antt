@@ -5,7 +5,7 @@ use mathlib.Core.List.{List, [], _∷_, _++_}
 use lib.ListN.{length, drop}
 use Rattle.json.specs.Bytes.{past}
 use Rattle.json.specs.Tree.{Json}
-use Rattle.json.specs.Grammar.{Space, Value, Chars}
+use Rattle.json.specs.Grammar.{Space, Value, Name, Chars}
 
 -- the bytes from p up to q are of R
 pub record Stretch (R : List ℕ → Type 0) (s : List ℕ) (p q : ℕ) : Type 0 where
@@ -36,3 +36,8 @@ Selves bs = Chars bs bs
 pub record ValueAt (d : ℕ) (s : List ℕ) (p q : ℕ) : Type 0 where
   pub tree : Json
   pub passed : Passed (Value d p tree) s p q
+
+-- a name at q with its colon, and white space before it from o on
+pub record NameAt (s : List ℕ) (o q r : ℕ) : Type 0 where
+  pub chars : List ℕ
+  pub stretch : Stretch (Name o q r chars) s o r
