@@ -1,0 +1,4 @@
+pub mod Stretch
+pub mod Leaves
+pub mod Bytes
+pub mod Number
