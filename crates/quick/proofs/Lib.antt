@@ -1,9 +1,8 @@
-pub mod SpaceLaws
-pub mod NumberLaws
 pub mod ListLaws
 pub mod PartLaws
 pub mod TapeLaws
 pub mod WalkLaws
+pub mod BareLaws
 pub mod NameLaws
 pub mod MemberLaws
 pub mod ObjectLaws

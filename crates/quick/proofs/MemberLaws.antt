@@ -13,37 +13,15 @@ use lib.Dec.{eqb}
 use lib.ListN.{length, drop}
 use Rattle.json.specs.Bytes.{In, past}
 use Rattle.json.specs.Tree.{Json, jnull}
-use Rattle.json.specs.Grammar.{Value, literalNull}
 use Rattle.jer.specs.Table.{Table, countOf, optional, typeAt, mayMiss, nullTaken}
 use Rattle.jer.specs.Read.{null?, nullAbsent}
 use Rattle.tokens.specs.Places.{byteAt}
 use Rattle.tokens.proofs.TieFirst.{FirstByte, ofNull, ofTrue, ofFalse, ofMinus, ofDigit, ofRealMinus, ofRealDigit, ofString, ofArray, ofObject, first-byte}
 use Rattle.places.specs.ByPlaces.{bitOf, withBit}
-use Rattle.quick.specs.Stood.{Stretch, TreeAt}
-use Rattle.quick.proofs.ListLaws.{byte-drop}
-use Rattle.quick.proofs.WalkLaws.{mark-inside}
+use Rattle.spelled.specs.Stretch.{Stretch}
+use Rattle.quick.specs.Stood.{TreeAt}
 
 -- ---- null
-
-pub null-here : (s : List ℕ) (p a b c d : ℕ) → a ≡ byteAt s p → a ≡ 0x6E → b ≡ byteAt s (p + 1) → b ≡ 0x75 → c ≡ byteAt s (p + 2) → c ≡ 0x6C → d ≡ byteAt s (p + 3) → d ≡ 0x6C
-    → (p + 4 ≤ length s) × ((n : ℕ) → TreeAt s n p (p + 4) (jnull p))
-unfolding past
-null-here s p a b c d ae ah be bh ce ch de dh =
-    let l = mark-inside s (p + 3) d 0x6C de dh (omega arith) in
-    let e₁ : p + 1 ≡ suc p = omega arith in
-    let e₂ : p + 2 ≡ suc (suc p) = omega arith in
-    let e₃ : p + 3 ≡ suc (suc (suc p)) = omega arith in
-    let e₄ : p + 4 ≡ suc (suc (suc (suc p))) = omega arith in
-    (omega arith,
-    λ n. rw e₄ (record {
-      bytes = 0x6E ∷ 0x75 ∷ 0x6C ∷ 0x6C ∷ [];
-      holds = literalNull;
-      text = byte-drop s p 0x6E (sym ae ∙ ah) (omega arith)
-        ∙ ap (λ (x : List ℕ). 0x6E ∷ x) (byte-drop s (suc p) 0x75 (rw e₁ at (sym be ∙ bh)) (omega arith)
-        ∙ ap (λ (x : List ℕ). 0x75 ∷ x) (byte-drop s (suc (suc p)) 0x6C (rw e₂ at (sym ce ∙ ch)) (omega arith)
-        ∙ ap (λ (x : List ℕ). 0x6C ∷ x) (byte-drop s (suc (suc (suc p))) 0x6C (rw e₃ at (sym de ∙ dh)) (omega arith))));
-      end = refl;
-    }))
 
 digit-not-null : {b : ℕ} → In 0x30 0x39 b → eqb b 0x6E ≡ false
 digit-not-null {b} h = ne-eqb b 0x6E (λ e. omega arith)

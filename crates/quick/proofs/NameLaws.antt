@@ -1,4 +1,4 @@
--- A plain string one byte after another, and the name of a member.
+-- The name of a member.
 use Prim.Native.Nat.{ℕ, suc, _+_, _<_, _≤_}
 use mathlib.Core.Path.{_≡_, refl, sym, ap, _∙_}
 use mathlib.Core.List.{List, [], _∷_, _++_, append-assoc}
@@ -8,7 +8,9 @@ use native.Mathlib.Omega.{arith}
 use lib.ListN.{length, getD, drop}
 use lib.Seq.{drop-cons}
 use Rattle.json.specs.Bytes.{past}
-use Rattle.json.specs.Grammar.{Char, plain, Chars, noChar, char, Quoted, quoted}
+use mathlib.Core.Bool.{Bool}
+use Rattle.spelled.specs.Stretch.{Stretch, Passed}
+use Rattle.spelled.specs.Leaves.{StringAt}
 use Rattle.jer.specs.Table.{Table, position, countOf}
 use Rattle.tokens.specs.Places.{byteAt}
 use Rattle.tokens.specs.Strings.{denoted}
@@ -20,44 +22,23 @@ use Rattle.types.specs.declared.token.Found.{Found}
 use Rattle.types.specs.declared.token.Found.the-variants.{At, Nothing}
 use Rattle.types.specs.Rows.{foundOf}
 use Rattle.quick.specs.declared.name.Name as declared-name
-use Rattle.quick.specs.Stood.{Spaces, PlainAt, NameAt}
+use Rattle.quick.specs.Stood.{Spaces, NameAt}
 use Rattle.quick.specs.Taken.{NameTaken}
 use Rattle.quick.proofs.ListLaws.{byte-drop}
 use Rattle.quick.proofs.WalkLaws.{mark-inside}
 
-chars-snoc : {u ds : List ℕ} {b : ℕ} → Chars u ds → Char (b ∷ []) (b ∷ []) → Chars (u ++ (b ∷ [])) (ds ++ (b ∷ []))
-chars-snoc noChar k = char k noChar refl refl
-chars-snoc {u} {ds} {b} (char {c = c} {s = s} {bs = bs} {cs = cs} h m e f) k =
-    let g : u ++ (b ∷ []) ≡ c ++ (s ++ (b ∷ [])) = rw (e, append-assoc) in
-    let i : ds ++ (b ∷ []) ≡ bs ++ (cs ++ (b ∷ [])) = rw (f, append-assoc) in
-    char h (chars-snoc m k) g i
-
-pub plain-none : (s : List ℕ) (p : ℕ) → PlainAt s p p
+-- a name: its string from o up to q, the colon at c
+pub name-here : {s : List ℕ} {o q c n : ℕ} {e : Bool} (k : StringAt s o q n e) → Spaces s q c → byteAt s c ≡ 0x3A → NameAt s o (c + 1) (k .chars)
 unfolding past
-plain-none s p = record { bytes = []; chars = noChar; text = refl; end = refl }
-
-pub plain-more : (s : List ℕ) (p q b : ℕ) → PlainAt s p q → q < length s → b ≡ getD s q 0 → 0x20 ≤ b → b ≤ 0x7F → (b ≡ 0x22 → ⊥) → (b ≡ 0x5C → ⊥) → PlainAt s p (q + 1)
-unfolding past
-plain-more s p q b k l e g h x y =
-    record {
-      bytes = k .bytes ++ (b ∷ []);
-      chars = chars-snoc (k .chars) (plain (g, h) x y);
-      text = k .text ∙ rw (append-assoc, drop-cons s q 0 l, e, add-one q);
-      end = past-append p (k .bytes) (b ∷ []) ∙ rw (k .end, add-one q);
-    }
-
--- a name: its quotation mark at o, its closing one at q, the colon at c
-pub name-here : (s : List ℕ) (o q c : ℕ) → byteAt s o ≡ 0x22 → (n : PlainAt s (o + 1) q) → byteAt s q ≡ 0x22 → Spaces s (q + 1) c → byteAt s c ≡ 0x3A → NameAt s o (c + 1) (n .bytes)
-unfolding past
-name-here s o q c ob n qb y cb =
-    let us : List ℕ = 0x22 ∷ n .bytes ++ (0x22 ∷ []) in
+name-here {s} {o} {q} {c} k y cb =
+    let x = k .passed .stretch in
     rw (add-one c) (record {
-      marks = us;
-      quoted = quoted (n .chars) refl;
+      marks = x .bytes;
+      quoted = x .holds;
       gap = y .bytes;
       space = y .holds;
-      text = byte-drop s o 0x22 ob (omega arith) ∙ rw (← add-one o, n .text, byte-drop s q 0x22 qb (omega arith), ← add-one q, y .text, byte-drop s c 0x3A cb (omega arith)) (simp append-assoc);
-      end = rw (past-append o us (y .bytes ++ (0x3A ∷ [])), past-append (suc o) (n .bytes) (0x22 ∷ []), ← add-one o, n .end, ← add-one q, past-append (q + 1) (y .bytes) (0x3A ∷ []), y .end);
+      text = x .text ∙ rw (y .text, byte-drop s c 0x3A cb (omega arith));
+      end = rw (past-append o (x .bytes) (y .bytes ++ (0x3A ∷ [])), x .end, past-append q (y .bytes) (0x3A ∷ []), y .end);
     })
 
 -- ---- the member that has it

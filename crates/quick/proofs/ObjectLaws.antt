@@ -24,7 +24,8 @@ use Rattle.tokens.specs.Places.{byteAt}
 use Rattle.tokens.proofs.PlaceLaws.{byte-inside, inside}
 use Rattle.tokens.proofs.TiePlace.{past-append}
 use Rattle.places.proofs.MeaningNames.{position-found, lookup-met, lookup-other}
-use Rattle.quick.specs.Stood.{Stretch, Spaces, TreeAt, Stood, NameAt}
+use Rattle.spelled.specs.Stretch.{Stretch}
+use Rattle.quick.specs.Stood.{Spaces, TreeAt, Stood, NameAt}
 use Rattle.quick.specs.Taken.{MemberAt}
 use Rattle.quick.proofs.ListLaws.{byte-drop}
 use Rattle.quick.proofs.PartLaws.{setPart}

@@ -18,7 +18,8 @@ use Rattle.tokens.specs.Places.{byteAt}
 use Rattle.places.specs.ByPlaces.{bitOf, withBit}
 use Rattle.quick.specs.declared.Got.{Got}
 use Rattle.quick.specs.declared.step.Step as declared-step
-use Rattle.quick.specs.Stood.{Stretch, Spaces, TreeAt, Stood}
+use Rattle.spelled.specs.Stretch.{Stretch}
+use Rattle.quick.specs.Stood.{Spaces, TreeAt, Stood}
 use Rattle.quick.specs.Tape.{Alike, headed, Stands, aSequence}
 use Rattle.quick.specs.Taken.{Headed, Given, Walked, Shuts, Shut, MemberAt, Met, valued, nulled, passed, Stepped}
 use Rattle.quick.proofs.TapeLaws.{alike-part, linked-alike}

@@ -7,7 +7,8 @@ use native.Mathlib.Omega.{arith}
 use lib.Dec.{eqb}
 use lib.ListN.{length, getD, set, length-set}
 use Rattle.json.specs.Tree.{Json, jnull}
-use Rattle.jer.specs.Table.{Table, isType, countOf, typeAt}
+use Rattle.json.specs.Grammar.{Value}
+use Rattle.jer.specs.Table.{Table, isType, countOf, typeAt, extensible}
 use Rattle.jer.specs.Read.{nullAbsent, null?}
 use Rattle.jer.specs.Sane.{Sane}
 use Rattle.tokens.specs.Places.{byteAt}
@@ -15,9 +16,10 @@ use Rattle.places.specs.ByPlaces.{bitOf, withBit}
 use Rattle.quick.specs.declared.Got.{Got}
 use Rattle.quick.specs.declared.name.Name as declared-name
 use Rattle.quick.specs.declared.step.Step as declared-step
-use Rattle.quick.specs.Stood.{Stretch, Spaces, TreeAt}
+use Rattle.spelled.specs.Stretch.{Stretch, Passed, ValueAt}
+use Rattle.quick.specs.Stood.{Spaces, TreeAt}
 use Rattle.quick.specs.Tape.{Alike, Stands}
-use Rattle.quick.specs.Taken.{Given, Taken, Walked, NameTaken, MemberAt, Met, valued, nulled, Stepped}
+use Rattle.quick.specs.Taken.{Given, Taken, Walked, NameTaken, MemberAt, Met, valued, nulled, passed, Stepped}
 use Rattle.quick.proofs.TapeLaws.{alike-part}
 use Rattle.quick.proofs.WalkLaws.{alike-then, alike-set}
 use Rattle.quick.proofs.MemberLaws.{null-at}
@@ -31,9 +33,9 @@ unfolding null?
 no-null p = refl
 
 -- what a value of the member at k is given
-pub member-given : {t : Table} {s z : List ℕ} {r p j at k m : ℕ} → Given t s z r p j → k < countOf t r → m ≡ typeAt t r k → at ≤ length s → Given t s z m at j
+pub member-given : {t : Table} {s z f : List ℕ} {r p j at k m : ℕ} → Given t s z f r p j → k < countOf t r → m ≡ typeAt t r k → at ≤ length s → Given t s z f m at j
 member-given {r = r} {k = k} g l e a =
-    record { sane = g .sane; typed = rw e (g .sane .member r k (g .typed) l); short = g .short; room = g .room; here = omega (arith, g .short); start = g .start }
+    record { sane = g .sane; typed = rw e (g .sane .member r k (g .typed) l); short = g .short; room = g .room; here = omega (arith, g .short); start = g .start; flags = g .flags }
 
 member-at : {t : Table} {s : List ℕ} {r p at : ℕ} {nm : declared-name.Name} (nt : NameTaken t s r p nm) → Spaces s (nm .next) at → (d q : ℕ) (tree : Json) → TreeAt s d at q tree → MemberAt s d p q (nt .name) tree
 member-at {at = at} {nm = nm} nt sp d q tree k = record { colon = nm .next; named = nt .stood; from = at; gap = sp; value = k }
@@ -43,18 +45,18 @@ absent-is t s d r at k q tree ab w = ap (λ (x : Bool). x && nullAbsent t r k) (
 
 module _ {t : Table} {s z : List ℕ} {d r p top end met has at k : ℕ} {nm : declared-name.Name} (nt : NameTaken t s r p nm) (e : k ≡ nm .position) (l : k < countOf t r) (un : bitOf met k ≡ false)
     (sp : Spaces s (nm .next) at × (nm .next ≤ at) × (nm .next ≤ length s → at ≤ length s)) {b : Bool} (ab : b ≡ (eqb (byteAt s at) 0x6E && nullAbsent t r k)) {g : declared-step.Step} where
-  pub step-null : b ≡ true → (n : ℕ) → (0 < n → (n ≡ at + 4) × (n ≤ length s) × ((d : ℕ) → TreeAt s d at n (jnull at))) → {mt : ℕ} → mt ≡ withBit met k → Gave n end 0 0 mt has g → end ≤ length z → 0 < g .next
+  pub step-null : b ≡ true → (n : ℕ) → (0 < n → (d : ℕ) → Passed (Value d at (jnull at)) s at n) → {mt : ℕ} → mt ≡ withBit met k → Gave n end 0 0 mt has g → end ≤ length z → 0 < g .next
       → Stepped t s z z d r p top end met has g
   step-null h n f em w i o =
       let x = f (omega (arith, w .0)) in
-      let y : TreeAt s d at (g .next) (jnull at) = rw (w .0) (x .2 d) in
+      let y : TreeAt s d at (g .next) (jnull at) = rw (w .0) (x d .stretch) in
       record {
         how = nulled {i = k} (member-at nt (sp .0) d (g .next) (jnull at) y) (rw e (nt .known (omega arith))) un (absent-is t s d r at k (g .next) (jnull at) ab y ∙ h) refl (w .1) (w .2) (w .3) (w .4 ∙ em) (w .5);
-        ahead = omega (arith, w .0, sp .1, nt .ahead, x .0);
-        placed = omega (arith, w .0, x .1);
+        ahead = omega (arith, w .0, sp .1, nt .ahead, x d .ahead);
+        placed = omega (arith, w .0, x d .inside);
         words = omega (arith, w .1, w .2);
         inside = omega (arith, w .1);
-        few = omega (arith, w .0, w .3, sp .1, nt .ahead, x .0);
+        few = omega (arith, w .0, w .3, sp .1, nt .ahead, x d .ahead);
       }
 
   pub step-value : b ≡ false → (m c : ℕ) (v : Got) (y : List ℕ) → m ≡ typeAt t r k → c ≡ k → Walked t s z y d m at end v → (v .next ≡ 0 → ⊥) → {mt hs : ℕ} → mt ≡ withBit met k → hs ≡ withBit has k → Gave (v .next) (v .tape) (v .rows) (v .pool) mt hs g
@@ -71,6 +73,25 @@ module _ {t : Table} {s z : List ℕ} {d r p top end met has at k : ℕ} {nm : d
         inside = omega (arith, w .1, x .inside, length-set y (top + 3 + c) end);
         few = omega (arith, w .0, w .3, sp .1, nt .ahead, x .few);
       }
+
+tree-to : {s : List ℕ} {d at n q : ℕ} (j : Json) → q ≡ n → TreeAt s d at n j → TreeAt s d at q j
+tree-to j e k = rw e k
+
+-- an unknown one
+pub step-passed : {t : Table} {s z : List ℕ} {d r p top end met has at : ℕ} {nm : declared-name.Name} (nt : NameTaken t s r p nm) → countOf t r ≤ nm .position
+    → Spaces s (nm .next) at × (nm .next ≤ at) × (nm .next ≤ length s → at ≤ length s) → {b : Bool} → b ≡ extensible t r → b ≡ true → {g : declared-step.Step} (n : ℕ) → (0 < n → ValueAt d s at n)
+    → Gave n end 0 0 met has g → end ≤ length z → 0 < g .next → Stepped t s z z d r p top end met has g
+step-passed {t} {s} {z} {d} {r} {p} {at = at} nt l sp e h {g} n f w i o =
+    let x = f (omega (arith, w .0)) in
+    let y = tree-to (x .tree) (w .0) (x .passed .stretch) in
+    record {
+      how = passed (member-at nt (sp .0) d (g .next) (x .tree) y) (nt .unknown l) (sym e ∙ h) refl (w .1) (w .2) (w .3) (w .4) (w .5);
+      ahead = omega (arith, w .0, sp .1, nt .ahead, x .passed .ahead);
+      placed = omega (arith, w .0, x .passed .inside);
+      words = omega (arith, w .1, w .2);
+      inside = omega (arith, w .1);
+      few = omega (arith, w .0, w .3, sp .1, nt .ahead, x .passed .ahead);
+    }
 
 -- the tape before the links is kept
 pub link-kept : {t : Table} {s z y : List ℕ} {d m at end : ℕ} {v : Got} (b i : ℕ) → Walked t s z y d m at end v → b ≤ end → Alike z (set y (b + i) end) 0 b

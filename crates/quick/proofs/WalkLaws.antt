@@ -10,8 +10,8 @@ use lib.Count.{ones}
 use lib.Dec.{eqb}
 use lib.ListN.{length, getD, set, length-set}
 use lib.Seq.{getD-set-same, getD-set-other}
-use Rattle.jer.specs.Table.{Table, kindOf, isType, countOf, mayMiss, INTEGER}
-use Rattle.jer.specs.Value.{Leaf, Val, vLeaf, lInt}
+use Rattle.jer.specs.Table.{Table, isType, countOf, mayMiss}
+use Rattle.jer.specs.Value.{Leaf, Val, vLeaf}
 use Rattle.jer.specs.Rows.{leafPool, rowsOf, poolOf}
 use Rattle.jer.specs.Sane.{Sane}
 use Rattle.tokens.specs.Places.{byteAt}
@@ -19,8 +19,9 @@ use Rattle.tokens.proofs.PlaceLaws.{inside}
 use Rattle.places.specs.ByPlaces.{bitOf}
 use Rattle.quick.specs.declared.Got.{Got}
 use Rattle.quick.specs.declared.bare.Words as declared-leaf
-use Rattle.quick.specs.Stood.{Stood, IntegerTaken}
-use Rattle.quick.specs.Tape.{headed, Alike, Words, inRow, Header, Stands, aLeaf}
+use Rattle.spelled.specs.Stretch.{Stretch, Within}
+use Rattle.quick.specs.Stood.{Spaces, Stood}
+use Rattle.quick.specs.Tape.{headed, Alike, Words, Header, Stands, aLeaf}
 use Rattle.quick.specs.Taken.{Headed, Shut, Given, LeafTaken, Taken, Walked}
 use Rattle.quick.proofs.TapeLaws.{alike-part}
 
@@ -32,6 +33,14 @@ alike-then z y x j k f g = record { same = λ i h l. g .same i h l ∙ f .same i
 
 pub alike-set : (z : List ℕ) (i a j k : ℕ) → ((n : ℕ) → j ≤ n → n < k → n ≡ i → ⊥) → Alike z (set z i a) j k
 alike-set z i a j k h = record { same = λ n l m. getD-set-other z i n a 0 (λ e. h n l m e) }
+
+-- ---- white space
+
+pub spaced : {s : List ℕ} {p q : ℕ} → Spaces s p q → Within s p q → Spaces s p q × (p ≤ q) × (p ≤ length s → q ≤ length s)
+spaced x w = (x, w .0, λ l. omega (arith, w .1))
+
+pub within-at : (s : List ℕ) {p q : ℕ} → Within s p q → p ≤ length s → q ≤ length s
+within-at s w l = omega (arith, w .1)
 
 -- ---- what is not taken
 
@@ -46,20 +55,6 @@ at-depth t s z y d d′ r p j g e k = rw (← e) k
 
 pub mark-inside : (s : List ℕ) (p b k : ℕ) → b ≡ byteAt s p → b ≡ k → k < 256 → p < length s
 mark-inside s p b k e f l = inside s p (λ w. omega arith)
-
--- ---- an integer
-
-pub integer-leaf : (t : Table) (s : List ℕ) (r p : ℕ) (g : declared-leaf.Words) → kindOf t r ≡ INTEGER → IntegerTaken t s r p (g .next) (g .a) (g .b) → g .pool ≡ 0 → LeafTaken t s r p g
-integer-leaf t s r p g e n o =
-    record {
-      leaf = lInt (n .number);
-      stood = n .stood;
-      words = inRow {l = lInt (n .number)} {a = g .a} {b = g .b} (omega arith) refl (λ q. rw (n .low, n .high));
-      pool = o;
-      ahead = n .ahead;
-      placed = n .placed;
-      few = omega (arith, n .ahead);
-    }
 
 -- ---- a leaf's two words
 
@@ -193,15 +188,15 @@ cleared-more z y from k w e c l =
 
 -- ---- what a part is given
 
-pub given-part : {t : Table} {s z y : List ℕ} {r p j e at end : ℕ} → Given t s z r p j → length y ≡ length z → isType t e ≡ true → at ≤ length s → end ≤ length y → Given t s y e at end
+pub given-part : {t : Table} {s z y f : List ℕ} {r p j e at end : ℕ} → Given t s z f r p j → length y ≡ length z → isType t e ≡ true → at ≤ length s → end ≤ length y → Given t s y f e at end
 given-part g k ty a b =
-    record { sane = g .sane; typed = ty; short = g .short; room = omega (arith, g .room); here = omega (arith, g .short); start = omega (arith, g .room) }
+    record { sane = g .sane; typed = ty; short = g .short; room = omega (arith, g .room); here = omega (arith, g .short); start = omega (arith, g .room); flags = g .flags }
 
 pub walked-from : {t : Table} {s a z x : List ℕ} {d r p j : ℕ} {g : Got} → Alike a z 0 j → Walked t s z x d r p j g → Walked t s a x d r p j g
 walked-from {a = a} {z = z} {x = x} {j = j} f k = record { kept = alike-then a z x 0 j f (k .kept); taken = k .taken }
 
 -- the same type further on
-pub given-on : {t : Table} {s z y : List ℕ} {r p j at end : ℕ} → Given t s z r p j → length y ≡ length z → at ≤ length s → end ≤ length y → Given t s y r at end
+pub given-on : {t : Table} {s z y f : List ℕ} {r p j at end : ℕ} → Given t s z f r p j → length y ≡ length z → at ≤ length s → end ≤ length y → Given t s y f r at end
 given-on g k a b = given-part g k (g .typed) a b
 
 pub walked-if : {t : Table} {s z x : List ℕ} {d r p j : ℕ} {g : Got} → Alike z x 0 j → (0 < g .next → Walked t s z x d r p j g) → Walked t s z x d r p j g

@@ -19,17 +19,19 @@ use Rattle.quick.specs.declared.Got.{Got}
 use Rattle.quick.specs.declared.bare.Words as declared-leaf
 use Rattle.quick.specs.declared.name.Name as declared-name
 use Rattle.quick.specs.declared.step.Step as declared-step
+use Rattle.spelled.specs.Leaves.{IsFlags}
 use Rattle.quick.specs.Stood.{Spaces, TreeAt, Stood, NameAt}
 use Rattle.quick.specs.Tape.{Alike, headed, Words, Stands}
 
--- a good table and a type's row, a text, a tape and a place in each within the sizes
-pub record Given (t : Table) (s z : List ℕ) (row place top : ℕ) : Type 0 where
+-- a good table and a type's row, a text, a tape and a place in each within the sizes; and the flags of plain characters
+pub record Given (t : Table) (s z f : List ℕ) (row place top : ℕ) : Type 0 where
   pub sane : Sane t
   pub typed : isType t row ≡ true
   pub short : length s ≤ 65536
   pub room : length z ≤ 1048576
   pub here : place ≤ 65536
   pub start : top ≤ 1048576
+  pub flags : IsFlags f
 
 -- a leaf was taken: it stands at p, and its words are the two of the answer
 pub record LeafTaken (t : Table) (s : List ℕ) (r p : ℕ) (g : declared-leaf.Words) : Type 0 where

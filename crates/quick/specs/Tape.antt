@@ -1,12 +1,14 @@
 -- What a tape stands for. A value without parts has two words: those of its row. Any other has a header of three words, and then its parts.
 -- A SEQUENCE has, before its parts, a link for each member: 0, or where the member's value stands.
-use Prim.Native.Nat.{ℕ, suc, _+_, _≤_, _<_}
+use Prim.Native.Nat.{ℕ, suc, _+_, _%_, _^_, _≤_, _<_}
 use mathlib.Core.Path.{_≡_}
 use mathlib.Core.List.{List, []}
-use lib.ListN.{length, getD, set}
-use Rattle.jer.specs.Table.{Table, kindOf, elementOf, countOf, typeAt, NULL, SEQUENCE, SEQUENCE-OF, CHOICE}
-use Rattle.jer.specs.Value.{Leaf, Val, vLeaf, vSeq, vList, vChoice, Vals, vnil, vcons, countVals, Parts, pnil, absent, present, countPresent}
+use lib.ListN.{length, getD, set, take, drop}
+use Rattle.json.specs.Grammar.{Quoted}
+use Rattle.jer.specs.Table.{Table, kindOf, elementOf, countOf, typeAt, NULL, UTF8String, SEQUENCE, SEQUENCE-OF, CHOICE}
+use Rattle.jer.specs.Value.{Leaf, lBytes, Val, vLeaf, vSeq, vList, vChoice, Vals, vnil, vcons, countVals, Parts, pnil, absent, present, countPresent}
 use Rattle.jer.specs.Rows.{row, leafRow, leafPool, rowsOf, itemRows, partRows}
+use Rattle.spelled.specs.Stretch.{Stretch}
 
 -- the two tapes agree from j up to k
 pub record Alike (z y : List ℕ) (j k : ℕ) : Type 0 where
@@ -16,9 +18,17 @@ pub record Alike (z y : List ℕ) (j k : ℕ) : Type 0 where
 abbrev pub headed : List ℕ → ℕ → ℕ → ℕ → ℕ → List ℕ
 headed z j a n k = set (set (set z j a) (j + 1) n) (j + 2) k
 
--- the words a and b of a leaf of the type at r: the numbers of its row
+-- at the place a of the text stands a string that denotes x; b is the length of x, with 2^31 more where something in it is escaped
+pub record Text (s : List ℕ) (a b : ℕ) (x : List ℕ) : Type 0 where
+  pub end : ℕ
+  pub quoted : Stretch (Quoted x) s a end
+  pub size : b % 2 ^ 31 ≡ length x
+  pub plain : b < 2 ^ 31 → x ≡ take b (drop (a + 1) s)
+
+-- the words a and b of a leaf of the type at r: the numbers of its row, or where its string stands
 pub data Words (s : List ℕ) (t : Table) (r : ℕ) : Leaf → ℕ → ℕ → Type 0 where
   inRow : {l : Leaf} {a b : ℕ} → kindOf t r ≤ NULL → leafPool l ≡ [] → ((o : ℕ) → leafRow l (kindOf t r) o ≡ row (kindOf t r) a b 1) → Words s t r l a b
+  inText : {x : List ℕ} {a b : ℕ} → kindOf t r ≡ UTF8String → Text s a b x → Words s t r (lBytes x) a b
 
 -- at j stands a header: the number that the row has, how many rows there are with the n of the parts, and where the parts end
 pub record Header (z : List ℕ) (j a n k : ℕ) : Type 0 where

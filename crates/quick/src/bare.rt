@@ -1,11 +1,18 @@
 // A value without parts, at a place of the text.
-use crate::integer::integer;
+use spelled::integer::integer;
+use spelled::string::string;
+use spelled::word::literal_false;
+use spelled::word::literal_null;
+use spelled::word::literal_true;
+use tokens::cursor::byte_at;
 use types::row::Row;
 use types::row::kind_of;
 ghost use mathlib.Core.Path.{_≡_};
-ghost use Prim.Native.Nat.{_≤_, _<_};
+ghost use mathlib.Core.List.{List};
+ghost use Prim.Native.Nat.{ℕ, _≤_, _<_};
 ghost use lib.ListN.{length};
-ghost use Rattle.jer.specs.Table.{table};
+ghost use Rattle.jer.specs.Table.{Table, kindOf, BOOLEAN, INTEGER, NULL, UTF8String, table};
+ghost use Rattle.spelled.specs.Leaves.{IsFlags};
 ghost use Rattle.quick.specs.Taken.{LeafTaken};
 
 // The place after it, or 0; the two words of it; how many pool bytes.
@@ -16,24 +23,56 @@ pub struct Words {
     pub pool: usize,
 }
 
-fn no_leaf() -> Words
-    ensures { λ r. ⌜ r .next ≡ 0 ⌝ }
+fn taken(next: usize, a: u32, b: u32, pool: usize) -> Words
+    ensures { λ r. ⌜ (r .next ≡ next) × (r .a ≡ a) × (r .b ≡ b) × (r .pool ≡ pool) ⌝ }
 {
-    Words { next: 0, a: 0, b: 0, pool: 0 }
+    Words { next, a, b, pool }
 }
 
-pub fn leaf(types: &[u32], names: &[u8], s: &[u8], row: usize, place: usize) -> Words
-    requires { ⌜ (length (now s) ≤ 65536) × (place ≤ 65536) ⌝ }
+pub fn leaf(types: &[u32], names: &[u8], s: &[u8], flags: &[u8; 256], row: usize, place: usize) -> Words
+    requires { ⌜ (length (now s) ≤ 65536) × (place ≤ 65536) × IsFlags (now flags) ⌝ }
     ensures { λ r. ⌜ (0 < r .next → LeafTaken (table (now (types .entry)) (now (names .entry))) (now (s .entry)) row place r) ⌝ }
 {
-    if kind_of(types, row) == Row::INTEGER {
-        let n = integer(s, place);
-        return Words {
-            next: n.next,
-            a: n.a,
-            b: n.b,
-            pool: 0,
-        };
+    match kind_of(types, row) {
+        Row::BOOLEAN => boolean(s, place),
+        Row::INTEGER => number(s, place),
+        Row::NULL => taken(literal_null(s, place), 0, 0, 0),
+        Row::UTF8_STRING => text(s, flags, place),
+        _ => taken(0, 0, 0, 0),
     }
-    no_leaf()
+}
+
+fn boolean(s: &[u8], place: usize) -> Words
+    ensures { λ r. ⌜ (0 < r .next → (t : Table) (row : ℕ) → kindOf t row ≡ BOOLEAN → LeafTaken t (now (s .entry)) row place r) ⌝ }
+{
+    if byte_at(s, place) == 0x74 {
+        return taken(literal_true(s, place), 1, 0, 0);
+    }
+    taken(literal_false(s, place), 0, 0, 0)
+}
+
+fn number(s: &[u8], place: usize) -> Words
+    ensures { λ r. ⌜ (0 < r .next → (t : Table) (row : ℕ) → kindOf t row ≡ INTEGER → LeafTaken t (now (s .entry)) row place r) ⌝ }
+{
+    let n = integer(s, place);
+    taken(n.next, n.low, n.high, 0)
+}
+
+// What is added to the length of a string in which something is escaped.
+pub const ESCAPED: u32 = 2147483648;
+
+// A UTF8String: where it stands, and its length.
+fn text(s: &[u8], flags: &[u8; 256], place: usize) -> Words
+    requires { ⌜ (length (now s) ≤ 65536) × (place ≤ 65536) × IsFlags (now flags) ⌝ }
+    ensures { λ r. ⌜ (0 < r .next → (t : Table) (row : ℕ) → kindOf t row ≡ UTF8String → LeafTaken t (now (s .entry)) row place r) ⌝ }
+{
+    let w = string(s, place, flags);
+    if w.next == 0 {
+        return taken(0, 0, 0, 0);
+    }
+    let n = w.count as u32;
+    if w.escaped {
+        return taken(w.next, place as u32, n + ESCAPED, w.count);
+    }
+    taken(w.next, place as u32, n, w.count)
 }

@@ -9,15 +9,12 @@ use types::token::null_taken;
 ghost use mathlib.Core.Path.{_≡_};
 ghost use mathlib.Core.Bool.{true, false, _&&_};
 ghost use mathlib.Core.List.{List};
-ghost use Prim.Native.Nat.{ℕ, _+_, _≤_, _<_};
+ghost use Prim.Native.Nat.{ℕ, _≤_, _<_};
 ghost use lib.Dec.{eqb};
-ghost use lib.ListN.{length};
-ghost use Rattle.json.specs.Tree.{jnull};
 ghost use Rattle.jer.specs.Table.{countOf, mayMiss, table};
 ghost use Rattle.jer.specs.Read.{nullAbsent};
 ghost use Rattle.tokens.specs.Places.{byteAt};
 ghost use Rattle.places.specs.ByPlaces.{bitOf};
-ghost use Rattle.quick.specs.Stood.{TreeAt};
 
 // Null stands for the absent member.
 fn null_absent(types: &[u32], row: usize, k: u32) -> bool
@@ -37,26 +34,6 @@ pub fn absent_at(types: &[u32], s: &[u8], row: usize, k: u32, place: usize) -> b
         return false;
     }
     null_absent(types, row, k)
-}
-
-// The place after null, or 0.
-pub fn null_end(s: &[u8], place: usize) -> usize
-    requires { ⌜ place ≤ 65536 ⌝ }
-    ensures { λ r. ⌜ (0 < r → (r ≡ place + 4) × (r ≤ length (now (s .entry))) × ((d : ℕ) → TreeAt (now (s .entry)) d place r (jnull place))) ⌝ }
-{
-    if byte_at(s, place) != 0x6E {
-        return 0;
-    }
-    if byte_at(s, place + 1) != 0x75 {
-        return 0;
-    }
-    if byte_at(s, place + 2) != 0x6C {
-        return 0;
-    }
-    if byte_at(s, place + 3) != 0x6C {
-        return 0;
-    }
-    place + 4
 }
 
 // The member at k was met, or may be missing.

@@ -1,9 +1,7 @@
 // The walk over the text, which notes the value on the tape. `depth` brackets may be open in a value.
 use crate::Got;
 use crate::member::absent_at;
-use crate::member::null_end;
 use crate::name::name_at;
-use crate::name::space;
 use crate::note::clear;
 use crate::note::head;
 use crate::note::note;
@@ -14,6 +12,9 @@ use crate::step::gave;
 use crate::step::no_step;
 use scan::met::bit;
 use scan::met::with;
+use spelled::skip::skip;
+use spelled::space::space;
+use spelled::word::literal_null;
 use tokens::cursor::byte_at;
 use types::row::Row;
 use types::row::count_of;
@@ -30,13 +31,13 @@ ghost use Rattle.quick.specs.Tape.{Alike};
 ghost use Rattle.quick.specs.Taken.{Given, Walked, Stepped};
 
 // The value of the type at `row` from the place on, noted on the tape from `top` on.
-pub fn value(types: &[u32], names: &[u8], s: &[u8], tape: &mut [u32], row: usize, place: usize, top: usize, depth: u32) -> Got
-    requires { ⌜ Given (table (now types) (now names)) (now s) (now tape) row place top ⌝ }
+pub fn value(types: &[u32], names: &[u8], s: &[u8], tape: &mut [u32], flags: &[u8; 256], row: usize, place: usize, top: usize, depth: u32) -> Got
+    requires { ⌜ Given (table (now types) (now names)) (now s) (now tape) (now flags) row place top ⌝ }
     ensures { λ r. ⌜ Walked (table (now (types .entry)) (now (names .entry))) (now (s .entry)) (now (tape .entry)) (now (tape .exit)) depth row place top r ⌝ }
 {
     let kind = kind_of(types, row);
     if kind < Row::SEQUENCE {
-        return note(types, names, s, tape, row, place, top);
+        return note(types, names, s, tape, flags, row, place, top);
     }
     if depth == 0 {
         return other();
@@ -45,20 +46,20 @@ pub fn value(types: &[u32], names: &[u8], s: &[u8], tape: &mut [u32], row: usize
         return other();
     }
     if kind == Row::SEQUENCE_OF {
-        return list(types, names, s, tape, row, place, top, depth - 1);
+        return list(types, names, s, tape, flags, row, place, top, depth - 1);
     }
     if kind == Row::SEQUENCE {
         if Row::at(types, row).is_array() {
             return other();
         }
-        return object(types, names, s, tape, row, place, top, depth - 1);
+        return object(types, names, s, tape, flags, row, place, top, depth - 1);
     }
     other()
 }
 
 // SEQUENCE OF; `depth` brackets may be open in an item.
-fn list(types: &[u32], names: &[u8], s: &[u8], tape: &mut [u32], row: usize, place: usize, top: usize, depth: u32) -> Got
-    requires { ⌜ Given (table (now types) (now names)) (now s) (now tape) row place top ⌝ }
+fn list(types: &[u32], names: &[u8], s: &[u8], tape: &mut [u32], flags: &[u8; 256], row: usize, place: usize, top: usize, depth: u32) -> Got
+    requires { ⌜ Given (table (now types) (now names)) (now s) (now tape) (now flags) row place top ⌝ }
     requires { ⌜ (top + 3 ≤ length (now tape)) × (kindOf (table (now types) (now names)) row ≡ SEQUENCE-OF) ⌝ }
     ensures { λ r. ⌜ Walked (table (now (types .entry)) (now (names .entry))) (now (s .entry)) (now (tape .entry)) (now (tape .exit)) (depth + 1) row place top r ⌝ }
 {
@@ -78,7 +79,7 @@ fn list(types: &[u32], names: &[u8], s: &[u8], tape: &mut [u32], row: usize, pla
         if s.len() < at {
             return other();
         }
-        let g = value(types, names, s, tape, element, at, end, depth);
+        let g = value(types, names, s, tape, flags, element, at, end, depth);
         if g.next == 0 {
             return other();
         }
@@ -99,8 +100,8 @@ fn list(types: &[u32], names: &[u8], s: &[u8], tape: &mut [u32], row: usize, pla
 }
 
 // SEQUENCE as an object; `depth` brackets may be open in a member.
-fn object(types: &[u32], names: &[u8], s: &[u8], tape: &mut [u32], row: usize, place: usize, top: usize, depth: u32) -> Got
-    requires { ⌜ Given (table (now types) (now names)) (now s) (now tape) row place top ⌝ }
+fn object(types: &[u32], names: &[u8], s: &[u8], tape: &mut [u32], flags: &[u8; 256], row: usize, place: usize, top: usize, depth: u32) -> Got
+    requires { ⌜ Given (table (now types) (now names)) (now s) (now tape) (now flags) row place top ⌝ }
     requires { ⌜ (kindOf (table (now types) (now names)) row ≡ SEQUENCE) × (isArray (table (now types) (now names)) row ≡ false) ⌝ }
     ensures { λ r. ⌜ Walked (table (now (types .entry)) (now (names .entry))) (now (s .entry)) (now (tape .entry)) (now (tape .exit)) (depth + 1) row place top r ⌝ }
 {
@@ -122,7 +123,7 @@ fn object(types: &[u32], names: &[u8], s: &[u8], tape: &mut [u32], row: usize, p
     let mut n: usize = 0;
     let mut m: usize = 0;
     loop {
-        let g = member(types, names, s, tape, row, at, top, end, met, present, depth);
+        let g = member(types, names, s, tape, flags, row, at, top, end, met, present, depth);
         if g.next == 0 {
             return other();
         }
@@ -144,28 +145,31 @@ fn object(types: &[u32], names: &[u8], s: &[u8], tape: &mut [u32], row: usize, p
 }
 
 // The member whose name stands at the place, of the object whose header is at `top`: its value is noted from `end` on, and linked.
-fn member(types: &[u32], names: &[u8], s: &[u8], tape: &mut [u32], row: usize, place: usize, top: usize, end: usize, met: u64, present: u64, depth: u32) -> Step
-    requires { ⌜ Given (table (now types) (now names)) (now s) (now tape) row place end ⌝ }
+fn member(types: &[u32], names: &[u8], s: &[u8], tape: &mut [u32], flags: &[u8; 256], row: usize, place: usize, top: usize, end: usize, met: u64, present: u64, depth: u32) -> Step
+    requires { ⌜ Given (table (now types) (now names)) (now s) (now tape) (now flags) row place end ⌝ }
     requires { ⌜ (top + 3 + countOf (table (now types) (now names)) row ≤ end) × (end ≤ length (now tape)) ⌝ }
     ensures { λ r. ⌜ Alike (now (tape .entry)) (now (tape .exit)) 0 (top + 3) ⌝ }
     ensures { λ r. ⌜ (0 < r .next → Stepped (table (now (types .entry)) (now (names .entry))) (now (s .entry)) (now (tape .entry)) (now (tape .exit)) depth row place top end met present r) ⌝ }
 {
-    let name = name_at(types, names, s, row, place);
+    let name = name_at(types, names, s, flags, row, place);
     if name.next == 0 {
         return no_step();
     }
+    let at = space(s, name.next);
     let k = name.position;
     if count_of(types, row) <= k {
-        return no_step();
+        if !Row::at(types, row).extensible() {
+            return no_step();
+        }
+        return gave(skip(s, at, flags, depth), end, 0, 0, met, present);
     }
     if bit(met, k) {
         return no_step();
     }
-    let at = space(s, name.next);
     if absent_at(types, s, row, k, at) {
-        return gave(null_end(s, at), end, 0, 0, with(met, k), present);
+        return gave(literal_null(s, at), end, 0, 0, with(met, k), present);
     }
-    let g = value(types, names, s, tape, type_at(types, row, k), at, end, depth);
+    let g = value(types, names, s, tape, flags, type_at(types, row, k), at, end, depth);
     if g.next == 0 {
         return no_step();
     }

@@ -1,8 +1,8 @@
--- Made by tools/answers.py from answers/bare/leaf.ans: edit that. dff63061e420db3d
-use mathlib.Core.Path.{sym, _∙_, refl}
+-- Made by tools/answers.py from answers/bare/leaf.ans: edit that. cc3e636c4f10abed
+use mathlib.Core.Path.{sym, _∙_}
 use native.Mathlib.Omega.{arith}
 use Rattle.jer.specs.Table.{table}
-use Rattle.quick.proofs.WalkLaws.{integer-leaf}
+use Rattle.quick.proofs.BareLaws.{null-leaf}
 use borrow.Author.Needs.{needs}
 use Rattle.quick.proofs.bare.leaf.Statement.{statement}
 use Rattle.quick.proofs.bare.leaf.Tie as tie
@@ -10,26 +10,63 @@ use Rattle.quick.proofs.bare.leaf.Tie as tie
 kind-of-requires : tie.Need-kind-of-requires
 kind-of-requires c κs = search needs
 
-integer-requires : tie.Need-integer-requires
-integer-requires c κs = search needs
+boolean-requires : tie.Need-boolean-requires
+boolean-requires c κs = search needs
+
+number-requires : tie.Need-number-requires
+number-requires c κs = search needs
+
+literal-null-requires : tie.Need-literal-null-requires
+literal-null-requires c κs = search needs
+
+taken-requires : tie.Need-taken-requires
+taken-requires c κs = search needs
+
+text-requires : tie.Need-text-requires
+text-requires c κs = search needs
+
+taken-requires-2 : tie.Need-taken-requires-2
+taken-requires-2 c κs = search needs
 
 returns : tie.Need-returns
 returns c =
     let t = table (c .before .before .before .before .before .before .args .types .now) (c .before .before .before .before .before .before .args .names .now) in
-    λ h. let k = c .integer .ensures h in let e = sym (c .before .before .kind-of .ensures (c .before .before .before .before .before .before .args .names .now)) ∙ c .before .if1 .taken in integer-leaf t (c .before .before .before .before .before .before .args .s .now) (c .before .before .before .before .before .before .args .row) (c .before .before .before .before .before .before .args .place) _ e (k .2 t (c .before .before .before .before .before .before .args .row) e) refl
-
-no-leaf-requires : tie.Need-no-leaf-requires
-no-leaf-requires c κs = search needs
+    let kind = c .before .before .kind-of .ensures (c .before .before .before .before .before .before .args .names .now) in
+    λ h. c .boolean .ensures h t (c .before .before .before .before .before .before .args .row) (sym kind ∙ c .before .match .keys1)
 
 returns-2 : tie.Need-returns-2
-returns-2 c = λ h. absurd (omega (arith, c .no-leaf .ensures))
+returns-2 c =
+    let t = table (c .before .before .before .before .before .before .args .types .now) (c .before .before .before .before .before .before .args .names .now) in
+    let kind = c .before .before .kind-of .ensures (c .before .before .before .before .before .before .args .names .now) in
+    λ h. c .number .ensures h t (c .before .before .before .before .before .before .args .row) (sym kind ∙ c .before .match .keys2)
+
+returns-3 : tie.Need-returns-3
+returns-3 c =
+    let kind = c .before .before .before .kind-of .ensures (c .before .before .before .before .before .before .before .args .names .now) in
+    λ h. null-leaf (sym kind ∙ c .before .before .match .keys3) (c .before .literal-null .ensures) (c .taken .ensures) h
+
+returns-4 : tie.Need-returns-4
+returns-4 c =
+    let t = table (c .before .before .before .before .before .before .args .types .now) (c .before .before .before .before .before .before .args .names .now) in
+    let kind = c .before .before .kind-of .ensures (c .before .before .before .before .before .before .args .names .now) in
+    λ h. c .text .ensures h t (c .before .before .before .before .before .before .args .row) (sym kind ∙ c .before .match .keys4)
+
+returns-5 : tie.Need-returns-5
+returns-5 c = λ h. absurd (omega (arith, c .taken2 .ensures .0))
 
 pub leaf-spec : {M : Type 1} → statement M
 leaf-spec =
     tie.close
     (tie.spec
     kind-of-requires
-    integer-requires
+    boolean-requires
+    number-requires
+    literal-null-requires
+    taken-requires
+    text-requires
+    taken-requires-2
     returns
-    no-leaf-requires
-    returns-2)
+    returns-2
+    returns-3
+    returns-4
+    returns-5)

@@ -1,4 +1,4 @@
--- Made by tools/answers.py from answers/note/note.ans: edit that. 4f8c22cd4a98e409
+-- Made by tools/answers.py from answers/note/note.ans: edit that. 1a518b6bd5d39b11
 use mathlib.Core.Path.{refl}
 use lib.ListN.{length-set}
 use native.Mathlib.Omega.{arith}
@@ -49,8 +49,8 @@ mul-tape-2 c = search needs
 slice-write-tape-2 : tie.Need-slice-write-tape-2
 slice-write-tape-2 c = omega (arith, length-set (c .before .before .before .before .before .before .before .before .args .tape .now) (c .before .before .before .before .before .before .before .before .args .top) (c .before .before .leaf .result .a), c .before .before .before .if1 .left)
 
-add-t10 : tie.Need-add-t10
-add-t10 c = search needs
+add-t11 : tie.Need-add-t11
+add-t11 c = search needs
 
 same-length : tie.Need-same-length
 same-length c = search needs
@@ -77,6 +77,6 @@ note-spec =
     add-tape
     mul-tape-2
     slice-write-tape-2
-    add-t10
+    add-t11
     same-length
     returns-3)

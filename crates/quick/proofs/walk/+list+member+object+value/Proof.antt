@@ -1,4 +1,4 @@
--- Made by tools/answers.py from answers/walk/+list+member+object+value.ans: edit that. d5f312ecfa825ad7
+-- Made by tools/answers.py from answers/walk/+list+member+object+value.ans: edit that. 75d240de7ab55283
 use Prim.Native.Nat.{ℕ, _<_, _≤_, _+_, _-_, _*_}
 use mathlib.Core.Path.{_≡_, refl, sym, ap, _∙_}
 use native.Mathlib.Omega.{arith}
@@ -6,9 +6,10 @@ use lib.ListN.{length}
 use Rattle.jer.specs.Table.{table}
 use mathlib.Core.List.{[]}
 use lib.ListN.{length-set}
+use borrow.Author.Tests.{not-false}
 use Rattle.quick.proofs.TapeLaws.{alike-part}
-use Rattle.quick.proofs.WalkLaws.{alike-same, alike-then, not-taken, not-here, at-depth, mark-inside, given-part, given-on, walked-from, walked-if}
-use Rattle.quick.proofs.StepLaws.{member-given, step-null, step-value, link-kept, known-at, links-at, cleared-below}
+use Rattle.quick.proofs.WalkLaws.{alike-same, alike-then, not-taken, not-here, at-depth, mark-inside, given-part, given-on, walked-from, walked-if, spaced, within-at}
+use Rattle.quick.proofs.StepLaws.{member-given, step-null, step-value, step-passed, link-kept, known-at, links-at, cleared-below}
 use Rattle.quick.proofs.ObjectingLaws.{Objecting, objecting-start, objecting-more, objecting-last, objecting-after, shuts-any, shuts-none, shuts-after, object-none}
 use Rattle.quick.proofs.ListingLaws.{Listing, listing-start, listing-bounds, listing-kept, listing-more, listing-last, list-none}
 use borrow.Author.Needs.{needs}
@@ -27,9 +28,7 @@ use Rattle.quick.proofs.walk.value.Reads as value
 use Rattle.quick.proofs.walk.value.Kinds as value-kinds
 use Rattle.quick.proofs.walk.+list+member+object+value.Lts-value as value-lts
 use Rattle.quick.proofs.member.absent_at.Reads as absent-at-reads
-use Rattle.quick.proofs.member.null_end.Reads as null-end-reads
 use Rattle.quick.proofs.name.name_at.Reads as name-at-reads
-use Rattle.quick.proofs.name.space.Reads as space-reads
 use Rattle.quick.proofs.note.clear.Reads as clear-reads
 use Rattle.quick.proofs.note.head.Reads as head-reads
 use Rattle.quick.proofs.note.note.Reads as note-reads
@@ -39,8 +38,12 @@ use Rattle.quick.proofs.step.gave.Reads as gave-reads
 use Rattle.quick.proofs.step.no_step.Reads as no-step-reads
 use Rattle.scan.proofs.met.bit.Reads as bit-reads
 use Rattle.scan.proofs.met.with.Reads as with-reads
+use Rattle.spelled.proofs.skip.skip.Reads as skip-reads
+use Rattle.spelled.proofs.space.space.Reads as space-reads
+use Rattle.spelled.proofs.word.literal_null.Reads as literal-null-reads
 use Rattle.tokens.proofs.cursor.byte_at.Reads as byte-at-reads
 use Rattle.types.proofs.row.Row.at.Reads as at-reads
+use Rattle.types.proofs.row.Row.extensible.Reads as extensible-reads
 use Rattle.types.proofs.row.Row.is_array.Reads as is-array-reads
 use Rattle.types.proofs.row.count_of.Reads as count-of-reads
 use Rattle.types.proofs.row.element_of.Reads as element-of-reads
@@ -50,47 +53,47 @@ use Rattle.types.proofs.row.wide.Reads as wide-reads
 use Rattle.quick.proofs.walk.+list+member+object+value.{statement}
 use Rattle.quick.proofs.walk.+list+member+object+value.Tie.{close}
 
-abbrev μ-list : Measures 4 list-kinds.ps ℕ
-μ-list κs a = a .1 .1 .1 .1 .1 .1 .1 .0 * 4 + 5
+abbrev μ-list : Measures 5 list-kinds.ps ℕ
+μ-list κs a = a .1 .1 .1 .1 .1 .1 .1 .1 .0 * 4 + 5
 
-abbrev μ-member : Measures 4 member-kinds.ps ℕ
-μ-member κs a = a .1 .1 .1 .1 .1 .1 .1 .1 .1 .1 .0 * 4 + 4
+abbrev μ-member : Measures 5 member-kinds.ps ℕ
+μ-member κs a = a .1 .1 .1 .1 .1 .1 .1 .1 .1 .1 .1 .0 * 4 + 4
 
-abbrev μ-object : Measures 4 object-kinds.ps ℕ
-μ-object κs a = a .1 .1 .1 .1 .1 .1 .1 .0 * 4 + 5
+abbrev μ-object : Measures 5 object-kinds.ps ℕ
+μ-object κs a = a .1 .1 .1 .1 .1 .1 .1 .1 .0 * 4 + 5
 
-abbrev μ-value : Measures 4 value-kinds.ps ℕ
-μ-value κs a = a .1 .1 .1 .1 .1 .1 .1 .0 * 4 + 3
+abbrev μ-value : Measures 5 value-kinds.ps ℕ
+μ-value κs a = a .1 .1 .1 .1 .1 .1 .1 .1 .0 * 4 + 3
 
-abbrev list-at : ℕ → In 4 list-kinds.ps
-list-at t = and 4 list-kinds.ps (is 4 list-kinds.ps μ-list t) list.Pre
+abbrev list-at : ℕ → In 5 list-kinds.ps
+list-at t = and 5 list-kinds.ps (is 5 list-kinds.ps μ-list t) list.Pre
 
-abbrev list-below : ℕ → In 4 list-kinds.ps
-list-below t = and 4 list-kinds.ps (falls 4 list-kinds.ps _<_ μ-list t) list.Pre
+abbrev list-below : ℕ → In 5 list-kinds.ps
+list-below t = and 5 list-kinds.ps (falls 5 list-kinds.ps _<_ μ-list t) list.Pre
 
-abbrev member-at : ℕ → In 4 member-kinds.ps
-member-at t = and 4 member-kinds.ps (is 4 member-kinds.ps μ-member t) member.Pre
+abbrev member-at : ℕ → In 5 member-kinds.ps
+member-at t = and 5 member-kinds.ps (is 5 member-kinds.ps μ-member t) member.Pre
 
-abbrev member-below : ℕ → In 4 member-kinds.ps
-member-below t = and 4 member-kinds.ps (falls 4 member-kinds.ps _<_ μ-member t) member.Pre
+abbrev member-below : ℕ → In 5 member-kinds.ps
+member-below t = and 5 member-kinds.ps (falls 5 member-kinds.ps _<_ μ-member t) member.Pre
 
-abbrev object-at : ℕ → In 4 object-kinds.ps
-object-at t = and 4 object-kinds.ps (is 4 object-kinds.ps μ-object t) object.Pre
+abbrev object-at : ℕ → In 5 object-kinds.ps
+object-at t = and 5 object-kinds.ps (is 5 object-kinds.ps μ-object t) object.Pre
 
-abbrev object-below : ℕ → In 4 object-kinds.ps
-object-below t = and 4 object-kinds.ps (falls 4 object-kinds.ps _<_ μ-object t) object.Pre
+abbrev object-below : ℕ → In 5 object-kinds.ps
+object-below t = and 5 object-kinds.ps (falls 5 object-kinds.ps _<_ μ-object t) object.Pre
 
-abbrev value-at : ℕ → In 4 value-kinds.ps
-value-at t = and 4 value-kinds.ps (is 4 value-kinds.ps μ-value t) value.Pre
+abbrev value-at : ℕ → In 5 value-kinds.ps
+value-at t = and 5 value-kinds.ps (is 5 value-kinds.ps μ-value t) value.Pre
 
-abbrev value-below : ℕ → In 4 value-kinds.ps
-value-below t = and 4 value-kinds.ps (falls 4 value-kinds.ps _<_ μ-value t) value.Pre
+abbrev value-below : ℕ → In 5 value-kinds.ps
+value-below t = and 5 value-kinds.ps (falls 5 value-kinds.ps _<_ μ-value t) value.Pre
 
 abbrev list-calls : ℕ → list-lts.Claims
 list-calls t = (byte-at-reads.Asked, byte-at-reads.Learnt, other-reads.Asked, other-reads.Learnt, element-of-reads.Asked, element-of-reads.Learnt, space-reads.Asked, space-reads.Learnt, head-reads.Asked, head-reads.Learnt, value-below t, value.Post)
 
 abbrev member-calls : ℕ → member-lts.Claims
-member-calls t = (name-at-reads.Asked, name-at-reads.Learnt, no-step-reads.Asked, no-step-reads.Learnt, count-of-reads.Asked, count-of-reads.Learnt, bit-reads.Asked, bit-reads.Learnt, space-reads.Asked, space-reads.Learnt, absent-at-reads.Asked, absent-at-reads.Learnt, null-end-reads.Asked, null-end-reads.Learnt, with-reads.Asked, with-reads.Learnt, gave-reads.Asked, gave-reads.Learnt, type-at-reads.Asked, type-at-reads.Learnt, value-below t, value.Post, wide-reads.Asked, wide-reads.Learnt)
+member-calls t = (name-at-reads.Asked, name-at-reads.Learnt, no-step-reads.Asked, no-step-reads.Learnt, space-reads.Asked, space-reads.Learnt, count-of-reads.Asked, count-of-reads.Learnt, at-reads.Asked, at-reads.Learnt, extensible-reads.Asked, extensible-reads.Learnt, skip-reads.Asked, skip-reads.Learnt, gave-reads.Asked, gave-reads.Learnt, bit-reads.Asked, bit-reads.Learnt, absent-at-reads.Asked, absent-at-reads.Learnt, literal-null-reads.Asked, literal-null-reads.Learnt, with-reads.Asked, with-reads.Learnt, type-at-reads.Asked, type-at-reads.Learnt, value-below t, value.Post, wide-reads.Asked, wide-reads.Learnt)
 
 abbrev object-calls : ℕ → object-lts.Claims
 object-calls t = (byte-at-reads.Asked, byte-at-reads.Learnt, other-reads.Asked, other-reads.Learnt, count-of-reads.Asked, count-of-reads.Learnt, wide-reads.Asked, wide-reads.Learnt, clear-reads.Asked, clear-reads.Learnt, space-reads.Asked, space-reads.Learnt, shut-reads.Asked, shut-reads.Learnt, member-below t, member.Post)
@@ -99,10 +102,10 @@ abbrev value-calls : ℕ → value-lts.Claims
 value-calls t = (kind-of-reads.Asked, kind-of-reads.Learnt, note-reads.Asked, note-reads.Learnt, other-reads.Asked, other-reads.Learnt, list-below t, list.Post, at-reads.Asked, at-reads.Learnt, is-array-reads.Asked, is-array-reads.Learnt, object-below t, object.Post)
 
 abbrev list-Inv-loop : list-lts.InvT-loop
-list-Inv-loop types names s tape₀ row place top depth element at₀ end₀ count₀ n₀ m₀ tape at end count n m = Listing (table types names) s tape₀ tape depth row place top at end count n m
+list-Inv-loop types names s tape₀ flags row place top depth element at₀ end₀ count₀ n₀ m₀ tape at end count n m = Listing (table types names) s tape₀ tape depth row place top at end count n m
 
 abbrev list-μ-loop : list-lts.MeasureT-loop
-list-μ-loop types names s tape₀ row place top depth element at₀ end₀ count₀ n₀ m₀ tape at end count n m = 65537 - at
+list-μ-loop types names s tape₀ flags row place top depth element at₀ end₀ count₀ n₀ m₀ tape at end count n m = 65537 - at
 
 list-byte-at-requires : (t : ℕ) → list-lts.Need-byte-at-requires (list-calls t) (list-at t) list.Post list-Inv-loop list-μ-loop
 list-byte-at-requires t c κs = search needs
@@ -152,7 +155,7 @@ list-returns-2 t c =
     let row = c .before .before .before .before .before .before .before .before .before .before .before .before .before .before .args .row in
     let place = c .before .before .before .before .before .before .before .before .before .before .before .before .before .before .args .place in
     let top = c .before .before .before .before .before .before .before .before .before .before .before .before .before .before .args .top in
-    list-none t s (c .before .before .before .before .before .before .before .before .before .before .before .before .before .before .args .tape .now) _ (c .before .before .before .before .before .before .before .before .before .before .before .before .before .before .args .depth) row place top (c .before .before .before .before .before .before .space .result) (c .before .before .before .before .before .byte-at2 .result) (c .before .before .before .before .before .before .before .before .before .byte-at .result) _ (c .before .before .before .before .before .before .before .before .before .before .before .before .before .before .pre .1 .1 .1) (c .before .before .before .before .before .before .before .before .before .before .before .before .before .before .pre .1 .1 .0) (c .before .before .before .before .before .before .before .before .before .byte-at .ensures .0) (c .before .before .before .before .before .before .before .before .if1 .left) (c .before .before .before .before .before .before .space .ensures .0) (c .before .before .before .before .before .before .space .ensures .1) (c .before .before .before .before .before .byte-at2 .ensures .0) (c .before .before .before .before .if2 .taken) (c .before .before .head .ensures .0) (c .before .before .head .ensures .1)
+    list-none t s (c .before .before .before .before .before .before .before .before .before .before .before .before .before .before .args .tape .now) _ (c .before .before .before .before .before .before .before .before .before .before .before .before .before .before .args .depth) row place top (c .before .before .before .before .before .before .space .result) (c .before .before .before .before .before .byte-at2 .result) (c .before .before .before .before .before .before .before .before .before .byte-at .result) _ (c .before .before .before .before .before .before .before .before .before .before .before .before .before .before .pre .1 .1 .1) (c .before .before .before .before .before .before .before .before .before .before .before .before .before .before .pre .1 .1 .0) (c .before .before .before .before .before .before .before .before .before .byte-at .ensures .0) (c .before .before .before .before .before .before .before .before .if1 .left) (c .before .before .before .before .before .before .space .ensures .0) (c .before .before .before .before .before .before .space .ensures .1 .0) (c .before .before .before .before .before .byte-at2 .ensures .0) (c .before .before .before .before .if2 .taken) (c .before .before .head .ensures .0) (c .before .before .head .ensures .1)
 
 list-add-end : (t : ℕ) → list-lts.Need-add-end (list-calls t) (list-at t) list.Post list-Inv-loop list-μ-loop
 list-add-end t c = search needs
@@ -164,7 +167,7 @@ list-loop-holds t c =
     let row = c .before .before .before .before .before .before .before .before .before .before .args .row in
     let place = c .before .before .before .before .before .before .before .before .before .before .args .place in
     let top = c .before .before .before .before .before .before .before .before .before .before .args .top in
-    listing-start t s (c .before .before .before .before .before .before .before .before .before .before .args .tape .now) (c .before .before .before .before .before .before .before .before .before .before .args .depth) row place top (c .before .before .space .result) (c .before .before .space .ensures .0) (c .before .before .space .ensures .1) (c .before .before .before .before .before .before .before .before .before .before .pre .1 .1 .0)
+    listing-start t s (c .before .before .before .before .before .before .before .before .before .before .args .tape .now) (c .before .before .before .before .before .before .before .before .before .before .args .depth) row place top (c .before .before .space .result) (c .before .before .space .ensures .0) (c .before .before .space .ensures .1 .0) (c .before .before .before .before .before .before .before .before .before .before .pre .1 .1 .0)
 
 list-other-requires-2 : (t : ℕ) → list-lts.Need-other-requires-2 (list-calls t) (list-at t) list.Post list-Inv-loop list-μ-loop
 list-other-requires-2 t c κs = search needs
@@ -205,10 +208,7 @@ list-returns-4 t c =
     not-taken t s (c .before .before .before .before .before .before .before .before .before .before .before .before .before .before .before .before .before .before .before .args .tape .now) _ (c .before .before .before .before .before .before .before .before .before .before .before .before .before .before .before .before .before .before .before .args .depth + 1) row place top _ kept (c .other3 .ensures)
 
 list-space-requires-2 : (t : ℕ) → list-lts.Need-space-requires-2 (list-calls t) (list-at t) list.Post list-Inv-loop list-μ-loop
-list-space-requires-2 t c κs =
-    let names = c .before .before .before .before .before .before .before .before .before .before .before .before .before .before .before .before .before .before .args .names .now in
-    let numbers = listing-bounds (c .before .before .before .before .before .before .before .loop .inv) (c .before .before .before .before .before .before .before .before .before .before .before .element-of .ensures names) (c .before .before .before .before .value .ensures) (c .if4 .left) (c .before .before .before .before .value .kept .1 .1 .1 .0) in
-    omega (arith, numbers, (c .before .before .before .before .before .before .before .before .before .before .before .before .before .before .before .before .before .before .pre .1 .0) .short)
+list-space-requires-2 t c κs = search needs
 
 list-byte-at-requires-3 : (t : ℕ) → list-lts.Need-byte-at-requires-3 (list-calls t) (list-at t) list.Post list-Inv-loop list-μ-loop
 list-byte-at-requires-3 t c κs = search needs
@@ -248,7 +248,7 @@ list-same-length-4 t c = search needs
 list-returns-5 : (t : ℕ) → list-lts.Need-returns-5 (list-calls t) (list-at t) list.Post list-Inv-loop list-μ-loop
 list-returns-5 t c =
     let names = c .before .before .before .before .before .before .before .before .before .before .before .before .before .before .before .before .before .before .before .before .before .before .before .before .before .before .before .args .names .now in
-    listing-last (c .before .before .before .before .before .before .before .before .before .before .before .before .before .before .before .before .loop .inv) (c .before .before .before .before .before .before .before .before .before .before .before .before .before .before .before .before .before .before .before .before .element-of .ensures names) (c .before .before .before .before .before .before .before .before .before .before .before .before .before .value .ensures) (c .before .before .before .before .before .before .before .before .before .if4 .left) (c .before .before .before .before .before .before .before .before .before .before .before .before .before .value .kept .1 .1 .1 .0) (c .before .before .before .before .before .before .before .before .space2 .ensures) (c .before .before .before .before .before .before .before .byte-at3 .ensures .0) (c .before .before .before .before .before .before .before .before .before .before .before .before .before .before .before .before .before .before .before .before .before .before .before .before .before .before .before .pre .1 .1 .1) (c .before .before .before .before .before .before .before .before .before .before .before .before .before .before .before .before .before .before .before .before .before .before .byte-at .ensures .0) (c .before .before .before .before .before .before .before .before .before .before .before .before .before .before .before .before .before .before .before .before .before .if1 .left) (c .before .before .before .before .before .before .if5 .taken) (c .before .before .head2 .ensures .0) (c .before .before .head2 .ensures .1)
+    listing-last (c .before .before .before .before .before .before .before .before .before .before .before .before .before .before .before .before .loop .inv) (c .before .before .before .before .before .before .before .before .before .before .before .before .before .before .before .before .before .before .before .before .element-of .ensures names) (c .before .before .before .before .before .before .before .before .before .before .before .before .before .value .ensures) (c .before .before .before .before .before .before .before .before .before .if4 .left) (c .before .before .before .before .before .before .before .before .before .before .before .before .before .value .kept .1 .1 .1 .0) (spaced (c .before .before .before .before .before .before .before .before .space2 .ensures .0) (c .before .before .before .before .before .before .before .before .space2 .ensures .1)) (c .before .before .before .before .before .before .before .byte-at3 .ensures .0) (c .before .before .before .before .before .before .before .before .before .before .before .before .before .before .before .before .before .before .before .before .before .before .before .before .before .before .before .pre .1 .1 .1) (c .before .before .before .before .before .before .before .before .before .before .before .before .before .before .before .before .before .before .before .before .before .before .byte-at .ensures .0) (c .before .before .before .before .before .before .before .before .before .before .before .before .before .before .before .before .before .before .before .before .before .if1 .left) (c .before .before .before .before .before .before .if5 .taken) (c .before .before .head2 .ensures .0) (c .before .before .head2 .ensures .1)
 
 list-other-requires-4 : (t : ℕ) → list-lts.Need-other-requires-4 (list-calls t) (list-at t) list.Post list-Inv-loop list-μ-loop
 list-other-requires-4 t c κs = search needs
@@ -273,9 +273,7 @@ list-add-space-2 t c =
     omega (arith, comma, (c .before .before .before .before .before .before .before .before .before .before .before .before .before .before .before .before .before .before .before .before .before .before .pre .1 .0) .short)
 
 list-space-requires-3 : (t : ℕ) → list-lts.Need-space-requires-3 (list-calls t) (list-at t) list.Post list-Inv-loop list-μ-loop
-list-space-requires-3 t c κs =
-    let comma = mark-inside (c .before .before .before .before .before .before .before .before .before .before .before .before .before .before .before .before .before .before .before .before .before .before .args .s .now) (c .before .before .before .space2 .result) (c .before .before .byte-at3 .result) 0x2C (c .before .before .byte-at3 .ensures .0) (c .if6 .left) (omega arith) in
-    omega (arith, comma, (c .before .before .before .before .before .before .before .before .before .before .before .before .before .before .before .before .before .before .before .before .before .before .pre .1 .0) .short)
+list-space-requires-3 t c κs = search needs
 
 list-add-count : (t : ℕ) → list-lts.Need-add-count (list-calls t) (list-at t) list.Post list-Inv-loop list-μ-loop
 list-add-count t c =
@@ -299,12 +297,12 @@ list-loop-less : (t : ℕ) → list-lts.Need-loop-less (list-calls t) (list-at t
 list-loop-less t c =
     let names = c .before .before .before .before .before .before .before .before .before .before .before .before .before .before .before .before .before .before .before .before .before .before .before .before .before .args .names .now in
     let numbers = listing-bounds (c .before .before .before .before .before .before .before .before .before .before .before .before .before .before .loop .inv) (c .before .before .before .before .before .before .before .before .before .before .before .before .before .before .before .before .before .before .element-of .ensures names) (c .before .before .before .before .before .before .before .before .before .before .before .value .ensures) (c .before .before .before .before .before .before .before .if4 .left) (c .before .before .before .before .before .before .before .before .before .before .before .value .kept .1 .1 .1 .0) in
-    omega (arith, numbers, c .before .before .before .before .before .before .space2 .ensures .1, c .before .before .space3 .ensures .1, c .before .before .before .before .before .before .before .before .before .before .before .before .before .if3 .left, (c .before .before .before .before .before .before .before .before .before .before .before .before .before .before .before .before .before .before .before .before .before .before .before .before .before .pre .1 .0) .short)
+    omega (arith, numbers, c .before .before .before .before .before .before .space2 .ensures .1 .0, c .before .before .space3 .ensures .1 .0, c .before .before .before .before .before .before .before .before .before .before .before .before .before .if3 .left, (c .before .before .before .before .before .before .before .before .before .before .before .before .before .before .before .before .before .before .before .before .before .before .before .before .before .pre .1 .0) .short)
 
 list-loop-again : (t : ℕ) → list-lts.Need-loop-again (list-calls t) (list-at t) list.Post list-Inv-loop list-μ-loop
 list-loop-again t c =
     let names = c .before .before .before .before .before .before .before .before .before .before .before .before .before .before .before .before .before .before .before .before .before .before .before .before .before .args .names .now in
-    listing-more (c .before .before .before .before .before .before .before .before .before .before .before .before .before .before .loop .inv) (c .before .before .before .before .before .before .before .before .before .before .before .before .before .before .before .before .before .before .element-of .ensures names) (c .before .before .before .before .before .before .before .before .before .before .before .value .ensures) (c .before .before .before .before .before .before .before .if4 .left) (c .before .before .before .before .before .before .before .before .before .before .before .value .kept .1 .1 .1 .0) (c .before .before .before .before .before .before .space2 .ensures) (c .before .before .before .before .before .byte-at3 .ensures .0) (c .before .before .before .if6 .left) (c .before .before .space3 .ensures)
+    listing-more (c .before .before .before .before .before .before .before .before .before .before .before .before .before .before .loop .inv) (c .before .before .before .before .before .before .before .before .before .before .before .before .before .before .before .before .before .before .element-of .ensures names) (c .before .before .before .before .before .before .before .before .before .before .before .value .ensures) (c .before .before .before .before .before .before .before .if4 .left) (c .before .before .before .before .before .before .before .before .before .before .before .value .kept .1 .1 .1 .0) (spaced (c .before .before .before .before .before .before .space2 .ensures .0) (c .before .before .before .before .before .before .space2 .ensures .1)) (c .before .before .before .before .before .byte-at3 .ensures .0) (c .before .before .before .if6 .left) (spaced (c .before .before .space3 .ensures .0) (c .before .before .space3 .ensures .1))
 
 member-name-at-requires : (t : ℕ) → member-lts.Need-name-at-requires (member-calls t) (member-at t) member.Post
 member-name-at-requires t c κs = search needs
@@ -315,8 +313,17 @@ member-no-step-requires t c κs = search needs
 member-returns : (t : ℕ) → member-lts.Need-returns (member-calls t) (member-at t) member.Post
 member-returns t c = (alike-same _ _ _, λ h. absurd (omega (arith, c .no-step .ensures)))
 
+member-space-requires : (t : ℕ) → member-lts.Need-space-requires (member-calls t) (member-at t) member.Post
+member-space-requires t c κs = search needs
+
 member-count-of-requires : (t : ℕ) → member-lts.Need-count-of-requires (member-calls t) (member-at t) member.Post
 member-count-of-requires t c κs = search needs
+
+member-at-requires : (t : ℕ) → member-lts.Need-at-requires (member-calls t) (member-at t) member.Post
+member-at-requires t c κs = search needs
+
+member-extensible-requires : (t : ℕ) → member-lts.Need-extensible-requires (member-calls t) (member-at t) member.Post
+member-extensible-requires t c κs = search needs
 
 member-no-step-requires-2 : (t : ℕ) → member-lts.Need-no-step-requires-2 (member-calls t) (member-at t) member.Post
 member-no-step-requires-2 t c κs = search needs
@@ -324,43 +331,59 @@ member-no-step-requires-2 t c κs = search needs
 member-returns-2 : (t : ℕ) → member-lts.Need-returns-2 (member-calls t) (member-at t) member.Post
 member-returns-2 t c = (alike-same _ _ _, λ h. absurd (omega (arith, c .no-step2 .ensures)))
 
+member-skip-requires : (t : ℕ) → member-lts.Need-skip-requires (member-calls t) (member-at t) member.Post
+member-skip-requires t c κs =
+    let given = c .before .before .before .before .before .before .before .before .before .before .before .before .before .pre .1 .0 in
+    given .flags
+
+member-gave-requires : (t : ℕ) → member-lts.Need-gave-requires (member-calls t) (member-at t) member.Post
+member-gave-requires t c κs = search needs
+
+member-returns-3 : (t : ℕ) → member-lts.Need-returns-3 (member-calls t) (member-at t) member.Post
+member-returns-3 t c =
+    let names = c .before .before .before .before .before .before .before .before .before .before .before .before .before .before .before .args .names .now in
+    let t = table (c .before .before .before .before .before .before .before .before .before .before .before .before .before .before .before .args .types .now) (c .before .before .before .before .before .before .before .before .before .before .before .before .before .before .before .args .names .now) in
+    let row = c .before .before .before .before .before .before .before .before .before .before .before .before .before .before .before .args .row in
+    let named = c .before .before .before .before .before .before .before .before .before .before .name-at .ensures (omega (arith, c .before .before .before .before .before .before .before .before .if1 .left)) in
+    (alike-same _ _ _, step-passed named (omega (arith, c .before .before .before .before .before .if2 .taken, c .before .before .before .before .before .before .count-of .ensures names)) (spaced (c .before .before .before .before .before .before .before .space .ensures .0) (c .before .before .before .before .before .before .before .space .ensures .1)) (c .before .before .before .extensible .ensures t row (c .before .before .before .before .at .ensures names)) (not-false _ (c .before .before .if3 .left)) (c .before .skip .result) (c .before .skip .ensures) (c .gave .ensures) (c .before .before .before .before .before .before .before .before .before .before .before .before .before .before .before .pre .1 .1 .1))
+
 member-bit-requires : (t : ℕ) → member-lts.Need-bit-requires (member-calls t) (member-at t) member.Post
 member-bit-requires t c κs =
-    let names = c .before .before .before .before .before .before .before .before .before .args .names .now in
-    let row = c .before .before .before .before .before .before .before .before .before .args .row in
-    omega (arith, c .if2 .left, c .before .count-of .ensures names, (c .before .before .before .before .before .before .before .before .before .pre .1 .0) .sane .few row ((c .before .before .before .before .before .before .before .before .before .pre .1 .0) .typed))
+    let names = c .before .before .before .before .before .before .before .before .before .before .args .names .now in
+    let row = c .before .before .before .before .before .before .before .before .before .before .args .row in
+    let given = c .before .before .before .before .before .before .before .before .before .before .pre .1 .0 in
+    let known = known-at (c .if2 .left) (c .before .count-of .ensures names) in
+    omega (arith, known, given .sane .few row (given .typed))
 
 member-no-step-requires-3 : (t : ℕ) → member-lts.Need-no-step-requires-3 (member-calls t) (member-at t) member.Post
 member-no-step-requires-3 t c κs = search needs
 
-member-returns-3 : (t : ℕ) → member-lts.Need-returns-3 (member-calls t) (member-at t) member.Post
-member-returns-3 t c = (alike-same _ _ _, λ h. absurd (omega (arith, c .no-step3 .ensures)))
-
-member-space-requires : (t : ℕ) → member-lts.Need-space-requires (member-calls t) (member-at t) member.Post
-member-space-requires t c κs = search needs
+member-returns-4 : (t : ℕ) → member-lts.Need-returns-4 (member-calls t) (member-at t) member.Post
+member-returns-4 t c = (alike-same _ _ _, λ h. absurd (omega (arith, c .no-step3 .ensures)))
 
 member-absent-at-requires : (t : ℕ) → member-lts.Need-absent-at-requires (member-calls t) (member-at t) member.Post
 member-absent-at-requires t c κs = search needs
 
-member-null-end-requires : (t : ℕ) → member-lts.Need-null-end-requires (member-calls t) (member-at t) member.Post
-member-null-end-requires t c κs =
-    let nt = c .before .before .before .before .before .before .before .before .before .name-at .ensures (omega (arith, c .before .before .before .before .before .before .before .if1 .left)) in omega (arith, c .before .before .space .ensures .2 (nt .placed), (c .before .before .before .before .before .before .before .before .before .before .before .before .before .before .pre .1 .0) .short)
+member-literal-null-requires : (t : ℕ) → member-lts.Need-literal-null-requires (member-calls t) (member-at t) member.Post
+member-literal-null-requires t c κs = search needs
 
 member-with-requires : (t : ℕ) → member-lts.Need-with-requires (member-calls t) (member-at t) member.Post
 member-with-requires t c κs =
     let names = c .before .before .before .before .before .before .before .before .before .before .before .before .before .before .before .args .names .now in
     let row = c .before .before .before .before .before .before .before .before .before .before .before .before .before .before .before .args .row in
     let given = c .before .before .before .before .before .before .before .before .before .before .before .before .before .before .before .pre .1 .0 in
-    let known = known-at (c .before .before .before .before .before .before .if2 .left) (c .before .before .before .before .before .before .before .count-of .ensures names) in
+    let known = known-at (c .before .before .before .before .before .if2 .left) (c .before .before .before .before .before .before .count-of .ensures names) in
     omega (arith, known, given .sane .few row (given .typed))
 
-member-gave-requires : (t : ℕ) → member-lts.Need-gave-requires (member-calls t) (member-at t) member.Post
-member-gave-requires t c κs = search needs
+member-gave-requires-2 : (t : ℕ) → member-lts.Need-gave-requires-2 (member-calls t) (member-at t) member.Post
+member-gave-requires-2 t c κs = search needs
 
-member-returns-4 : (t : ℕ) → member-lts.Need-returns-4 (member-calls t) (member-at t) member.Post
-member-returns-4 t c =
+member-returns-5 : (t : ℕ) → member-lts.Need-returns-5 (member-calls t) (member-at t) member.Post
+member-returns-5 t c =
     let names = c .before .before .before .before .before .before .before .before .before .before .before .before .before .before .before .before .before .args .names .now in
-    (alike-same _ _ _, step-null (c .before .before .before .before .before .before .before .before .before .before .before .before .name-at .ensures (omega (arith, c .before .before .before .before .before .before .before .before .before .before .if1 .left))) refl (omega (arith, c .before .before .before .before .before .before .before .before .if2 .left, c .before .before .before .before .before .before .before .before .before .count-of .ensures names)) (sym (c .before .before .before .before .before .before .before .bit .ensures) ∙ c .before .before .before .before .before .before .if3 .left) (c .before .before .before .before .before .space .ensures) (c .before .before .before .before .absent-at .ensures names) (c .before .before .before .if4 .taken) (c .before .before .null-end .result) (c .before .before .null-end .ensures) (c .before .with .ensures) (c .gave .ensures) (c .before .before .before .before .before .before .before .before .before .before .before .before .before .before .before .before .before .pre .1 .1 .1))
+    let known = known-at (c .before .before .before .before .before .before .before .if2 .left) (c .before .before .before .before .before .before .before .before .count-of .ensures names) in
+    let named = c .before .before .before .before .before .before .before .before .before .before .before .before .name-at .ensures (omega (arith, c .before .before .before .before .before .before .before .before .before .before .if1 .left)) in
+    (alike-same _ _ _, step-null named refl known (sym (c .before .before .before .before .before .before .bit .ensures) ∙ c .before .before .before .before .before .if4 .left) (spaced (c .before .before .before .before .before .before .before .before .before .space .ensures .0) (c .before .before .before .before .before .before .before .before .before .space .ensures .1)) (c .before .before .before .before .absent-at .ensures names) (c .before .before .before .if5 .taken) (c .before .before .literal-null .result) (c .before .before .literal-null .ensures) (c .before .with .ensures) (c .gave2 .ensures) (c .before .before .before .before .before .before .before .before .before .before .before .before .before .before .before .before .before .pre .1 .1 .1))
 
 member-type-at-requires : (t : ℕ) → member-lts.Need-type-at-requires (member-calls t) (member-at t) member.Post
 member-type-at-requires t c κs = search needs
@@ -368,7 +391,11 @@ member-type-at-requires t c κs = search needs
 member-value-requires : (t : ℕ) → member-lts.Need-value-requires (member-calls t) (member-at t) member.Post
 member-value-requires t c κs =
     let names = c .before .before .before .before .before .before .before .before .before .before .before .before .before .before .before .before .args .names .now in
-    let nt = c .before .before .before .before .before .before .before .before .before .before .before .name-at .ensures (omega (arith, c .before .before .before .before .before .before .before .before .before .if1 .left)) in (omega arith, member-given (c .before .before .before .before .before .before .before .before .before .before .before .before .before .before .before .before .pre .1 .0) (omega (arith, c .before .before .before .before .before .before .before .if2 .left, c .before .before .before .before .before .before .before .before .count-of .ensures names)) (c .type-at .ensures names) (c .before .before .before .before .space .ensures .2 (nt .placed)))
+    let s = c .before .before .before .before .before .before .before .before .before .before .before .before .before .before .before .before .args .s .now in
+    let given = c .before .before .before .before .before .before .before .before .before .before .before .before .before .before .before .before .pre .1 .0 in
+    let known = known-at (c .before .before .before .before .before .before .if2 .left) (c .before .before .before .before .before .before .before .count-of .ensures names) in
+    let named = c .before .before .before .before .before .before .before .before .before .before .before .name-at .ensures (omega (arith, c .before .before .before .before .before .before .before .before .before .if1 .left)) in
+    (omega arith, member-given given known (c .type-at .ensures names) (within-at s (c .before .before .before .before .before .before .before .before .space .ensures .1) (named .placed)))
 
 member-no-step-requires-4 : (t : ℕ) → member-lts.Need-no-step-requires-4 (member-calls t) (member-at t) member.Post
 member-no-step-requires-4 t c κs = search needs
@@ -376,8 +403,8 @@ member-no-step-requires-4 t c κs = search needs
 member-same-length : (t : ℕ) → member-lts.Need-same-length (member-calls t) (member-at t) member.Post
 member-same-length t c = search needs
 
-member-returns-5 : (t : ℕ) → member-lts.Need-returns-5 (member-calls t) (member-at t) member.Post
-member-returns-5 t c = (alike-part 0 (c .before .before .before .before .before .before .before .before .before .before .before .before .before .before .before .before .before .before .before .before .before .before .args .top + 3) (c .before .before .before .before .before .value .ensures .kept) (omega arith) (omega (arith, c .before .before .before .before .before .before .before .before .before .before .before .before .before .before .before .before .before .before .before .before .before .before .pre .1 .1 .0)), λ h. absurd (omega (arith, c .no-step4 .ensures)))
+member-returns-6 : (t : ℕ) → member-lts.Need-returns-6 (member-calls t) (member-at t) member.Post
+member-returns-6 t c = (alike-part 0 (c .before .before .before .before .before .before .before .before .before .before .before .before .before .before .before .before .before .before .before .before .before .before .args .top + 3) (c .before .before .before .before .before .value .ensures .kept) (omega arith) (omega (arith, c .before .before .before .before .before .before .before .before .before .before .before .before .before .before .before .before .before .before .before .before .before .before .pre .1 .1 .0)), λ h. absurd (omega (arith, c .no-step4 .ensures)))
 
 member-cast-tape : (t : ℕ) → member-lts.Need-cast-tape (member-calls t) (member-at t) member.Post
 member-cast-tape t c =
@@ -396,20 +423,20 @@ member-add-tape-2 : (t : ℕ) → member-lts.Need-add-tape-2 (member-calls t) (m
 member-add-tape-2 t c =
     let names = c .before .before .before .before .before .before .before .before .before .before .before .before .before .before .before .before .before .before .before .before .before .before .args .names .now in
     let given = c .before .before .before .before .before .before .before .before .before .before .before .before .before .before .before .before .before .before .before .before .before .before .pre .1 .0 in
-    let known = known-at (c .before .before .before .before .before .before .before .before .before .before .before .before .before .if2 .left) (c .before .before .before .before .before .before .before .before .before .before .before .before .before .before .count-of .ensures names) in
+    let known = known-at (c .before .before .before .before .before .before .before .before .before .before .before .before .if2 .left) (c .before .before .before .before .before .before .before .before .before .before .before .before .before .count-of .ensures names) in
     omega (arith, given .start, c .before .before .before .before .before .before .before .before .before .before .before .before .before .before .before .before .before .before .before .before .before .before .pre .1 .1 .0, known, c .wide .ensures .0)
 
 member-mul-tape : (t : ℕ) → member-lts.Need-mul-tape (member-calls t) (member-at t) member.Post
 member-mul-tape t c =
     let names = c .before .before .before .before .before .before .before .before .before .before .before .before .before .before .before .before .before .before .before .before .before .before .args .names .now in
     let given = c .before .before .before .before .before .before .before .before .before .before .before .before .before .before .before .before .before .before .before .before .before .before .pre .1 .0 in
-    let known = known-at (c .before .before .before .before .before .before .before .before .before .before .before .before .before .if2 .left) (c .before .before .before .before .before .before .before .before .before .before .before .before .before .before .count-of .ensures names) in
+    let known = known-at (c .before .before .before .before .before .before .before .before .before .before .before .before .if2 .left) (c .before .before .before .before .before .before .before .before .before .before .before .before .before .count-of .ensures names) in
     omega (arith, given .start, c .before .before .before .before .before .before .before .before .before .before .before .before .before .before .before .before .before .before .before .before .before .before .pre .1 .1 .0, known, c .wide .ensures .0)
 
 member-slice-write-tape : (t : ℕ) → member-lts.Need-slice-write-tape (member-calls t) (member-at t) member.Post
 member-slice-write-tape t c =
     let names = c .before .before .before .before .before .before .before .before .before .before .before .before .before .before .before .before .before .before .before .before .before .before .args .names .now in
-    let known = known-at (c .before .before .before .before .before .before .before .before .before .before .before .before .before .if2 .left) (c .before .before .before .before .before .before .before .before .before .before .before .before .before .before .count-of .ensures names) in
+    let known = known-at (c .before .before .before .before .before .before .before .before .before .before .before .before .if2 .left) (c .before .before .before .before .before .before .before .before .before .before .before .before .before .count-of .ensures names) in
     omega (arith, c .before .before .before .before .before .before .before .before .before .before .before .before .before .before .before .before .before .before .before .before .before .before .pre .1 .1 .0, c .before .before .before .before .before .before .before .before .before .before .before .before .before .before .before .before .before .before .before .before .before .before .pre .1 .1 .1, known, c .wide .ensures .0, c .before .before .before .before .before .value .kept .1 .1 .1 .0)
 
 member-with-requires-2 : (t : ℕ) → member-lts.Need-with-requires-2 (member-calls t) (member-at t) member.Post
@@ -417,7 +444,7 @@ member-with-requires-2 t c κs =
     let names = c .before .before .before .before .before .before .before .before .before .before .before .before .before .before .before .before .before .before .before .before .before .before .args .names .now in
     let row = c .before .before .before .before .before .before .before .before .before .before .before .before .before .before .before .before .before .before .before .before .before .before .args .row in
     let given = c .before .before .before .before .before .before .before .before .before .before .before .before .before .before .before .before .before .before .before .before .before .before .pre .1 .0 in
-    let known = known-at (c .before .before .before .before .before .before .before .before .before .before .before .before .before .if2 .left) (c .before .before .before .before .before .before .before .before .before .before .before .before .before .before .count-of .ensures names) in
+    let known = known-at (c .before .before .before .before .before .before .before .before .before .before .before .before .if2 .left) (c .before .before .before .before .before .before .before .before .before .before .before .before .before .count-of .ensures names) in
     omega (arith, known, given .sane .few row (given .typed))
 
 member-with-requires-3 : (t : ℕ) → member-lts.Need-with-requires-3 (member-calls t) (member-at t) member.Post
@@ -425,25 +452,27 @@ member-with-requires-3 t c κs =
     let names = c .before .before .before .before .before .before .before .before .before .before .before .before .before .before .before .before .before .before .before .before .before .before .before .args .names .now in
     let row = c .before .before .before .before .before .before .before .before .before .before .before .before .before .before .before .before .before .before .before .before .before .before .before .args .row in
     let given = c .before .before .before .before .before .before .before .before .before .before .before .before .before .before .before .before .before .before .before .before .before .before .before .pre .1 .0 in
-    let known = known-at (c .before .before .before .before .before .before .before .before .before .before .before .before .before .before .if2 .left) (c .before .before .before .before .before .before .before .before .before .before .before .before .before .before .before .count-of .ensures names) in
+    let known = known-at (c .before .before .before .before .before .before .before .before .before .before .before .before .before .if2 .left) (c .before .before .before .before .before .before .before .before .before .before .before .before .before .before .count-of .ensures names) in
     omega (arith, known, given .sane .few row (given .typed))
 
-member-gave-requires-2 : (t : ℕ) → member-lts.Need-gave-requires-2 (member-calls t) (member-at t) member.Post
-member-gave-requires-2 t c κs = search needs
+member-gave-requires-3 : (t : ℕ) → member-lts.Need-gave-requires-3 (member-calls t) (member-at t) member.Post
+member-gave-requires-3 t c κs = search needs
 
 member-same-length-2 : (t : ℕ) → member-lts.Need-same-length-2 (member-calls t) (member-at t) member.Post
 member-same-length-2 t c = search needs
 
-member-returns-6 : (t : ℕ) → member-lts.Need-returns-6 (member-calls t) (member-at t) member.Post
-member-returns-6 t c =
+member-returns-7 : (t : ℕ) → member-lts.Need-returns-7 (member-calls t) (member-at t) member.Post
+member-returns-7 t c =
     let names = c .before .before .before .before .before .before .before .before .before .before .before .before .before .before .before .before .before .before .before .before .before .before .before .before .before .args .names .now in
-    (link-kept (c .before .before .before .before .before .before .before .before .before .before .before .before .before .before .before .before .before .before .before .before .before .before .before .before .before .args .top + 3) (c .before .before .before .wide .result) (c .before .before .before .before .before .before .before .before .value .ensures) (omega (arith, c .before .before .before .before .before .before .before .before .before .before .before .before .before .before .before .before .before .before .before .before .before .before .before .before .before .pre .1 .1 .0)), λ _. step-value (c .before .before .before .before .before .before .before .before .before .before .before .before .before .before .before .before .before .before .before .before .name-at .ensures (omega (arith, c .before .before .before .before .before .before .before .before .before .before .before .before .before .before .before .before .before .before .if1 .left))) refl (omega (arith, c .before .before .before .before .before .before .before .before .before .before .before .before .before .before .before .before .if2 .left, c .before .before .before .before .before .before .before .before .before .before .before .before .before .before .before .before .before .count-of .ensures names)) (sym (c .before .before .before .before .before .before .before .before .before .before .before .before .before .before .before .bit .ensures) ∙ c .before .before .before .before .before .before .before .before .before .before .before .before .before .before .if3 .left) (c .before .before .before .before .before .before .before .before .before .before .before .before .before .space .ensures) (c .before .before .before .before .before .before .before .before .before .before .before .before .absent-at .ensures names) (c .before .before .before .before .before .before .before .before .before .before .before .if4 .left) (c .before .before .before .before .before .before .before .before .before .type-at .result) (c .before .before .before .wide .result) (c .before .before .before .before .before .before .before .before .value .result) (c .before .before .before .before .before .before .before .before .value .last .1 .1 .1 .0) (c .before .before .before .before .before .before .before .before .before .type-at .ensures names) (c .before .before .before .wide .ensures .0) (c .before .before .before .before .before .before .before .before .value .ensures) (c .before .before .before .before .if5 .left) (c .before .before .with2 .ensures) (c .before .with3 .ensures) (c .gave2 .ensures))
+    let known = known-at (c .before .before .before .before .before .before .before .before .before .before .before .before .before .before .before .if2 .left) (c .before .before .before .before .before .before .before .before .before .before .before .before .before .before .before .before .count-of .ensures names) in
+    let named = c .before .before .before .before .before .before .before .before .before .before .before .before .before .before .before .before .before .before .before .before .name-at .ensures (omega (arith, c .before .before .before .before .before .before .before .before .before .before .before .before .before .before .before .before .before .before .if1 .left)) in
+    (link-kept (c .before .before .before .before .before .before .before .before .before .before .before .before .before .before .before .before .before .before .before .before .before .before .before .before .before .args .top + 3) (c .before .before .before .wide .result) (c .before .before .before .before .before .before .before .before .value .ensures) (omega (arith, c .before .before .before .before .before .before .before .before .before .before .before .before .before .before .before .before .before .before .before .before .before .before .before .before .before .pre .1 .1 .0)), λ _. step-value named refl known (sym (c .before .before .before .before .before .before .before .before .before .before .before .before .before .before .bit .ensures) ∙ c .before .before .before .before .before .before .before .before .before .before .before .before .before .if4 .left) (spaced (c .before .before .before .before .before .before .before .before .before .before .before .before .before .before .before .before .before .space .ensures .0) (c .before .before .before .before .before .before .before .before .before .before .before .before .before .before .before .before .before .space .ensures .1)) (c .before .before .before .before .before .before .before .before .before .before .before .before .absent-at .ensures names) (c .before .before .before .before .before .before .before .before .before .before .before .if5 .left) (c .before .before .before .before .before .before .before .before .before .type-at .result) (c .before .before .before .wide .result) (c .before .before .before .before .before .before .before .before .value .result) (c .before .before .before .before .before .before .before .before .value .last .1 .1 .1 .0) (c .before .before .before .before .before .before .before .before .before .type-at .ensures names) (c .before .before .before .wide .ensures .0) (c .before .before .before .before .before .before .before .before .value .ensures) (c .before .before .before .before .if6 .left) (c .before .before .with2 .ensures) (c .before .with3 .ensures) (c .gave3 .ensures))
 
 abbrev object-Inv-loop : object-lts.InvT-loop
-object-Inv-loop types names s tape₀ row place top depth count end₀ at₀ met₀ present₀ n₀ m₀ tape end at met present n m = Objecting (table types names) s tape₀ tape depth row place top at end met present n m
+object-Inv-loop types names s tape₀ flags row place top depth count end₀ at₀ met₀ present₀ n₀ m₀ tape end at met present n m = Objecting (table types names) s tape₀ tape depth row place top at end met present n m
 
 abbrev object-μ-loop : object-lts.MeasureT-loop
-object-μ-loop types names s tape₀ row place top depth count end₀ at₀ met₀ present₀ n₀ m₀ tape end at met present n m = 65537 - at
+object-μ-loop types names s tape₀ flags row place top depth count end₀ at₀ met₀ present₀ n₀ m₀ tape end at met present n m = 65537 - at
 
 object-byte-at-requires : (t : ℕ) → object-lts.Need-byte-at-requires (object-calls t) (object-at t) object.Post object-Inv-loop object-μ-loop
 object-byte-at-requires t c κs = search needs
@@ -529,7 +558,7 @@ object-returns-3 t c =
     let top = c .before .before .before .before .before .before .before .before .before .before .before .before .before .before .before .before .before .before .before .before .args .top in
     let links = links-at (c .before .before .before .before .before .before .before .before .before .before .before .before .before .before .before .before .before .before .before .before .args .top + 3) _ _ _ (c .before .before .before .before .before .before .before .before .before .before .before .before .wide .ensures .0) (c .before .before .before .before .before .before .before .before .before .before .before .before .before .count-of .ensures names) in
     let cleared = cleared-below (c .before .before .before .before .before .before .before .before .before .clear .last .0) (c .before .before .before .before .before .before .before .before .before .before .before .before .before .before .before .before .before .before .before .before .args .top + 3) _ _ (c .before .before .before .before .before .before .before .before .before .clear .ensures .1) (c .before .before .before .before .before .before .before .before .before .before .before .before .before .count-of .ensures names) in
-    walked-if (alike-then _ _ _ 0 top (alike-part 0 top (c .before .before .before .before .before .before .before .before .before .clear .ensures .0) (omega arith) (omega arith)) (c .before .before .shut .ensures .0)) (λ h. object-none (c .before .before .before .before .before .before .before .before .before .before .before .before .before .before .before .before .before .before .before .before .args .depth) (c .before .before .before .before .before .before .space .ensures .0) (c .before .before .before .before .before .before .space .ensures .1) (c .before .before .before .before .before .before .before .before .before .clear .ensures .0) cleared links (omega (arith, c .before .before .before .before .before .before .before .before .before .before .before .if2 .left, c .before .before .before .before .before .before .before .before .before .clear .kept .0)) (c .before .before .before .before .before .before .before .before .before .before .before .before .before .before .before .before .before .before .before .before .pre .1 .1 .0) (c .before .before .before .before .before .before .before .before .before .before .before .before .before .before .before .before .before .before .before .before .pre .1 .1 .1) (c .before .before .before .before .before .before .before .before .before .before .before .before .before .before .before .byte-at .ensures .0) (c .before .before .before .before .before .before .before .before .before .before .before .before .before .before .if1 .left) (c .before .before .before .before .before .byte-at2 .ensures .0) (c .before .before .before .before .if3 .taken) (c .before .before .shut .ensures .1 h names))
+    walked-if (alike-then _ _ _ 0 top (alike-part 0 top (c .before .before .before .before .before .before .before .before .before .clear .ensures .0) (omega arith) (omega arith)) (c .before .before .shut .ensures .0)) (λ h. object-none (c .before .before .before .before .before .before .before .before .before .before .before .before .before .before .before .before .before .before .before .before .args .depth) (c .before .before .before .before .before .before .space .ensures .0) (c .before .before .before .before .before .before .space .ensures .1 .0) (c .before .before .before .before .before .before .before .before .before .clear .ensures .0) cleared links (omega (arith, c .before .before .before .before .before .before .before .before .before .before .before .if2 .left, c .before .before .before .before .before .before .before .before .before .clear .kept .0)) (c .before .before .before .before .before .before .before .before .before .before .before .before .before .before .before .before .before .before .before .before .pre .1 .1 .0) (c .before .before .before .before .before .before .before .before .before .before .before .before .before .before .before .before .before .before .before .before .pre .1 .1 .1) (c .before .before .before .before .before .before .before .before .before .before .before .before .before .before .before .byte-at .ensures .0) (c .before .before .before .before .before .before .before .before .before .before .before .before .before .before .if1 .left) (c .before .before .before .before .before .byte-at2 .ensures .0) (c .before .before .before .before .if3 .taken) (c .before .before .shut .ensures .1 h names))
 
 object-loop-holds : (t : ℕ) → object-lts.Need-loop-holds (object-calls t) (object-at t) object.Post object-Inv-loop object-μ-loop
 object-loop-holds t c =
@@ -541,7 +570,7 @@ object-loop-holds t c =
     let top = c .before .before .before .before .before .before .before .before .before .before .before .before .before .before .before .before .args .top in
     let links = links-at (c .before .before .before .before .before .before .before .before .before .before .before .before .before .before .before .before .args .top + 3) _ _ _ (c .before .before .before .before .before .before .before .before .wide .ensures .0) (c .before .before .before .before .before .before .before .before .before .count-of .ensures names) in
     let cleared = cleared-below (c .before .before .before .before .before .clear .last .0) (c .before .before .before .before .before .before .before .before .before .before .before .before .before .before .before .before .args .top + 3) _ _ (c .before .before .before .before .before .clear .ensures .1) (c .before .before .before .before .before .before .before .before .before .count-of .ensures names) in
-    objecting-start t s _ _ (c .before .before .before .before .before .before .before .before .before .before .before .before .before .before .before .before .args .depth) row place top (c .before .before .space .result) (c .before .before .space .ensures .0) (c .before .before .space .ensures .1) (c .before .before .space .ensures .2 (omega (arith, mark-inside s place (c .before .before .before .before .before .before .before .before .before .before .before .byte-at .result) 0x7B (c .before .before .before .before .before .before .before .before .before .before .before .byte-at .ensures .0) (c .before .before .before .before .before .before .before .before .before .before .if1 .left) (omega arith)))) (alike-same _ _ _) cleared refl (top + 3 + c .before .before .before .before .before .before .before .before .wide .result) links (omega (arith, c .before .before .before .before .before .before .before .if2 .left, c .before .before .before .before .before .clear .kept .0))
+    objecting-start t s _ _ (c .before .before .before .before .before .before .before .before .before .before .before .before .before .before .before .before .args .depth) row place top (c .before .before .space .result) (c .before .before .space .ensures .0) (c .before .before .space .ensures .1 .0) (within-at (c .before .before .before .before .before .before .before .before .before .before .before .before .before .before .before .before .args .s .now) (c .before .before .space .ensures .1) (omega (arith, mark-inside s place (c .before .before .before .before .before .before .before .before .before .before .before .byte-at .result) 0x7B (c .before .before .before .before .before .before .before .before .before .before .before .byte-at .ensures .0) (c .before .before .before .before .before .before .before .before .before .before .if1 .left) (omega arith)))) (alike-same _ _ _) cleared refl (top + 3 + c .before .before .before .before .before .before .before .before .wide .result) links (omega (arith, c .before .before .before .before .before .before .before .if2 .left, c .before .before .before .before .before .clear .kept .0))
 
 object-member-requires : (t : ℕ) → object-lts.Need-member-requires (object-calls t) (object-at t) object.Post object-Inv-loop object-μ-loop
 object-member-requires t c κs =
@@ -564,10 +593,7 @@ object-returns-4 t c =
     not-taken t s (c .before .before .before .before .before .before .before .before .before .before .before .before .before .before .before .before .before .before .before .before .before .before .before .before .args .tape .now) _ (c .before .before .before .before .before .before .before .before .before .before .before .before .before .before .before .before .before .before .before .before .before .before .before .before .args .depth + 1) row place top _ (alike-then _ _ _ 0 top (alike-part 0 top (c .before .before .before .before .before .before .before .before .before .before .before .before .before .clear .ensures .0) (omega arith) (omega arith)) (alike-then _ _ _ 0 top (c .before .before .before .before .before .before .before .loop .inv .kept) (alike-part 0 top (c .before .before .before .before .before .member .ensures .0) (omega arith) (omega arith)))) (c .other3 .ensures)
 
 object-space-requires-2 : (t : ℕ) → object-lts.Need-space-requires-2 (object-calls t) (object-at t) object.Post object-Inv-loop object-μ-loop
-object-space-requires-2 t c κs =
-    let given = c .before .before .before .before .before .before .before .before .before .before .before .before .before .before .before .before .before .before .before .before .before .before .before .pre .1 .0 in
-    let stepped = c .before .before .before .before .member .ensures .1 (omega (arith, c .if4 .left)) in
-    omega (arith, stepped .placed, given .short)
+object-space-requires-2 t c κs = search needs
 
 object-byte-at-requires-3 : (t : ℕ) → object-lts.Need-byte-at-requires-3 (object-calls t) (object-at t) object.Post object-Inv-loop object-μ-loop
 object-byte-at-requires-3 t c κs = search needs
@@ -609,7 +635,7 @@ object-returns-5 t c =
     let step = c .before .before .before .before .before .before .before .before .before .before .before .before .before .member .ensures .1 (omega (arith, c .before .before .before .before .before .before .before .before .before .if4 .left)) in
     let before = alike-part 0 top (c .before .before .before .before .before .before .before .before .before .before .before .before .before .before .before .before .before .before .before .before .before .clear .ensures .0) (omega arith) (omega arith) in
     walked-from before (walked-if (alike-then _ _ _ 0 top (alike-then _ _ _ 0 top (c .before .before .before .before .before .before .before .before .before .before .before .before .before .before .before .loop .inv .kept) (alike-part 0 top (c .before .before .before .before .before .before .before .before .before .before .before .before .before .member .ensures .0) (omega arith) (omega arith))) (c .before .before .shut2 .ensures .0))
-    (λ h. objecting-last (c .before .before .before .before .before .before .before .before .before .before .before .before .before .before .before .loop .inv) (given .sane) (given .typed) step (c .before .before .before .before .before .before .before .before .before .before .before .before .before .member .kept .1 .1 .1 .0) (c .before .before .before .before .before .before .before .before .before .before .before .before .before .member .ensures .0) (c .before .before .before .before .before .before .before .before .space2 .ensures .0) (c .before .before .before .before .before .before .before .before .before .before .before .before .before .before .before .before .before .before .before .before .before .before .before .before .before .before .before .before .before .before .before .before .pre .1 .1 .0) (c .before .before .before .before .before .before .before .before .before .before .before .before .before .before .before .before .before .before .before .before .before .before .before .before .before .before .before .before .before .before .before .before .pre .1 .1 .1) (c .before .before .before .before .before .before .before .before .before .before .before .before .before .before .before .before .before .before .before .before .before .before .before .before .before .before .before .byte-at .ensures .0) (c .before .before .before .before .before .before .before .before .before .before .before .before .before .before .before .before .before .before .before .before .before .before .before .before .before .before .if1 .left) (c .before .before .before .before .before .before .before .byte-at3 .ensures .0) (c .before .before .before .before .before .before .if5 .taken) (c .before .before .before .before .before .before .before .before .space2 .ensures .1) (c .before .before .shut2 .ensures .1 h names)))
+    (λ h. objecting-last (c .before .before .before .before .before .before .before .before .before .before .before .before .before .before .before .loop .inv) (given .sane) (given .typed) step (c .before .before .before .before .before .before .before .before .before .before .before .before .before .member .kept .1 .1 .1 .0) (c .before .before .before .before .before .before .before .before .before .before .before .before .before .member .ensures .0) (c .before .before .before .before .before .before .before .before .space2 .ensures .0) (c .before .before .before .before .before .before .before .before .before .before .before .before .before .before .before .before .before .before .before .before .before .before .before .before .before .before .before .before .before .before .before .before .pre .1 .1 .0) (c .before .before .before .before .before .before .before .before .before .before .before .before .before .before .before .before .before .before .before .before .before .before .before .before .before .before .before .before .before .before .before .before .pre .1 .1 .1) (c .before .before .before .before .before .before .before .before .before .before .before .before .before .before .before .before .before .before .before .before .before .before .before .before .before .before .before .byte-at .ensures .0) (c .before .before .before .before .before .before .before .before .before .before .before .before .before .before .before .before .before .before .before .before .before .before .before .before .before .before .if1 .left) (c .before .before .before .before .before .before .before .byte-at3 .ensures .0) (c .before .before .before .before .before .before .if5 .taken) (c .before .before .before .before .before .before .before .before .space2 .ensures .1 .0) (c .before .before .shut2 .ensures .1 h names)))
 
 object-other-requires-4 : (t : ℕ) → object-lts.Need-other-requires-4 (object-calls t) (object-at t) object.Post object-Inv-loop object-μ-loop
 object-other-requires-4 t c κs = search needs
@@ -651,14 +677,14 @@ object-loop-less : (t : ℕ) → object-lts.Need-loop-less (object-calls t) (obj
 object-loop-less t c =
     let given = c .before .before .before .before .before .before .before .before .before .before .before .before .before .before .before .before .before .before .before .before .before .before .before .before .before .before .before .before .before .before .pre .1 .0 in
     let stepped = c .before .before .before .before .before .before .before .before .before .before .before .member .ensures .1 (omega (arith, c .before .before .before .before .before .before .before .if4 .left)) in
-    omega (arith, stepped .ahead, c .before .before .before .before .before .before .space2 .ensures .1, c .before .before .space3 .ensures .1, c .before .before .before .before .before .before .before .before .before .before .before .before .before .loop .inv .here, given .short)
+    omega (arith, stepped .ahead, c .before .before .before .before .before .before .space2 .ensures .1 .0, c .before .before .space3 .ensures .1 .0, c .before .before .before .before .before .before .before .before .before .before .before .before .before .loop .inv .here, given .short)
 
 object-loop-again : (t : ℕ) → object-lts.Need-loop-again (object-calls t) (object-at t) object.Post object-Inv-loop object-μ-loop
 object-loop-again t c =
     let s = c .before .before .before .before .before .before .before .before .before .before .before .before .before .before .before .before .before .before .before .before .before .before .before .before .before .before .before .before .before .before .args .s .now in
     let given = c .before .before .before .before .before .before .before .before .before .before .before .before .before .before .before .before .before .before .before .before .before .before .before .before .before .before .before .before .before .before .pre .1 .0 in
     let stepped = c .before .before .before .before .before .before .before .before .before .before .before .member .ensures .1 (omega (arith, c .before .before .before .before .before .before .before .if4 .left)) in
-    objecting-more (c .before .before .before .before .before .before .before .before .before .before .before .before .before .loop .inv) (given .sane) (given .typed) stepped (c .before .before .before .before .before .before .before .before .before .before .before .member .kept .1 .1 .1 .0) (c .before .before .before .before .before .before .before .before .before .before .before .member .ensures .0) (c .before .before .before .before .before .before .space2 .ensures .0) (c .before .before .before .before .before .byte-at3 .ensures .0) (c .before .before .before .if6 .left) (c .before .before .before .before .before .before .space2 .ensures .1) (c .before .before .space3 .ensures .0) (c .before .before .space3 .ensures .1) (c .before .before .space3 .ensures .2 (omega (arith, mark-inside s (c .before .before .before .before .before .before .space2 .result) (c .before .before .before .before .before .byte-at3 .result) 0x2C (c .before .before .before .before .before .byte-at3 .ensures .0) (c .before .before .before .if6 .left) (omega arith))))
+    objecting-more (c .before .before .before .before .before .before .before .before .before .before .before .before .before .loop .inv) (given .sane) (given .typed) stepped (c .before .before .before .before .before .before .before .before .before .before .before .member .kept .1 .1 .1 .0) (c .before .before .before .before .before .before .before .before .before .before .before .member .ensures .0) (c .before .before .before .before .before .before .space2 .ensures .0) (c .before .before .before .before .before .byte-at3 .ensures .0) (c .before .before .before .if6 .left) (c .before .before .before .before .before .before .space2 .ensures .1 .0) (c .before .before .space3 .ensures .0) (c .before .before .space3 .ensures .1 .0) (within-at (c .before .before .before .before .before .before .before .before .before .before .before .before .before .before .before .before .before .before .before .before .before .before .before .before .before .before .before .before .before .before .args .s .now) (c .before .before .space3 .ensures .1) (omega (arith, mark-inside s (c .before .before .before .before .before .before .space2 .result) (c .before .before .before .before .before .byte-at3 .result) 0x2C (c .before .before .before .before .before .byte-at3 .ensures .0) (c .before .before .before .if6 .left) (omega arith))))
 
 value-kind-of-requires : (t : ℕ) → value-lts.Need-kind-of-requires (value-calls t) (value-at t) value.Post
 value-kind-of-requires t c κs = search needs
@@ -821,23 +847,28 @@ pub +list+member+object+value-spec : {M : Type 1} → statement M
     (member-name-at-requires t)
     (member-no-step-requires t)
     (member-returns t)
+    (member-space-requires t)
     (member-count-of-requires t)
+    (member-at-requires t)
+    (member-extensible-requires t)
     (member-no-step-requires-2 t)
     (member-returns-2 t)
+    (member-skip-requires t)
+    (member-gave-requires t)
+    (member-returns-3 t)
     (member-bit-requires t)
     (member-no-step-requires-3 t)
-    (member-returns-3 t)
-    (member-space-requires t)
-    (member-absent-at-requires t)
-    (member-null-end-requires t)
-    (member-with-requires t)
-    (member-gave-requires t)
     (member-returns-4 t)
+    (member-absent-at-requires t)
+    (member-literal-null-requires t)
+    (member-with-requires t)
+    (member-gave-requires-2 t)
+    (member-returns-5 t)
     (member-type-at-requires t)
     (member-value-requires t)
     (member-no-step-requires-4 t)
     (member-same-length t)
-    (member-returns-5 t)
+    (member-returns-6 t)
     (member-cast-tape t)
     (member-add-tape t)
     (member-wide-requires t)
@@ -846,9 +877,9 @@ pub +list+member+object+value-spec : {M : Type 1} → statement M
     (member-slice-write-tape t)
     (member-with-requires-2 t)
     (member-with-requires-3 t)
-    (member-gave-requires-2 t)
+    (member-gave-requires-3 t)
     (member-same-length-2 t)
-    (member-returns-6 t))
+    (member-returns-7 t))
     (λ t. object-lts.spec (object-calls t) (object-at t) object.Post
     object-Inv-loop
     object-μ-loop

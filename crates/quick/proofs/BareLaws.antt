@@ -1,0 +1,114 @@
+-- Values without parts: what stands at the place reads as the leaf, and the words are its own.
+use Prim.Native.Nat.{ℕ, _+_, _%_, _^_, _<_, _≤_}
+use mathlib.Core.Path.{_≡_, refl, sym, ap, _∙_}
+use mathlib.Core.List.{List, []}
+use mathlib.Core.Bool.{Bool, true, false, _&&_}
+use native.Mathlib.Nat.{mod-eq-of-lt}
+use native.Mathlib.Omega.{arith}
+use lib.Dec.{eqb}
+use lib.ListN.{length, take, drop}
+use Rattle.json.specs.Bytes.{on, pick}
+use Rattle.json.specs.Tree.{Json, jnull, jbool, jint, jstr}
+use Rattle.json.specs.Grammar as grammar
+use Rattle.json.specs.Grammar.{Value, Quoted}
+use Rattle.jer.specs.Table.{Table, kindOf, isUnwrapped, BOOLEAN, INTEGER, NULL, UTF8String, CHOICE}
+use Rattle.jer.specs.Value.{Leaf, lBool, lInt, lNull, lBytes, Val, vLeaf, vInt}
+use Rattle.jer.specs.Answer.{Res, ok}
+use Rattle.jer.specs.Read.{read, readInt, readString, unwrapping, atKind}
+use Rattle.jer.specs.Rows.{bit, leafPool}
+use Rattle.spelled.specs.Stretch.{Stretch, Passed}
+use Rattle.spelled.specs.Leaves.{IntegerAt, StringAt}
+use Rattle.quick.specs.declared.bare.Words as declared-leaf
+use Rattle.quick.specs.Stood.{Stood}
+use Rattle.quick.specs.Tape.{Text, Words, inRow, inText}
+use Rattle.quick.specs.Taken.{LeafTaken}
+
+-- the four numbers of an answer
+abbrev pub Answers : ℕ → ℕ → ℕ → ℕ → declared-leaf.Words → Type 0
+Answers next a b pool g = (g .next ≡ next) × (g .a ≡ a) × (g .b ≡ b) × (g .pool ≡ pool)
+
+not-unwrapped : (t : Table) (r k : ℕ) → kindOf t r ≡ k → eqb k CHOICE ≡ false → isUnwrapped t r ≡ false
+unfolding isUnwrapped
+not-unwrapped t r k e f = rw (e, f)
+
+read-null : (t : Table) (r p : ℕ) → kindOf t r ≡ NULL → read (jnull p) t r ≡ ok (vLeaf lNull)
+unfolding read unwrapping atKind
+read-null t r p e = rw (not-unwrapped t r NULL e refl, unwrapping) (rw (e, atKind))
+
+read-bool : (t : Table) (r p : ℕ) (b : Bool) → kindOf t r ≡ BOOLEAN → read (jbool p b) t r ≡ ok (vLeaf (lBool b))
+unfolding read unwrapping atKind
+read-bool t r p b e = rw (not-unwrapped t r BOOLEAN e refl, unwrapping) (rw (e, atKind))
+
+read-int : (t : Table) (r p n x : ℕ) (m : Bool) → kindOf t r ≡ INTEGER → readInt p m n ≡ ok (vInt x) → read (jint p m n) t r ≡ ok (vInt x)
+unfolding read unwrapping atKind
+read-int t r p n x m e h = rw (not-unwrapped t r INTEGER e refl, unwrapping) (rw (e, atKind) h)
+
+read-text : (t : Table) (r p : ℕ) (x : List ℕ) → kindOf t r ≡ UTF8String → read (jstr p x) t r ≡ ok (vLeaf (lBytes x))
+unfolding read unwrapping readString pick
+read-text t r p x e = rw (not-unwrapped t r UTF8String e refl, unwrapping) (rw e)
+
+-- ---- the kinds that the row holds
+
+in-row : (t : Table) (s : List ℕ) (r p : ℕ) (l : Leaf) (g : declared-leaf.Words) (n a b : ℕ) → Answers n a b 0 g → ((d : ℕ) → Stood t s d r p n (vLeaf l)) → Words s t r l a b → leafPool l ≡ [] → p < n → n ≤ length s → LeafTaken t s r p g
+in-row t s r p l g n a b w k x o h i =
+    record {
+      leaf = l;
+      stood = λ d. rw (w .0) (k d);
+      words = rw (w .1, w .2) x;
+      pool = w .3 ∙ rw o refl;
+      ahead = omega (arith, w .0);
+      placed = omega (arith, w .0);
+      few = omega (arith, w .0, w .3);
+    }
+
+passed-stood : (t : Table) (s : List ℕ) (r p n : ℕ) (j : Json) (v : Val) → read j t r ≡ ok v → ((d : ℕ) → Passed (Value d p j) s p n) → (d : ℕ) → Stood t s d r p n v
+passed-stood t s r p n j v e f d = record { tree = j; here = f d .stretch; reads = e }
+
+pub null-leaf : {t : Table} {s : List ℕ} {r p n : ℕ} {g : declared-leaf.Words} → kindOf t r ≡ NULL → (0 < n → (d : ℕ) → Passed (Value d p (jnull p)) s p n) → Answers n 0 0 0 g → 0 < g .next → LeafTaken t s r p g
+null-leaf {t} {s} {r} {p} {n} {g} e f w h =
+    let k = f (omega (arith, w .0)) in
+    in-row t s r p lNull g n 0 0 w (passed-stood t s r p n (jnull p) (vLeaf lNull) (read-null t r p e) k) (inRow (omega arith) refl (λ o. refl)) refl (k 0 .ahead) (k 0 .inside)
+
+pub bool-leaf : {t : Table} {s : List ℕ} {r p n a : ℕ} {g : declared-leaf.Words} (b : Bool) → bit b ≡ a → kindOf t r ≡ BOOLEAN → (0 < n → (d : ℕ) → Passed (Value d p (jbool p b)) s p n) → Answers n a 0 0 g → 0 < g .next → LeafTaken t s r p g
+bool-leaf {t} {s} {r} {p} {n} {a} {g} b i e f w h =
+    let k = f (omega (arith, w .0)) in
+    in-row t s r p (lBool b) g n a 0 w (passed-stood t s r p n (jbool p b) (vLeaf (lBool b)) (read-bool t r p b e) k) (inRow {l = lBool b} {a = a} {b = 0} (omega arith) refl (λ o. rw i)) refl (k 0 .ahead) (k 0 .inside)
+
+pub integer-leaf : {t : Table} {s : List ℕ} {r p n a b : ℕ} {g : declared-leaf.Words} → kindOf t r ≡ INTEGER → (0 < n → IntegerAt s p n a b) → Answers n a b 0 g → 0 < g .next → LeafTaken t s r p g
+integer-leaf {t} {s} {r} {p} {n} {a} {b} {g} e f w h =
+    let k = f (omega (arith, w .0)) in
+    let y = k .passed .stretch in
+    in-row t s r p (lInt (k .number)) g n a b w
+    (λ d. record { tree = jint p (k .minus) (k .magnitude); here = record { bytes = y .bytes; holds = grammar.whole (y .holds); text = y .text; end = y .end }; reads = read-int t r p (k .magnitude) (k .number) (k .minus) e (k .reads) })
+    (inRow {l = lInt (k .number)} {a = a} {b = b} (omega arith) refl (λ o. rw (k .lower, k .upper))) refl (k .passed .ahead) (k .passed .inside)
+
+-- ---- strings
+
+text-leaf : (t : Table) (s : List ℕ) (r p n a b c : ℕ) (e′ : Bool) (g : declared-leaf.Words) → kindOf t r ≡ UTF8String → StringAt s p n c e′ → a ≡ p → b % 2 ^ 31 ≡ c → (b < 2 ^ 31 → (e′ ≡ false) × (b ≡ c)) → Answers n a b c g → LeafTaken t s r p g
+text-leaf t s r p n a b c e′ g e k ea eb pl w =
+    let y = k .passed .stretch in
+    record {
+      leaf = lBytes (k .chars);
+      stood = λ d. rw (w .0) (record { tree = jstr p (k .chars); here = record { bytes = y .bytes; holds = grammar.string (y .holds); text = y .text; end = y .end }; reads = read-text t r p (k .chars) e });
+      words = rw (w .1, w .2, ea) (inText e (record { end = n; quoted = y; size = eb ∙ k .size; plain = λ h. let q = pl h in k .plain (q .0) .0 ∙ ap (λ (m : ℕ). take m (drop (p + 1) s)) (sym (q .1)) }));
+      pool = w .3 ∙ k .size;
+      ahead = omega (arith, w .0, k .passed .ahead);
+      placed = omega (arith, w .0, k .passed .inside);
+      few = omega (arith, w .0, w .3, k .few);
+    }
+
+pub plain-leaf : {t : Table} {s : List ℕ} {r p n a b c : ℕ} {e′ : Bool} {g : declared-leaf.Words} → kindOf t r ≡ UTF8String → StringAt s p n c e′ → a ≡ p → b ≡ c → c ≤ 65536 → e′ ≡ false → Answers n a b c g → LeafTaken t s r p g
+plain-leaf {t} {s} {r} {p} {n} {a} {b} {c} {e′} {g} e k ea eb l f w = text-leaf t s r p n a b c e′ g e k ea (rw eb (mod-eq-of-lt (omega arith))) (λ _. (f, eb)) w
+
+pub escaped-leaf : {t : Table} {s : List ℕ} {r p n a b c : ℕ} {e′ : Bool} {g : declared-leaf.Words} → kindOf t r ≡ UTF8String → StringAt s p n c e′ → a ≡ p → b ≡ c + 2147483648 → c ≤ 65536 → Answers n a b c g → LeafTaken t s r p g
+escaped-leaf {t} {s} {r} {p} {n} {a} {b} {c} {e′} {g} e k ea eb l w = text-leaf t s r p n a b c e′ g e k ea (rw eb (omega arith)) (λ h. absurd (omega arith)) w
+
+-- ---- the two booleans
+
+pub bool-true : {t : Table} {s : List ℕ} {r p n : ℕ} {g : declared-leaf.Words} → kindOf t r ≡ BOOLEAN → (0 < n → (d : ℕ) → Passed (Value d p (jbool p true)) s p n) → Answers n 1 0 0 g → 0 < g .next → LeafTaken t s r p g
+unfolding bit
+bool-true e f w h = bool-leaf true refl e f w h
+
+pub bool-false : {t : Table} {s : List ℕ} {r p n : ℕ} {g : declared-leaf.Words} → kindOf t r ≡ BOOLEAN → (0 < n → (d : ℕ) → Passed (Value d p (jbool p false)) s p n) → Answers n 0 0 0 g → 0 < g .next → LeafTaken t s r p g
+unfolding bit
+bool-false e f w h = bool-leaf false refl e f w h
