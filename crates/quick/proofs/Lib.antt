@@ -9,4 +9,5 @@ pub mod ObjectLaws
 pub mod PartedLaws
 pub mod ObjectingLaws
 pub mod StepLaws
+pub mod ChoiceLaws
 pub mod ListingLaws

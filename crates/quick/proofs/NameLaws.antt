@@ -43,7 +43,7 @@ name-here {s} {o} {q} {c} k y cb =
 
 -- ---- the member that has it
 
-found-some : (x : Option ℕ) {k : ℕ} → At k ≡ foundOf x → x ≡ some k
+pub found-some : (x : Option ℕ) {k : ℕ} → At k ≡ foundOf x → x ≡ some k
 unfolding foundOf
 found-some none e = cc
 found-some (some i) e = cc

@@ -201,3 +201,7 @@ given-on g k a b = given-part g k (g .typed) a b
 
 pub walked-if : {t : Table} {s z x : List ℕ} {d r p j : ℕ} {g : Got} → Alike z x 0 j → (0 < g .next → Walked t s z x d r p j g) → Walked t s z x d r p j g
 walked-if f k = record { kept = f; taken = λ h. k h .taken h }
+
+-- another type further on, on the same tape
+pub given-at : {t : Table} {s z f : List ℕ} {r p j e m at end : ℕ} → Given t s z f r p j → isType t e ≡ true → m ≡ e → at ≤ length s → end ≤ length z → Given t s z f m at end
+given-at g ty em a b = given-part g refl (rw em ty) a b

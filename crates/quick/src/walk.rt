@@ -12,6 +12,7 @@ use crate::step::gave;
 use crate::step::no_step;
 use scan::met::bit;
 use scan::met::with;
+use scan::parts::token_at;
 use spelled::skip::skip;
 use spelled::space::space;
 use spelled::word::literal_null;
@@ -22,11 +23,13 @@ use types::row::element_of;
 use types::row::kind_of;
 use types::row::type_at;
 use types::row::wide;
+use types::token::Found;
+use types::token::alternative;
 ghost use mathlib.Core.Path.{_≡_};
 ghost use Prim.Native.Nat.{_+_, _-_, _≤_, _<_};
 ghost use lib.ListN.{length};
-ghost use mathlib.Core.Bool.{false};
-ghost use Rattle.jer.specs.Table.{kindOf, isArray, countOf, SEQUENCE, SEQUENCE-OF, table};
+ghost use mathlib.Core.Bool.{true, false};
+ghost use Rattle.jer.specs.Table.{kindOf, isArray, isUnwrapped, countOf, SEQUENCE, SEQUENCE-OF, CHOICE, table};
 ghost use Rattle.quick.specs.Tape.{Alike};
 ghost use Rattle.quick.specs.Taken.{Given, Walked, Stepped};
 
@@ -35,26 +38,64 @@ pub fn value(types: &[u32], names: &[u8], s: &[u8], tape: &mut [u32], flags: &[u
     requires { ⌜ Given (table (now types) (now names)) (now s) (now tape) (now flags) row place top ⌝ }
     ensures { λ r. ⌜ Walked (table (now (types .entry)) (now (names .entry))) (now (s .entry)) (now (tape .entry)) (now (tape .exit)) depth row place top r ⌝ }
 {
-    let kind = kind_of(types, row);
-    if kind < Row::SEQUENCE {
+    if kind_of(types, row) < Row::SEQUENCE {
         return note(types, names, s, tape, flags, row, place, top);
     }
+    if Row::at(types, row).is_unwrapped() {
+        return picked(types, names, s, tape, flags, row, place, top, depth);
+    }
+    bracket(types, names, s, tape, flags, row, place, top, depth)
+}
+
+// UNWRAPPED: the token picks the alternative.
+fn picked(types: &[u32], names: &[u8], s: &[u8], tape: &mut [u32], flags: &[u8; 256], row: usize, place: usize, top: usize, depth: u32) -> Got
+    requires { ⌜ Given (table (now types) (now names)) (now s) (now tape) (now flags) row place top ⌝ }
+    requires { ⌜ isUnwrapped (table (now types) (now names)) row ≡ true ⌝ }
+    ensures { λ r. ⌜ Walked (table (now (types .entry)) (now (names .entry))) (now (s .entry)) (now (tape .entry)) (now (tape .exit)) depth row place top r ⌝ }
+{
+    if tape.len() < top + 3 {
+        return other();
+    }
+    let Found::At(k) = alternative(types, row, token_at(s, place)) else {
+        return other();
+    };
+    let g = plain(types, names, s, tape, flags, type_at(types, row, k), place, top + 3, depth);
+    if g.next == 0 {
+        return other();
+    }
+    head(tape, top, k, g.rows, g.pool, g.tape, g.next)
+}
+
+// A value of a type that is not UNWRAPPED.
+fn plain(types: &[u32], names: &[u8], s: &[u8], tape: &mut [u32], flags: &[u8; 256], row: usize, place: usize, top: usize, depth: u32) -> Got
+    requires { ⌜ Given (table (now types) (now names)) (now s) (now tape) (now flags) row place top ⌝ }
+    requires { ⌜ isUnwrapped (table (now types) (now names)) row ≡ false ⌝ }
+    ensures { λ r. ⌜ Walked (table (now (types .entry)) (now (names .entry))) (now (s .entry)) (now (tape .entry)) (now (tape .exit)) depth row place top r ⌝ }
+{
+    if kind_of(types, row) < Row::SEQUENCE {
+        return note(types, names, s, tape, flags, row, place, top);
+    }
+    bracket(types, names, s, tape, flags, row, place, top, depth)
+}
+
+// A bracket, by its type.
+fn bracket(types: &[u32], names: &[u8], s: &[u8], tape: &mut [u32], flags: &[u8; 256], row: usize, place: usize, top: usize, depth: u32) -> Got
+    requires { ⌜ Given (table (now types) (now names)) (now s) (now tape) (now flags) row place top ⌝ }
+    requires { ⌜ isUnwrapped (table (now types) (now names)) row ≡ false ⌝ }
+    ensures { λ r. ⌜ Walked (table (now (types .entry)) (now (names .entry))) (now (s .entry)) (now (tape .entry)) (now (tape .exit)) depth row place top r ⌝ }
+{
     if depth == 0 {
         return other();
     }
     if tape.len() < top + 3 {
         return other();
     }
-    if kind == Row::SEQUENCE_OF {
-        return list(types, names, s, tape, flags, row, place, top, depth - 1);
+    match kind_of(types, row) {
+        Row::SEQUENCE => sequence(types, names, s, tape, flags, row, place, top, depth - 1),
+        Row::SEQUENCE_OF => list(types, names, s, tape, flags, row, place, top, depth - 1),
+        Row::CHOICE => choice(types, names, s, tape, flags, row, place, top, depth - 1),
+        _ => other(),
     }
-    if kind == Row::SEQUENCE {
-        if Row::at(types, row).is_array() {
-            return other();
-        }
-        return object(types, names, s, tape, flags, row, place, top, depth - 1);
-    }
-    other()
 }
 
 // SEQUENCE OF; `depth` brackets may be open in an item.
@@ -97,6 +138,18 @@ fn list(types: &[u32], names: &[u8], s: &[u8], tape: &mut [u32], flags: &[u8; 25
         n += g.rows;
         m += g.pool;
     }
+}
+
+// SEQUENCE; `depth` brackets may be open in a member.
+fn sequence(types: &[u32], names: &[u8], s: &[u8], tape: &mut [u32], flags: &[u8; 256], row: usize, place: usize, top: usize, depth: u32) -> Got
+    requires { ⌜ Given (table (now types) (now names)) (now s) (now tape) (now flags) row place top ⌝ }
+    requires { ⌜ kindOf (table (now types) (now names)) row ≡ SEQUENCE ⌝ }
+    ensures { λ r. ⌜ Walked (table (now (types .entry)) (now (names .entry))) (now (s .entry)) (now (tape .entry)) (now (tape .exit)) (depth + 1) row place top r ⌝ }
+{
+    if Row::at(types, row).is_array() {
+        return other();
+    }
+    object(types, names, s, tape, flags, row, place, top, depth)
 }
 
 // SEQUENCE as an object; `depth` brackets may be open in a member.
@@ -175,4 +228,33 @@ fn member(types: &[u32], names: &[u8], s: &[u8], tape: &mut [u32], flags: &[u8; 
     }
     tape[top + 3 + wide(k)] = end as u32;
     gave(g.next, g.tape, g.rows, g.pool, with(met, k), with(present, k))
+}
+
+// CHOICE as an object of one member; `depth` brackets may be open in its value.
+fn choice(types: &[u32], names: &[u8], s: &[u8], tape: &mut [u32], flags: &[u8; 256], row: usize, place: usize, top: usize, depth: u32) -> Got
+    requires { ⌜ Given (table (now types) (now names)) (now s) (now tape) (now flags) row place top ⌝ }
+    requires { ⌜ (top + 3 ≤ length (now tape)) × (kindOf (table (now types) (now names)) row ≡ CHOICE) × (isUnwrapped (table (now types) (now names)) row ≡ false) ⌝ }
+    ensures { λ r. ⌜ Walked (table (now (types .entry)) (now (names .entry))) (now (s .entry)) (now (tape .entry)) (now (tape .exit)) (depth + 1) row place top r ⌝ }
+{
+    if byte_at(s, place) != 0x7B {
+        return other();
+    }
+    let name = name_at(types, names, s, flags, row, space(s, place + 1));
+    if name.next == 0 {
+        return other();
+    }
+    let k = name.position;
+    if count_of(types, row) <= k {
+        return other();
+    }
+    let at = space(s, name.next);
+    let g = value(types, names, s, tape, flags, type_at(types, row, k), at, top + 3, depth);
+    if g.next == 0 {
+        return other();
+    }
+    let c = space(s, g.next);
+    if byte_at(s, c) != 0x7D {
+        return other();
+    }
+    head(tape, top, k, g.rows, g.pool, g.tape, c + 1)
 }

@@ -1,4 +1,4 @@
--- Made by tools/answers.py from answers/walk/+list+member+object+value.ans: edit that. 75d240de7ab55283
+-- Made by tools/answers.py from answers/walk/+bracket+choice+list+member+object+picked+plain+sequence+value.ans: edit that. 19fe5bf460810cbc
 use Prim.Native.Nat.{ℕ, _<_, _≤_, _+_, _-_, _*_}
 use mathlib.Core.Path.{_≡_, refl, sym, ap, _∙_}
 use native.Mathlib.Omega.{arith}
@@ -8,25 +8,42 @@ use mathlib.Core.List.{[]}
 use lib.ListN.{length-set}
 use borrow.Author.Tests.{not-false}
 use Rattle.quick.proofs.TapeLaws.{alike-part}
-use Rattle.quick.proofs.WalkLaws.{alike-same, alike-then, not-taken, not-here, at-depth, mark-inside, given-part, given-on, walked-from, walked-if, spaced, within-at}
+use Rattle.quick.proofs.WalkLaws.{alike-same, alike-then, not-taken, not-here, at-depth, mark-inside, given-part, given-on, given-at, walked-from, walked-if, spaced, within-at}
+use Rattle.places.specs.ByPlaces.{tokenAt}
+use Rattle.quick.proofs.ChoiceLaws.{choice-here, picked-given, picked-plain, picked-here}
 use Rattle.quick.proofs.StepLaws.{member-given, step-null, step-value, step-passed, link-kept, known-at, links-at, cleared-below}
 use Rattle.quick.proofs.ObjectingLaws.{Objecting, objecting-start, objecting-more, objecting-last, objecting-after, shuts-any, shuts-none, shuts-after, object-none}
 use Rattle.quick.proofs.ListingLaws.{Listing, listing-start, listing-bounds, listing-kept, listing-more, listing-last, list-none}
 use borrow.Author.Needs.{needs}
 use borrow.Fn.Kinds.{In}
 use borrow.Fn.PlainCycle.{Measures, is, falls, and}
+use Rattle.quick.proofs.walk.bracket.Reads as bracket
+use Rattle.quick.proofs.walk.bracket.Kinds as bracket-kinds
+use Rattle.quick.proofs.walk.+bracket+choice+list+member+object+picked+plain+sequence+value.Lts-bracket as bracket-lts
+use Rattle.quick.proofs.walk.choice.Reads as choice
+use Rattle.quick.proofs.walk.choice.Kinds as choice-kinds
+use Rattle.quick.proofs.walk.+bracket+choice+list+member+object+picked+plain+sequence+value.Lts-choice as choice-lts
 use Rattle.quick.proofs.walk.list.Reads as list
 use Rattle.quick.proofs.walk.list.Kinds as list-kinds
-use Rattle.quick.proofs.walk.+list+member+object+value.Lts-list as list-lts
+use Rattle.quick.proofs.walk.+bracket+choice+list+member+object+picked+plain+sequence+value.Lts-list as list-lts
 use Rattle.quick.proofs.walk.member.Reads as member
 use Rattle.quick.proofs.walk.member.Kinds as member-kinds
-use Rattle.quick.proofs.walk.+list+member+object+value.Lts-member as member-lts
+use Rattle.quick.proofs.walk.+bracket+choice+list+member+object+picked+plain+sequence+value.Lts-member as member-lts
 use Rattle.quick.proofs.walk.object.Reads as object
 use Rattle.quick.proofs.walk.object.Kinds as object-kinds
-use Rattle.quick.proofs.walk.+list+member+object+value.Lts-object as object-lts
+use Rattle.quick.proofs.walk.+bracket+choice+list+member+object+picked+plain+sequence+value.Lts-object as object-lts
+use Rattle.quick.proofs.walk.picked.Reads as picked
+use Rattle.quick.proofs.walk.picked.Kinds as picked-kinds
+use Rattle.quick.proofs.walk.+bracket+choice+list+member+object+picked+plain+sequence+value.Lts-picked as picked-lts
+use Rattle.quick.proofs.walk.plain.Reads as plain
+use Rattle.quick.proofs.walk.plain.Kinds as plain-kinds
+use Rattle.quick.proofs.walk.+bracket+choice+list+member+object+picked+plain+sequence+value.Lts-plain as plain-lts
+use Rattle.quick.proofs.walk.sequence.Reads as sequence
+use Rattle.quick.proofs.walk.sequence.Kinds as sequence-kinds
+use Rattle.quick.proofs.walk.+bracket+choice+list+member+object+picked+plain+sequence+value.Lts-sequence as sequence-lts
 use Rattle.quick.proofs.walk.value.Reads as value
 use Rattle.quick.proofs.walk.value.Kinds as value-kinds
-use Rattle.quick.proofs.walk.+list+member+object+value.Lts-value as value-lts
+use Rattle.quick.proofs.walk.+bracket+choice+list+member+object+picked+plain+sequence+value.Lts-value as value-lts
 use Rattle.quick.proofs.member.absent_at.Reads as absent-at-reads
 use Rattle.quick.proofs.name.name_at.Reads as name-at-reads
 use Rattle.quick.proofs.note.clear.Reads as clear-reads
@@ -38,6 +55,7 @@ use Rattle.quick.proofs.step.gave.Reads as gave-reads
 use Rattle.quick.proofs.step.no_step.Reads as no-step-reads
 use Rattle.scan.proofs.met.bit.Reads as bit-reads
 use Rattle.scan.proofs.met.with.Reads as with-reads
+use Rattle.scan.proofs.parts.token_at.Reads as token-at-reads
 use Rattle.spelled.proofs.skip.skip.Reads as skip-reads
 use Rattle.spelled.proofs.space.space.Reads as space-reads
 use Rattle.spelled.proofs.word.literal_null.Reads as literal-null-reads
@@ -45,25 +63,54 @@ use Rattle.tokens.proofs.cursor.byte_at.Reads as byte-at-reads
 use Rattle.types.proofs.row.Row.at.Reads as at-reads
 use Rattle.types.proofs.row.Row.extensible.Reads as extensible-reads
 use Rattle.types.proofs.row.Row.is_array.Reads as is-array-reads
+use Rattle.types.proofs.row.Row.is_unwrapped.Reads as is-unwrapped-reads
 use Rattle.types.proofs.row.count_of.Reads as count-of-reads
 use Rattle.types.proofs.row.element_of.Reads as element-of-reads
 use Rattle.types.proofs.row.kind_of.Reads as kind-of-reads
 use Rattle.types.proofs.row.type_at.Reads as type-at-reads
 use Rattle.types.proofs.row.wide.Reads as wide-reads
-use Rattle.quick.proofs.walk.+list+member+object+value.{statement}
-use Rattle.quick.proofs.walk.+list+member+object+value.Tie.{close}
+use Rattle.types.proofs.token.alternative.Reads as alternative-reads
+use Rattle.quick.proofs.walk.+bracket+choice+list+member+object+picked+plain+sequence+value.{statement}
+use Rattle.quick.proofs.walk.+bracket+choice+list+member+object+picked+plain+sequence+value.Tie.{close}
+
+abbrev μ-bracket : Measures 5 bracket-kinds.ps ℕ
+μ-bracket κs a = a .1 .1 .1 .1 .1 .1 .1 .1 .0 * 8 + 2
+
+abbrev μ-choice : Measures 5 choice-kinds.ps ℕ
+μ-choice κs a = a .1 .1 .1 .1 .1 .1 .1 .1 .0 * 8 + 7
 
 abbrev μ-list : Measures 5 list-kinds.ps ℕ
-μ-list κs a = a .1 .1 .1 .1 .1 .1 .1 .1 .0 * 4 + 5
+μ-list κs a = a .1 .1 .1 .1 .1 .1 .1 .1 .0 * 8 + 7
 
 abbrev μ-member : Measures 5 member-kinds.ps ℕ
-μ-member κs a = a .1 .1 .1 .1 .1 .1 .1 .1 .1 .1 .1 .0 * 4 + 4
+μ-member κs a = a .1 .1 .1 .1 .1 .1 .1 .1 .1 .1 .1 .0 * 8 + 6
 
 abbrev μ-object : Measures 5 object-kinds.ps ℕ
-μ-object κs a = a .1 .1 .1 .1 .1 .1 .1 .1 .0 * 4 + 5
+μ-object κs a = a .1 .1 .1 .1 .1 .1 .1 .1 .0 * 8 + 7
+
+abbrev μ-picked : Measures 5 picked-kinds.ps ℕ
+μ-picked κs a = a .1 .1 .1 .1 .1 .1 .1 .1 .0 * 8 + 4
+
+abbrev μ-plain : Measures 5 plain-kinds.ps ℕ
+μ-plain κs a = a .1 .1 .1 .1 .1 .1 .1 .1 .0 * 8 + 3
+
+abbrev μ-sequence : Measures 5 sequence-kinds.ps ℕ
+μ-sequence κs a = a .1 .1 .1 .1 .1 .1 .1 .1 .0 * 8 + 8
 
 abbrev μ-value : Measures 5 value-kinds.ps ℕ
-μ-value κs a = a .1 .1 .1 .1 .1 .1 .1 .1 .0 * 4 + 3
+μ-value κs a = a .1 .1 .1 .1 .1 .1 .1 .1 .0 * 8 + 5
+
+abbrev bracket-at : ℕ → In 5 bracket-kinds.ps
+bracket-at t = and 5 bracket-kinds.ps (is 5 bracket-kinds.ps μ-bracket t) bracket.Pre
+
+abbrev bracket-below : ℕ → In 5 bracket-kinds.ps
+bracket-below t = and 5 bracket-kinds.ps (falls 5 bracket-kinds.ps _<_ μ-bracket t) bracket.Pre
+
+abbrev choice-at : ℕ → In 5 choice-kinds.ps
+choice-at t = and 5 choice-kinds.ps (is 5 choice-kinds.ps μ-choice t) choice.Pre
+
+abbrev choice-below : ℕ → In 5 choice-kinds.ps
+choice-below t = and 5 choice-kinds.ps (falls 5 choice-kinds.ps _<_ μ-choice t) choice.Pre
 
 abbrev list-at : ℕ → In 5 list-kinds.ps
 list-at t = and 5 list-kinds.ps (is 5 list-kinds.ps μ-list t) list.Pre
@@ -83,11 +130,35 @@ object-at t = and 5 object-kinds.ps (is 5 object-kinds.ps μ-object t) object.Pr
 abbrev object-below : ℕ → In 5 object-kinds.ps
 object-below t = and 5 object-kinds.ps (falls 5 object-kinds.ps _<_ μ-object t) object.Pre
 
+abbrev picked-at : ℕ → In 5 picked-kinds.ps
+picked-at t = and 5 picked-kinds.ps (is 5 picked-kinds.ps μ-picked t) picked.Pre
+
+abbrev picked-below : ℕ → In 5 picked-kinds.ps
+picked-below t = and 5 picked-kinds.ps (falls 5 picked-kinds.ps _<_ μ-picked t) picked.Pre
+
+abbrev plain-at : ℕ → In 5 plain-kinds.ps
+plain-at t = and 5 plain-kinds.ps (is 5 plain-kinds.ps μ-plain t) plain.Pre
+
+abbrev plain-below : ℕ → In 5 plain-kinds.ps
+plain-below t = and 5 plain-kinds.ps (falls 5 plain-kinds.ps _<_ μ-plain t) plain.Pre
+
+abbrev sequence-at : ℕ → In 5 sequence-kinds.ps
+sequence-at t = and 5 sequence-kinds.ps (is 5 sequence-kinds.ps μ-sequence t) sequence.Pre
+
+abbrev sequence-below : ℕ → In 5 sequence-kinds.ps
+sequence-below t = and 5 sequence-kinds.ps (falls 5 sequence-kinds.ps _<_ μ-sequence t) sequence.Pre
+
 abbrev value-at : ℕ → In 5 value-kinds.ps
 value-at t = and 5 value-kinds.ps (is 5 value-kinds.ps μ-value t) value.Pre
 
 abbrev value-below : ℕ → In 5 value-kinds.ps
 value-below t = and 5 value-kinds.ps (falls 5 value-kinds.ps _<_ μ-value t) value.Pre
+
+abbrev bracket-calls : ℕ → bracket-lts.Claims
+bracket-calls t = (other-reads.Asked, other-reads.Learnt, kind-of-reads.Asked, kind-of-reads.Learnt, sequence-below t, sequence.Post, list-below t, list.Post, choice-below t, choice.Post)
+
+abbrev choice-calls : ℕ → choice-lts.Claims
+choice-calls t = (byte-at-reads.Asked, byte-at-reads.Learnt, other-reads.Asked, other-reads.Learnt, space-reads.Asked, space-reads.Learnt, name-at-reads.Asked, name-at-reads.Learnt, count-of-reads.Asked, count-of-reads.Learnt, type-at-reads.Asked, type-at-reads.Learnt, value-below t, value.Post, head-reads.Asked, head-reads.Learnt)
 
 abbrev list-calls : ℕ → list-lts.Claims
 list-calls t = (byte-at-reads.Asked, byte-at-reads.Learnt, other-reads.Asked, other-reads.Learnt, element-of-reads.Asked, element-of-reads.Learnt, space-reads.Asked, space-reads.Learnt, head-reads.Asked, head-reads.Learnt, value-below t, value.Post)
@@ -98,8 +169,249 @@ member-calls t = (name-at-reads.Asked, name-at-reads.Learnt, no-step-reads.Asked
 abbrev object-calls : ℕ → object-lts.Claims
 object-calls t = (byte-at-reads.Asked, byte-at-reads.Learnt, other-reads.Asked, other-reads.Learnt, count-of-reads.Asked, count-of-reads.Learnt, wide-reads.Asked, wide-reads.Learnt, clear-reads.Asked, clear-reads.Learnt, space-reads.Asked, space-reads.Learnt, shut-reads.Asked, shut-reads.Learnt, member-below t, member.Post)
 
+abbrev picked-calls : ℕ → picked-lts.Claims
+picked-calls t = (other-reads.Asked, other-reads.Learnt, token-at-reads.Asked, token-at-reads.Learnt, alternative-reads.Asked, alternative-reads.Learnt, type-at-reads.Asked, type-at-reads.Learnt, plain-below t, plain.Post, head-reads.Asked, head-reads.Learnt)
+
+abbrev plain-calls : ℕ → plain-lts.Claims
+plain-calls t = (kind-of-reads.Asked, kind-of-reads.Learnt, note-reads.Asked, note-reads.Learnt, bracket-below t, bracket.Post)
+
+abbrev sequence-calls : ℕ → sequence-lts.Claims
+sequence-calls t = (at-reads.Asked, at-reads.Learnt, is-array-reads.Asked, is-array-reads.Learnt, other-reads.Asked, other-reads.Learnt, object-below t, object.Post)
+
 abbrev value-calls : ℕ → value-lts.Claims
-value-calls t = (kind-of-reads.Asked, kind-of-reads.Learnt, note-reads.Asked, note-reads.Learnt, other-reads.Asked, other-reads.Learnt, list-below t, list.Post, at-reads.Asked, at-reads.Learnt, is-array-reads.Asked, is-array-reads.Learnt, object-below t, object.Post)
+value-calls t = (kind-of-reads.Asked, kind-of-reads.Learnt, note-reads.Asked, note-reads.Learnt, at-reads.Asked, at-reads.Learnt, is-unwrapped-reads.Asked, is-unwrapped-reads.Learnt, picked-below t, picked.Post, bracket-below t, bracket.Post)
+
+bracket-other-requires : (t : ℕ) → bracket-lts.Need-other-requires (bracket-calls t) (bracket-at t) bracket.Post
+bracket-other-requires t c κs = search needs
+
+bracket-returns : (t : ℕ) → bracket-lts.Need-returns (bracket-calls t) (bracket-at t) bracket.Post
+bracket-returns t c =
+    let t = table (c .before .before .before .before .before .before .args .types .now) (c .before .before .before .before .before .before .args .names .now) in
+    let s = c .before .before .before .before .before .before .args .s .now in
+    let row = c .before .before .before .before .before .before .args .row in
+    let place = c .before .before .before .before .before .before .args .place in
+    let top = c .before .before .before .before .before .before .args .top in
+    not-here t s (c .before .before .before .before .before .before .args .tape .now) (c .before .before .before .before .before .before .args .depth) row place top _ (c .other .ensures)
+
+bracket-add-if2 : (t : ℕ) → bracket-lts.Need-add-if2 (bracket-calls t) (bracket-at t) bracket.Post
+bracket-add-if2 t c = search needs
+
+bracket-other-requires-2 : (t : ℕ) → bracket-lts.Need-other-requires-2 (bracket-calls t) (bracket-at t) bracket.Post
+bracket-other-requires-2 t c κs = search needs
+
+bracket-returns-2 : (t : ℕ) → bracket-lts.Need-returns-2 (bracket-calls t) (bracket-at t) bracket.Post
+bracket-returns-2 t c =
+    let t = table (c .before .before .before .before .before .before .before .args .types .now) (c .before .before .before .before .before .before .before .args .names .now) in
+    let s = c .before .before .before .before .before .before .before .args .s .now in
+    let row = c .before .before .before .before .before .before .before .args .row in
+    let place = c .before .before .before .before .before .before .before .args .place in
+    let top = c .before .before .before .before .before .before .before .args .top in
+    not-here t s (c .before .before .before .before .before .before .before .args .tape .now) (c .before .before .before .before .before .before .before .args .depth) row place top _ (c .other2 .ensures)
+
+bracket-kind-of-requires : (t : ℕ) → bracket-lts.Need-kind-of-requires (bracket-calls t) (bracket-at t) bracket.Post
+bracket-kind-of-requires t c κs = search needs
+
+bracket-sub-sequence : (t : ℕ) → bracket-lts.Need-sub-sequence (bracket-calls t) (bracket-at t) bracket.Post
+bracket-sub-sequence t c = search needs
+
+bracket-sequence-requires : (t : ℕ) → bracket-lts.Need-sequence-requires (bracket-calls t) (bracket-at t) bracket.Post
+bracket-sequence-requires t c κs =
+    let names = c .before .before .before .before .before .before .before .before .before .args .names .now in
+    let given = c .before .before .before .before .before .before .before .before .before .pre .1 .0 in
+    (omega (arith, c .before .before .before .before .if1 .left), (given, sym (c .before .before .kind-of .ensures names) ∙ c .before .match .keys1))
+
+bracket-sub-list : (t : ℕ) → bracket-lts.Need-sub-list (bracket-calls t) (bracket-at t) bracket.Post
+bracket-sub-list t c = search needs
+
+bracket-list-requires : (t : ℕ) → bracket-lts.Need-list-requires (bracket-calls t) (bracket-at t) bracket.Post
+bracket-list-requires t c κs =
+    let names = c .before .before .before .before .before .before .before .before .before .args .names .now in
+    let given = c .before .before .before .before .before .before .before .before .before .pre .1 .0 in
+    (omega (arith, c .before .before .before .before .if1 .left), (given, (omega (arith, c .before .before .before .if2 .left), sym (c .before .before .kind-of .ensures names) ∙ c .before .match .keys2)))
+
+bracket-sub-choice : (t : ℕ) → bracket-lts.Need-sub-choice (bracket-calls t) (bracket-at t) bracket.Post
+bracket-sub-choice t c = search needs
+
+bracket-choice-requires : (t : ℕ) → bracket-lts.Need-choice-requires (bracket-calls t) (bracket-at t) bracket.Post
+bracket-choice-requires t c κs =
+    let names = c .before .before .before .before .before .before .before .before .before .args .names .now in
+    let given = c .before .before .before .before .before .before .before .before .before .pre .1 .0 in
+    (omega (arith, c .before .before .before .before .if1 .left), (given, (omega (arith, c .before .before .before .if2 .left), sym (c .before .before .kind-of .ensures names) ∙ c .before .match .keys3, c .before .before .before .before .before .before .before .before .before .pre .1 .1)))
+
+bracket-other-requires-3 : (t : ℕ) → bracket-lts.Need-other-requires-3 (bracket-calls t) (bracket-at t) bracket.Post
+bracket-other-requires-3 t c κs = search needs
+
+bracket-same-length : (t : ℕ) → bracket-lts.Need-same-length (bracket-calls t) (bracket-at t) bracket.Post
+bracket-same-length t c = search needs
+
+bracket-returns-3 : (t : ℕ) → bracket-lts.Need-returns-3 (bracket-calls t) (bracket-at t) bracket.Post
+bracket-returns-3 t c =
+    let t = table (c .before .before .before .before .before .before .before .before .before .before .before .before .args .types .now) (c .before .before .before .before .before .before .before .before .before .before .before .before .args .names .now) in
+    let s = c .before .before .before .before .before .before .before .before .before .before .before .before .args .s .now in
+    let row = c .before .before .before .before .before .before .before .before .before .before .before .before .args .row in
+    let place = c .before .before .before .before .before .before .before .before .before .before .before .before .args .place in
+    let top = c .before .before .before .before .before .before .before .before .before .before .before .before .args .top in
+    at-depth t s (c .before .before .before .before .before .before .before .before .before .before .before .before .args .tape .now) _ _ (c .before .before .before .before .before .before .before .before .before .before .before .before .args .depth) row place top _ (omega (arith, c .before .before .before .before .before .before .before .if1 .left)) (c .before .before .sequence .ensures)
+
+bracket-same-length-2 : (t : ℕ) → bracket-lts.Need-same-length-2 (bracket-calls t) (bracket-at t) bracket.Post
+bracket-same-length-2 t c = search needs
+
+bracket-returns-4 : (t : ℕ) → bracket-lts.Need-returns-4 (bracket-calls t) (bracket-at t) bracket.Post
+bracket-returns-4 t c =
+    let t = table (c .before .before .before .before .before .before .before .before .before .before .before .before .args .types .now) (c .before .before .before .before .before .before .before .before .before .before .before .before .args .names .now) in
+    let s = c .before .before .before .before .before .before .before .before .before .before .before .before .args .s .now in
+    let row = c .before .before .before .before .before .before .before .before .before .before .before .before .args .row in
+    let place = c .before .before .before .before .before .before .before .before .before .before .before .before .args .place in
+    let top = c .before .before .before .before .before .before .before .before .before .before .before .before .args .top in
+    at-depth t s (c .before .before .before .before .before .before .before .before .before .before .before .before .args .tape .now) _ _ (c .before .before .before .before .before .before .before .before .before .before .before .before .args .depth) row place top _ (omega (arith, c .before .before .before .before .before .before .before .if1 .left)) (c .before .before .list .ensures)
+
+bracket-same-length-3 : (t : ℕ) → bracket-lts.Need-same-length-3 (bracket-calls t) (bracket-at t) bracket.Post
+bracket-same-length-3 t c = search needs
+
+bracket-returns-5 : (t : ℕ) → bracket-lts.Need-returns-5 (bracket-calls t) (bracket-at t) bracket.Post
+bracket-returns-5 t c =
+    let t = table (c .before .before .before .before .before .before .before .before .before .before .before .before .args .types .now) (c .before .before .before .before .before .before .before .before .before .before .before .before .args .names .now) in
+    let s = c .before .before .before .before .before .before .before .before .before .before .before .before .args .s .now in
+    let row = c .before .before .before .before .before .before .before .before .before .before .before .before .args .row in
+    let place = c .before .before .before .before .before .before .before .before .before .before .before .before .args .place in
+    let top = c .before .before .before .before .before .before .before .before .before .before .before .before .args .top in
+    at-depth t s (c .before .before .before .before .before .before .before .before .before .before .before .before .args .tape .now) _ _ (c .before .before .before .before .before .before .before .before .before .before .before .before .args .depth) row place top _ (omega (arith, c .before .before .before .before .before .before .before .if1 .left)) (c .before .before .choice .ensures)
+
+bracket-returns-6 : (t : ℕ) → bracket-lts.Need-returns-6 (bracket-calls t) (bracket-at t) bracket.Post
+bracket-returns-6 t c =
+    let t = table (c .before .before .before .before .before .before .before .before .before .args .types .now) (c .before .before .before .before .before .before .before .before .before .args .names .now) in
+    let s = c .before .before .before .before .before .before .before .before .before .args .s .now in
+    let row = c .before .before .before .before .before .before .before .before .before .args .row in
+    let place = c .before .before .before .before .before .before .before .before .before .args .place in
+    let top = c .before .before .before .before .before .before .before .before .before .args .top in
+    not-here t s (c .before .before .before .before .before .before .before .before .before .args .tape .now) (c .before .before .before .before .before .before .before .before .before .args .depth) row place top _ (c .other3 .ensures)
+
+choice-byte-at-requires : (t : ℕ) → choice-lts.Need-byte-at-requires (choice-calls t) (choice-at t) choice.Post
+choice-byte-at-requires t c κs = search needs
+
+choice-other-requires : (t : ℕ) → choice-lts.Need-other-requires (choice-calls t) (choice-at t) choice.Post
+choice-other-requires t c κs = search needs
+
+choice-returns : (t : ℕ) → choice-lts.Need-returns (choice-calls t) (choice-at t) choice.Post
+choice-returns t c =
+    let t = table (c .before .before .before .before .before .before .before .args .types .now) (c .before .before .before .before .before .before .before .args .names .now) in
+    let s = c .before .before .before .before .before .before .before .args .s .now in
+    let row = c .before .before .before .before .before .before .before .args .row in
+    let place = c .before .before .before .before .before .before .before .args .place in
+    let top = c .before .before .before .before .before .before .before .args .top in
+    not-here t s (c .before .before .before .before .before .before .before .args .tape .now) (c .before .before .before .before .before .before .before .args .depth + 1) row place top _ (c .other .ensures)
+
+choice-add-space : (t : ℕ) → choice-lts.Need-add-space (choice-calls t) (choice-at t) choice.Post
+choice-add-space t c = search needs
+
+choice-space-requires : (t : ℕ) → choice-lts.Need-space-requires (choice-calls t) (choice-at t) choice.Post
+choice-space-requires t c κs = search needs
+
+choice-name-at-requires : (t : ℕ) → choice-lts.Need-name-at-requires (choice-calls t) (choice-at t) choice.Post
+choice-name-at-requires t c κs =
+    let s = c .before .before .before .before .before .before .before .args .s .now in
+    let place = c .before .before .before .before .before .before .before .args .place in
+    let given = c .before .before .before .before .before .before .before .pre .1 .0 in
+    (given .short, omega (arith, given .short, within-at s (c .space .ensures .1) (omega (arith, mark-inside s place (c .before .before .byte-at .result) 0x7B (c .before .before .byte-at .ensures .0) (c .before .if1 .left) (omega arith)))), given .flags)
+
+choice-other-requires-2 : (t : ℕ) → choice-lts.Need-other-requires-2 (choice-calls t) (choice-at t) choice.Post
+choice-other-requires-2 t c κs = search needs
+
+choice-returns-2 : (t : ℕ) → choice-lts.Need-returns-2 (choice-calls t) (choice-at t) choice.Post
+choice-returns-2 t c =
+    let t = table (c .before .before .before .before .before .before .before .before .before .before .before .args .types .now) (c .before .before .before .before .before .before .before .before .before .before .before .args .names .now) in
+    let s = c .before .before .before .before .before .before .before .before .before .before .before .args .s .now in
+    let row = c .before .before .before .before .before .before .before .before .before .before .before .args .row in
+    let place = c .before .before .before .before .before .before .before .before .before .before .before .args .place in
+    let top = c .before .before .before .before .before .before .before .before .before .before .before .args .top in
+    not-here t s (c .before .before .before .before .before .before .before .before .before .before .before .args .tape .now) (c .before .before .before .before .before .before .before .before .before .before .before .args .depth + 1) row place top _ (c .other2 .ensures)
+
+choice-count-of-requires : (t : ℕ) → choice-lts.Need-count-of-requires (choice-calls t) (choice-at t) choice.Post
+choice-count-of-requires t c κs = search needs
+
+choice-other-requires-3 : (t : ℕ) → choice-lts.Need-other-requires-3 (choice-calls t) (choice-at t) choice.Post
+choice-other-requires-3 t c κs = search needs
+
+choice-returns-3 : (t : ℕ) → choice-lts.Need-returns-3 (choice-calls t) (choice-at t) choice.Post
+choice-returns-3 t c =
+    let t = table (c .before .before .before .before .before .before .before .before .before .before .before .before .before .args .types .now) (c .before .before .before .before .before .before .before .before .before .before .before .before .before .args .names .now) in
+    let s = c .before .before .before .before .before .before .before .before .before .before .before .before .before .args .s .now in
+    let row = c .before .before .before .before .before .before .before .before .before .before .before .before .before .args .row in
+    let place = c .before .before .before .before .before .before .before .before .before .before .before .before .before .args .place in
+    let top = c .before .before .before .before .before .before .before .before .before .before .before .before .before .args .top in
+    not-here t s (c .before .before .before .before .before .before .before .before .before .before .before .before .before .args .tape .now) (c .before .before .before .before .before .before .before .before .before .before .before .before .before .args .depth + 1) row place top _ (c .other3 .ensures)
+
+choice-space-requires-2 : (t : ℕ) → choice-lts.Need-space-requires-2 (choice-calls t) (choice-at t) choice.Post
+choice-space-requires-2 t c κs = search needs
+
+choice-type-at-requires : (t : ℕ) → choice-lts.Need-type-at-requires (choice-calls t) (choice-at t) choice.Post
+choice-type-at-requires t c κs = search needs
+
+choice-add-value : (t : ℕ) → choice-lts.Need-add-value (choice-calls t) (choice-at t) choice.Post
+choice-add-value t c = search needs
+
+choice-value-requires : (t : ℕ) → choice-lts.Need-value-requires (choice-calls t) (choice-at t) choice.Post
+choice-value-requires t c κs =
+    let names = c .before .before .before .before .before .before .before .before .before .before .before .before .before .before .before .args .names .now in
+    let s = c .before .before .before .before .before .before .before .before .before .before .before .before .before .before .before .args .s .now in
+    let row = c .before .before .before .before .before .before .before .before .before .before .before .before .before .before .before .args .row in
+    let given = c .before .before .before .before .before .before .before .before .before .before .before .before .before .before .before .pre .1 .0 in
+    (omega arith, given-at given (given .sane .member row _ (given .typed) (known-at (c .before .before .before .if3 .left) (c .before .before .before .before .count-of .ensures names))) (c .type-at .ensures names) (within-at s (c .before .before .space2 .ensures .1) ((c .before .before .before .before .before .before .before .name-at .ensures (omega (arith, c .before .before .before .before .before .if2 .left))) .placed)) (omega (arith, c .before .before .before .before .before .before .before .before .before .before .before .before .before .before .before .pre .1 .1 .0)))
+
+choice-other-requires-4 : (t : ℕ) → choice-lts.Need-other-requires-4 (choice-calls t) (choice-at t) choice.Post
+choice-other-requires-4 t c κs = search needs
+
+choice-same-length : (t : ℕ) → choice-lts.Need-same-length (choice-calls t) (choice-at t) choice.Post
+choice-same-length t c = search needs
+
+choice-returns-4 : (t : ℕ) → choice-lts.Need-returns-4 (choice-calls t) (choice-at t) choice.Post
+choice-returns-4 t c =
+    let t = table (c .before .before .before .before .before .before .before .before .before .before .before .before .before .before .before .before .before .before .before .before .before .args .types .now) (c .before .before .before .before .before .before .before .before .before .before .before .before .before .before .before .before .before .before .before .before .before .args .names .now) in
+    let s = c .before .before .before .before .before .before .before .before .before .before .before .before .before .before .before .before .before .before .before .before .before .args .s .now in
+    let row = c .before .before .before .before .before .before .before .before .before .before .before .before .before .before .before .before .before .before .before .before .before .args .row in
+    let place = c .before .before .before .before .before .before .before .before .before .before .before .before .before .before .before .before .before .before .before .before .before .args .place in
+    let top = c .before .before .before .before .before .before .before .before .before .before .before .before .before .before .before .before .before .before .before .before .before .args .top in
+    not-taken t s (c .before .before .before .before .before .before .before .before .before .before .before .before .before .before .before .before .before .before .before .before .before .args .tape .now) _ (c .before .before .before .before .before .before .before .before .before .before .before .before .before .before .before .before .before .before .before .before .before .args .depth + 1) row place top _ (alike-part 0 top (c .before .before .before .before .before .value .ensures .kept) (omega arith) (omega arith)) (c .other4 .ensures)
+
+choice-space-requires-3 : (t : ℕ) → choice-lts.Need-space-requires-3 (choice-calls t) (choice-at t) choice.Post
+choice-space-requires-3 t c κs = search needs
+
+choice-byte-at-requires-2 : (t : ℕ) → choice-lts.Need-byte-at-requires-2 (choice-calls t) (choice-at t) choice.Post
+choice-byte-at-requires-2 t c κs = search needs
+
+choice-other-requires-5 : (t : ℕ) → choice-lts.Need-other-requires-5 (choice-calls t) (choice-at t) choice.Post
+choice-other-requires-5 t c κs = search needs
+
+choice-same-length-2 : (t : ℕ) → choice-lts.Need-same-length-2 (choice-calls t) (choice-at t) choice.Post
+choice-same-length-2 t c = search needs
+
+choice-returns-5 : (t : ℕ) → choice-lts.Need-returns-5 (choice-calls t) (choice-at t) choice.Post
+choice-returns-5 t c =
+    let t = table (c .before .before .before .before .before .before .before .before .before .before .before .before .before .before .before .before .before .before .before .before .before .before .before .before .args .types .now) (c .before .before .before .before .before .before .before .before .before .before .before .before .before .before .before .before .before .before .before .before .before .before .before .before .args .names .now) in
+    let s = c .before .before .before .before .before .before .before .before .before .before .before .before .before .before .before .before .before .before .before .before .before .before .before .before .args .s .now in
+    let row = c .before .before .before .before .before .before .before .before .before .before .before .before .before .before .before .before .before .before .before .before .before .before .before .before .args .row in
+    let place = c .before .before .before .before .before .before .before .before .before .before .before .before .before .before .before .before .before .before .before .before .before .before .before .before .args .place in
+    let top = c .before .before .before .before .before .before .before .before .before .before .before .before .before .before .before .before .before .before .before .before .before .before .before .before .args .top in
+    not-taken t s (c .before .before .before .before .before .before .before .before .before .before .before .before .before .before .before .before .before .before .before .before .before .before .before .before .args .tape .now) _ (c .before .before .before .before .before .before .before .before .before .before .before .before .before .before .before .before .before .before .before .before .before .before .before .before .args .depth + 1) row place top _ (alike-part 0 top (c .before .before .before .before .before .before .before .before .value .ensures .kept) (omega arith) (omega arith)) (c .other5 .ensures)
+
+choice-add-head : (t : ℕ) → choice-lts.Need-add-head (choice-calls t) (choice-at t) choice.Post
+choice-add-head t c =
+    let s = c .before .before .before .before .before .before .before .before .before .before .before .before .before .before .before .before .before .before .before .before .before .before .before .before .args .s .now in
+    let given = c .before .before .before .before .before .before .before .before .before .before .before .before .before .before .before .before .before .before .before .before .before .before .before .before .pre .1 .0 in
+    omega (arith, mark-inside s (c .before .before .before .space3 .result) (c .before .before .byte-at2 .result) 0x7D (c .before .before .byte-at2 .ensures .0) (c .before .if5 .left) (omega arith), given .short)
+
+choice-head-requires : (t : ℕ) → choice-lts.Need-head-requires (choice-calls t) (choice-at t) choice.Post
+choice-head-requires t c κs =
+    let given = c .before .before .before .before .before .before .before .before .before .before .before .before .before .before .before .before .before .before .before .before .before .before .before .before .pre .1 .0 in
+    let g = c .before .before .before .before .before .before .before .before .value .ensures .taken (omega (arith, c .before .before .before .before .if4 .left)) in omega (arith, c .before .before .before .before .before .before .before .before .before .before .before .before .before .before .before .before .before .before .before .before .before .before .before .before .pre .1 .1 .0, c .before .before .before .before .before .before .before .before .value .kept .1 .1 .1 .0, g .words, g .inside, given .room)
+
+choice-same-length-3 : (t : ℕ) → choice-lts.Need-same-length-3 (choice-calls t) (choice-at t) choice.Post
+choice-same-length-3 t c = search needs
+
+choice-returns-6 : (t : ℕ) → choice-lts.Need-returns-6 (choice-calls t) (choice-at t) choice.Post
+choice-returns-6 t c =
+    let names = c .before .before .before .before .before .before .before .before .before .before .before .before .before .before .before .before .before .before .before .before .before .before .before .before .before .before .before .args .names .now in
+    choice-here (c .before .before .before .before .before .before .before .before .before .before .before .before .before .before .before .before .before .before .before .before .before .before .before .before .before .before .before .pre .1 .1 .1) (c .before .before .before .before .before .before .before .before .before .before .before .before .before .before .before .before .before .before .before .before .before .before .before .before .before .before .before .pre .1 .1 .2) (c .before .before .before .before .before .before .before .before .before .before .before .before .before .before .before .before .before .before .before .before .before .before .byte-at .ensures .0) (c .before .before .before .before .before .before .before .before .before .before .before .before .before .before .before .before .before .before .before .before .before .if1 .left) (c .before .before .before .before .before .before .before .before .before .before .before .before .before .before .before .before .before .before .before .before .space .ensures .0) (c .before .before .before .before .before .before .before .before .before .before .before .before .before .before .before .before .before .before .before .before .space .ensures .1 .0) (c .before .before .before .before .before .before .before .before .before .before .before .before .before .before .before .before .before .before .before .name-at .ensures (omega (arith, c .before .before .before .before .before .before .before .before .before .before .before .before .before .before .before .before .before .if2 .left))) (known-at (c .before .before .before .before .before .before .before .before .before .before .before .before .before .before .before .if3 .left) (c .before .before .before .before .before .before .before .before .before .before .before .before .before .before .before .before .count-of .ensures names)) (c .before .before .before .before .before .before .before .before .before .before .before .before .before .before .space2 .ensures .0) (c .before .before .before .before .before .before .before .before .before .before .before .before .before .before .space2 .ensures .1 .0) (c .before .before .before .before .before .before .before .before .before .before .before .before .type-at .ensures names) (c .before .before .before .before .before .before .before .before .before .before .before .value .ensures) (c .before .before .before .before .before .before .before .if4 .left) (c .before .before .before .before .before .before .space3 .ensures .0) (c .before .before .before .before .before .before .space3 .ensures .1 .0) (c .before .before .before .before .before .byte-at2 .ensures .0) (c .before .before .before .before .if5 .left) (c .before .before .head .ensures .0) (c .before .before .head .ensures .1)
 
 abbrev list-Inv-loop : list-lts.InvT-loop
 list-Inv-loop types names s tape₀ flags row place top depth element at₀ end₀ count₀ n₀ m₀ tape at end count n m = Listing (table types names) s tape₀ tape depth row place top at end count n m
@@ -686,6 +998,149 @@ object-loop-again t c =
     let stepped = c .before .before .before .before .before .before .before .before .before .before .before .member .ensures .1 (omega (arith, c .before .before .before .before .before .before .before .if4 .left)) in
     objecting-more (c .before .before .before .before .before .before .before .before .before .before .before .before .before .loop .inv) (given .sane) (given .typed) stepped (c .before .before .before .before .before .before .before .before .before .before .before .member .kept .1 .1 .1 .0) (c .before .before .before .before .before .before .before .before .before .before .before .member .ensures .0) (c .before .before .before .before .before .before .space2 .ensures .0) (c .before .before .before .before .before .byte-at3 .ensures .0) (c .before .before .before .if6 .left) (c .before .before .before .before .before .before .space2 .ensures .1 .0) (c .before .before .space3 .ensures .0) (c .before .before .space3 .ensures .1 .0) (within-at (c .before .before .before .before .before .before .before .before .before .before .before .before .before .before .before .before .before .before .before .before .before .before .before .before .before .before .before .before .before .before .args .s .now) (c .before .before .space3 .ensures .1) (omega (arith, mark-inside s (c .before .before .before .before .before .before .space2 .result) (c .before .before .before .before .before .byte-at3 .result) 0x2C (c .before .before .before .before .before .byte-at3 .ensures .0) (c .before .before .before .if6 .left) (omega arith))))
 
+picked-add-if1 : (t : ℕ) → picked-lts.Need-add-if1 (picked-calls t) (picked-at t) picked.Post
+picked-add-if1 t c = search needs
+
+picked-other-requires : (t : ℕ) → picked-lts.Need-other-requires (picked-calls t) (picked-at t) picked.Post
+picked-other-requires t c κs = search needs
+
+picked-returns : (t : ℕ) → picked-lts.Need-returns (picked-calls t) (picked-at t) picked.Post
+picked-returns t c =
+    let t = table (c .before .before .before .before .before .before .args .types .now) (c .before .before .before .before .before .before .args .names .now) in
+    let s = c .before .before .before .before .before .before .args .s .now in
+    let row = c .before .before .before .before .before .before .args .row in
+    let place = c .before .before .before .before .before .before .args .place in
+    let top = c .before .before .before .before .before .before .args .top in
+    not-here t s (c .before .before .before .before .before .before .args .tape .now) (c .before .before .before .before .before .before .args .depth) row place top _ (c .other .ensures)
+
+picked-token-at-requires : (t : ℕ) → picked-lts.Need-token-at-requires (picked-calls t) (picked-at t) picked.Post
+picked-token-at-requires t c κs = search needs
+
+picked-alternative-requires : (t : ℕ) → picked-lts.Need-alternative-requires (picked-calls t) (picked-at t) picked.Post
+picked-alternative-requires t c κs = search needs
+
+picked-enum-known-k : (t : ℕ) → picked-lts.Need-enum-known-k (picked-calls t) (picked-at t) picked.Post
+picked-enum-known-k t c = search needs
+
+picked-enum-told : (t : ℕ) → picked-lts.Need-enum-told (picked-calls t) (picked-at t) picked.Post
+picked-enum-told t c = search needs
+
+picked-other-requires-2 : (t : ℕ) → picked-lts.Need-other-requires-2 (picked-calls t) (picked-at t) picked.Post
+picked-other-requires-2 t c κs = search needs
+
+picked-returns-2 : (t : ℕ) → picked-lts.Need-returns-2 (picked-calls t) (picked-at t) picked.Post
+picked-returns-2 t c =
+    let t = table (c .before .before .before .before .before .before .before .before .before .before .args .types .now) (c .before .before .before .before .before .before .before .before .before .before .args .names .now) in
+    let s = c .before .before .before .before .before .before .before .before .before .before .args .s .now in
+    let row = c .before .before .before .before .before .before .before .before .before .before .args .row in
+    let place = c .before .before .before .before .before .before .before .before .before .before .args .place in
+    let top = c .before .before .before .before .before .before .before .before .before .before .args .top in
+    not-here t s (c .before .before .before .before .before .before .before .before .before .before .args .tape .now) (c .before .before .before .before .before .before .before .before .before .before .args .depth) row place top _ (c .other2 .ensures)
+
+picked-type-at-requires : (t : ℕ) → picked-lts.Need-type-at-requires (picked-calls t) (picked-at t) picked.Post
+picked-type-at-requires t c κs = search needs
+
+picked-add-plain : (t : ℕ) → picked-lts.Need-add-plain (picked-calls t) (picked-at t) picked.Post
+picked-add-plain t c = search needs
+
+picked-plain-requires : (t : ℕ) → picked-lts.Need-plain-requires (picked-calls t) (picked-at t) picked.Post
+picked-plain-requires t c κs =
+    let names = c .before .before .before .before .before .before .before .before .before .before .before .before .args .names .now in
+    let t = table (c .before .before .before .before .before .before .before .before .before .before .before .before .args .types .now) (c .before .before .before .before .before .before .before .before .before .before .before .before .args .names .now) in
+    let s = c .before .before .before .before .before .before .before .before .before .before .before .before .args .s .now in
+    let row = c .before .before .before .before .before .before .before .before .before .before .before .before .args .row in
+    let place = c .before .before .before .before .before .before .before .before .before .before .before .before .args .place in
+    let given = c .before .before .before .before .before .before .before .before .before .before .before .before .pre .1 .0 in
+    let pick = sym (c .before .before .before .k .given .1) ∙ c .before .before .before .before .before .alternative .ensures names (tokenAt (c .before .before .before .before .before .before .before .before .before .before .before .before .args .s .now) (c .before .before .before .before .before .before .before .before .before .before .before .before .args .place)) (c .before .before .before .before .before .before .token-at .ensures) in
+    (omega arith, (picked-given t s row place (c .before .before .before .k .given .0 .0) (given .sane) (c .before .before .before .before .before .before .before .before .before .before .before .before .pre .1 .1) pick given (c .type-at .ensures names) (omega (arith, c .before .before .before .before .before .before .before .if1 .left)), rw (c .type-at .ensures names) (picked-plain t s row place (c .before .before .before .k .given .0 .0) (given .sane) (c .before .before .before .before .before .before .before .before .before .before .before .before .pre .1 .1) pick)))
+
+picked-other-requires-3 : (t : ℕ) → picked-lts.Need-other-requires-3 (picked-calls t) (picked-at t) picked.Post
+picked-other-requires-3 t c κs = search needs
+
+picked-same-length : (t : ℕ) → picked-lts.Need-same-length (picked-calls t) (picked-at t) picked.Post
+picked-same-length t c = search needs
+
+picked-returns-3 : (t : ℕ) → picked-lts.Need-returns-3 (picked-calls t) (picked-at t) picked.Post
+picked-returns-3 t c =
+    let t = table (c .before .before .before .before .before .before .before .before .before .before .before .before .before .before .before .before .before .before .args .types .now) (c .before .before .before .before .before .before .before .before .before .before .before .before .before .before .before .before .before .before .args .names .now) in
+    let s = c .before .before .before .before .before .before .before .before .before .before .before .before .before .before .before .before .before .before .args .s .now in
+    let row = c .before .before .before .before .before .before .before .before .before .before .before .before .before .before .before .before .before .before .args .row in
+    let place = c .before .before .before .before .before .before .before .before .before .before .before .before .before .before .before .before .before .before .args .place in
+    let top = c .before .before .before .before .before .before .before .before .before .before .before .before .before .before .before .before .before .before .args .top in
+    not-taken t s (c .before .before .before .before .before .before .before .before .before .before .before .before .before .before .before .before .before .before .args .tape .now) _ (c .before .before .before .before .before .before .before .before .before .before .before .before .before .before .before .before .before .before .args .depth) row place top _ (alike-part 0 top (c .before .before .before .before .before .plain .ensures .kept) (omega arith) (omega arith)) (c .other3 .ensures)
+
+picked-head-requires : (t : ℕ) → picked-lts.Need-head-requires (picked-calls t) (picked-at t) picked.Post
+picked-head-requires t c κs =
+    let given = c .before .before .before .before .before .before .before .before .before .before .before .before .before .before .before .before .before .before .pre .1 .0 in
+    let g = c .before .before .before .before .before .plain .ensures .taken (omega (arith, c .before .if2 .left)) in omega (arith, c .before .before .before .before .before .before .before .before .before .before .before .before .before .if1 .left, c .before .before .before .before .before .plain .kept .1 .1 .1 .0, g .words, g .inside, given .room)
+
+picked-same-length-2 : (t : ℕ) → picked-lts.Need-same-length-2 (picked-calls t) (picked-at t) picked.Post
+picked-same-length-2 t c = search needs
+
+picked-returns-4 : (t : ℕ) → picked-lts.Need-returns-4 (picked-calls t) (picked-at t) picked.Post
+picked-returns-4 t c =
+    let names = c .before .before .before .before .before .before .before .before .before .before .before .before .before .before .before .before .before .before .before .before .before .args .names .now in
+    let t = table (c .before .before .before .before .before .before .before .before .before .before .before .before .before .before .before .before .before .before .before .before .before .args .types .now) (c .before .before .before .before .before .before .before .before .before .before .before .before .before .before .before .before .before .before .before .before .before .args .names .now) in
+    let s = c .before .before .before .before .before .before .before .before .before .before .before .before .before .before .before .before .before .before .before .before .before .args .s .now in
+    let row = c .before .before .before .before .before .before .before .before .before .before .before .before .before .before .before .before .before .before .before .before .before .args .row in
+    let place = c .before .before .before .before .before .before .before .before .before .before .before .before .before .before .before .before .before .before .before .before .before .args .place in
+    let given = c .before .before .before .before .before .before .before .before .before .before .before .before .before .before .before .before .before .before .before .before .before .pre .1 .0 in
+    let pick = sym (c .before .before .before .before .before .before .before .before .before .before .before .before .k .given .1) ∙ c .before .before .before .before .before .before .before .before .before .before .before .before .before .before .alternative .ensures names (tokenAt (c .before .before .before .before .before .before .before .before .before .before .before .before .before .before .before .before .before .before .before .before .before .args .s .now) (c .before .before .before .before .before .before .before .before .before .before .before .before .before .before .before .before .before .before .before .before .before .args .place)) (c .before .before .before .before .before .before .before .before .before .before .before .before .before .before .before .token-at .ensures) in
+    picked-here t s row place (c .before .before .before .before .before .before .before .before .before .before .before .before .k .given .0 .0) (given .sane) (c .before .before .before .before .before .before .before .before .before .before .before .before .before .before .before .before .before .before .before .before .before .pre .1 .1) pick (c .before .before .before .before .before .before .before .before .before .type-at .ensures names) (c .before .before .before .before .before .before .before .before .plain .ensures) (c .before .before .before .before .if2 .left) (c .before .before .head .ensures .0) (c .before .before .head .ensures .1)
+
+plain-kind-of-requires : (t : ℕ) → plain-lts.Need-kind-of-requires (plain-calls t) (plain-at t) plain.Post
+plain-kind-of-requires t c κs = search needs
+
+plain-note-requires : (t : ℕ) → plain-lts.Need-note-requires (plain-calls t) (plain-at t) plain.Post
+plain-note-requires t c κs = search needs
+
+plain-same-length : (t : ℕ) → plain-lts.Need-same-length (plain-calls t) (plain-at t) plain.Post
+plain-same-length t c = search needs
+
+plain-returns : (t : ℕ) → plain-lts.Need-returns (plain-calls t) (plain-at t) plain.Post
+plain-returns t c = c .before .before .note .ensures (c .before .before .before .before .before .before .before .before .before .before .args .depth)
+
+plain-bracket-requires : (t : ℕ) → plain-lts.Need-bracket-requires (plain-calls t) (plain-at t) plain.Post
+plain-bracket-requires t c κs = (omega arith, c .before .before .before .before .before .before .before .pre .1)
+
+plain-same-length-2 : (t : ℕ) → plain-lts.Need-same-length-2 (plain-calls t) (plain-at t) plain.Post
+plain-same-length-2 t c = search needs
+
+plain-returns-2 : (t : ℕ) → plain-lts.Need-returns-2 (plain-calls t) (plain-at t) plain.Post
+plain-returns-2 t c = search needs
+
+sequence-at-requires : (t : ℕ) → sequence-lts.Need-at-requires (sequence-calls t) (sequence-at t) sequence.Post
+sequence-at-requires t c κs = search needs
+
+sequence-is-array-requires : (t : ℕ) → sequence-lts.Need-is-array-requires (sequence-calls t) (sequence-at t) sequence.Post
+sequence-is-array-requires t c κs = search needs
+
+sequence-other-requires : (t : ℕ) → sequence-lts.Need-other-requires (sequence-calls t) (sequence-at t) sequence.Post
+sequence-other-requires t c κs = search needs
+
+sequence-returns : (t : ℕ) → sequence-lts.Need-returns (sequence-calls t) (sequence-at t) sequence.Post
+sequence-returns t c =
+    let t = table (c .before .before .before .before .before .before .before .before .args .types .now) (c .before .before .before .before .before .before .before .before .args .names .now) in
+    let s = c .before .before .before .before .before .before .before .before .args .s .now in
+    let row = c .before .before .before .before .before .before .before .before .args .row in
+    let place = c .before .before .before .before .before .before .before .before .args .place in
+    let top = c .before .before .before .before .before .before .before .before .args .top in
+    not-here t s (c .before .before .before .before .before .before .before .before .args .tape .now) (c .before .before .before .before .before .before .before .before .args .depth + 1) row place top _ (c .other .ensures)
+
+sequence-object-requires : (t : ℕ) → sequence-lts.Need-object-requires (sequence-calls t) (sequence-at t) sequence.Post
+sequence-object-requires t c κs =
+    let names = c .before .before .before .before .before .before .before .before .args .names .now in
+    let t = table (c .before .before .before .before .before .before .before .before .args .types .now) (c .before .before .before .before .before .before .before .before .args .names .now) in
+    let row = c .before .before .before .before .before .before .before .before .args .row in
+    let given = c .before .before .before .before .before .before .before .before .pre .1 .0 in
+    (omega arith, (given, (c .before .before .before .before .before .before .before .before .pre .1 .1, sym (c .before .before .is-array .ensures t row (c .before .before .before .at .ensures names)) ∙ c .before .if1 .left)))
+
+sequence-same-length : (t : ℕ) → sequence-lts.Need-same-length (sequence-calls t) (sequence-at t) sequence.Post
+sequence-same-length t c = search needs
+
+sequence-returns-2 : (t : ℕ) → sequence-lts.Need-returns-2 (sequence-calls t) (sequence-at t) sequence.Post
+sequence-returns-2 t c = search needs
+
 value-kind-of-requires : (t : ℕ) → value-lts.Need-kind-of-requires (value-calls t) (value-at t) value.Post
 value-kind-of-requires t c κs = search needs
 
@@ -698,108 +1153,90 @@ value-same-length t c = search needs
 value-returns : (t : ℕ) → value-lts.Need-returns (value-calls t) (value-at t) value.Post
 value-returns t c = c .before .before .note .ensures (c .before .before .before .before .before .before .before .before .before .before .args .depth)
 
-value-other-requires : (t : ℕ) → value-lts.Need-other-requires (value-calls t) (value-at t) value.Post
-value-other-requires t c κs = search needs
+value-at-requires : (t : ℕ) → value-lts.Need-at-requires (value-calls t) (value-at t) value.Post
+value-at-requires t c κs = search needs
 
-value-returns-2 : (t : ℕ) → value-lts.Need-returns-2 (value-calls t) (value-at t) value.Post
-value-returns-2 t c =
-    let t = table (c .before .before .before .before .before .before .before .before .args .types .now) (c .before .before .before .before .before .before .before .before .args .names .now) in
-    let s = c .before .before .before .before .before .before .before .before .args .s .now in
-    let row = c .before .before .before .before .before .before .before .before .args .row in
-    let place = c .before .before .before .before .before .before .before .before .args .place in
-    let top = c .before .before .before .before .before .before .before .before .args .top in
-    not-here t s (c .before .before .before .before .before .before .before .before .args .tape .now) (c .before .before .before .before .before .before .before .before .args .depth) row place top _ (c .other .ensures)
+value-is-unwrapped-requires : (t : ℕ) → value-lts.Need-is-unwrapped-requires (value-calls t) (value-at t) value.Post
+value-is-unwrapped-requires t c κs = search needs
 
-value-add-if3 : (t : ℕ) → value-lts.Need-add-if3 (value-calls t) (value-at t) value.Post
-value-add-if3 t c = search needs
-
-value-other-requires-2 : (t : ℕ) → value-lts.Need-other-requires-2 (value-calls t) (value-at t) value.Post
-value-other-requires-2 t c κs = search needs
-
-value-returns-3 : (t : ℕ) → value-lts.Need-returns-3 (value-calls t) (value-at t) value.Post
-value-returns-3 t c =
-    let t = table (c .before .before .before .before .before .before .before .before .before .args .types .now) (c .before .before .before .before .before .before .before .before .before .args .names .now) in
-    let s = c .before .before .before .before .before .before .before .before .before .args .s .now in
-    let row = c .before .before .before .before .before .before .before .before .before .args .row in
-    let place = c .before .before .before .before .before .before .before .before .before .args .place in
-    let top = c .before .before .before .before .before .before .before .before .before .args .top in
-    not-here t s (c .before .before .before .before .before .before .before .before .before .args .tape .now) (c .before .before .before .before .before .before .before .before .before .args .depth) row place top _ (c .other2 .ensures)
-
-value-sub-list : (t : ℕ) → value-lts.Need-sub-list (value-calls t) (value-at t) value.Post
-value-sub-list t c = search needs
-
-value-list-requires : (t : ℕ) → value-lts.Need-list-requires (value-calls t) (value-at t) value.Post
-value-list-requires t c κs =
+value-picked-requires : (t : ℕ) → value-lts.Need-picked-requires (value-calls t) (value-at t) value.Post
+value-picked-requires t c κs =
     let names = c .before .before .before .before .before .before .before .before .before .before .args .names .now in
-    (omega (arith, c .before .before .before .if2 .left), (c .before .before .before .before .before .before .before .before .before .before .pre .1, (omega (arith, c .before .before .if3 .left), sym (c .before .before .before .before .before .kind-of .ensures names) ∙ c .before .if4 .taken)))
+    let t = table (c .before .before .before .before .before .before .before .before .before .before .args .types .now) (c .before .before .before .before .before .before .before .before .before .before .args .names .now) in
+    let row = c .before .before .before .before .before .before .before .before .before .before .args .row in
+    (omega arith, (c .before .before .before .before .before .before .before .before .before .before .pre .1, sym (c .before .before .is-unwrapped .ensures t row (c .before .before .before .at .ensures names)) ∙ c .before .if2 .taken))
 
 value-same-length-2 : (t : ℕ) → value-lts.Need-same-length-2 (value-calls t) (value-at t) value.Post
 value-same-length-2 t c = search needs
 
-value-returns-4 : (t : ℕ) → value-lts.Need-returns-4 (value-calls t) (value-at t) value.Post
-value-returns-4 t c =
-    let t = table (c .before .before .before .before .before .before .before .before .before .before .before .before .before .args .types .now) (c .before .before .before .before .before .before .before .before .before .before .before .before .before .args .names .now) in
-    let s = c .before .before .before .before .before .before .before .before .before .before .before .before .before .args .s .now in
-    let row = c .before .before .before .before .before .before .before .before .before .before .before .before .before .args .row in
-    let place = c .before .before .before .before .before .before .before .before .before .before .before .before .before .args .place in
-    let top = c .before .before .before .before .before .before .before .before .before .before .before .before .before .args .top in
-    at-depth t s (c .before .before .before .before .before .before .before .before .before .before .before .before .before .args .tape .now) _ _ (c .before .before .before .before .before .before .before .before .before .before .before .before .before .args .depth) row place top _ (omega (arith, c .before .before .before .before .before .before .if2 .left)) (c .before .before .list .ensures)
+value-returns-2 : (t : ℕ) → value-lts.Need-returns-2 (value-calls t) (value-at t) value.Post
+value-returns-2 t c = search needs
 
-value-at-requires : (t : ℕ) → value-lts.Need-at-requires (value-calls t) (value-at t) value.Post
-value-at-requires t c κs = search needs
-
-value-is-array-requires : (t : ℕ) → value-lts.Need-is-array-requires (value-calls t) (value-at t) value.Post
-value-is-array-requires t c κs = search needs
-
-value-other-requires-3 : (t : ℕ) → value-lts.Need-other-requires-3 (value-calls t) (value-at t) value.Post
-value-other-requires-3 t c κs = search needs
-
-value-returns-5 : (t : ℕ) → value-lts.Need-returns-5 (value-calls t) (value-at t) value.Post
-value-returns-5 t c =
-    let t = table (c .before .before .before .before .before .before .before .before .before .before .before .before .before .before .args .types .now) (c .before .before .before .before .before .before .before .before .before .before .before .before .before .before .args .names .now) in
-    let s = c .before .before .before .before .before .before .before .before .before .before .before .before .before .before .args .s .now in
-    let row = c .before .before .before .before .before .before .before .before .before .before .before .before .before .before .args .row in
-    let place = c .before .before .before .before .before .before .before .before .before .before .before .before .before .before .args .place in
-    let top = c .before .before .before .before .before .before .before .before .before .before .before .before .before .before .args .top in
-    not-here t s (c .before .before .before .before .before .before .before .before .before .before .before .before .before .before .args .tape .now) (c .before .before .before .before .before .before .before .before .before .before .before .before .before .before .args .depth) row place top _ (c .other3 .ensures)
-
-value-sub-object : (t : ℕ) → value-lts.Need-sub-object (value-calls t) (value-at t) value.Post
-value-sub-object t c = search needs
-
-value-object-requires : (t : ℕ) → value-lts.Need-object-requires (value-calls t) (value-at t) value.Post
-value-object-requires t c κs =
-    let names = c .before .before .before .before .before .before .before .before .before .before .before .before .before .before .args .names .now in
-    let t = table (c .before .before .before .before .before .before .before .before .before .before .before .before .before .before .args .types .now) (c .before .before .before .before .before .before .before .before .before .before .before .before .before .before .args .names .now) in
-    let row = c .before .before .before .before .before .before .before .before .before .before .before .before .before .before .args .row in
-    (omega (arith, c .before .before .before .before .before .before .before .if2 .left), (c .before .before .before .before .before .before .before .before .before .before .before .before .before .before .pre .1, (sym (c .before .before .before .before .before .before .before .before .before .kind-of .ensures names) ∙ c .before .before .before .before .if5 .taken, sym (c .before .before .is-array .ensures t row (c .before .before .before .at .ensures names)) ∙ c .before .if6 .left)))
+value-bracket-requires : (t : ℕ) → value-lts.Need-bracket-requires (value-calls t) (value-at t) value.Post
+value-bracket-requires t c κs =
+    let names = c .before .before .before .before .before .before .before .before .before .before .args .names .now in
+    let t = table (c .before .before .before .before .before .before .before .before .before .before .args .types .now) (c .before .before .before .before .before .before .before .before .before .before .args .names .now) in
+    let row = c .before .before .before .before .before .before .before .before .before .before .args .row in
+    (omega arith, (c .before .before .before .before .before .before .before .before .before .before .pre .1, sym (c .before .before .is-unwrapped .ensures t row (c .before .before .before .at .ensures names)) ∙ c .before .if2 .left))
 
 value-same-length-3 : (t : ℕ) → value-lts.Need-same-length-3 (value-calls t) (value-at t) value.Post
 value-same-length-3 t c = search needs
 
-value-returns-6 : (t : ℕ) → value-lts.Need-returns-6 (value-calls t) (value-at t) value.Post
-value-returns-6 t c =
-    let t = table (c .before .before .before .before .before .before .before .before .before .before .before .before .before .before .before .before .before .args .types .now) (c .before .before .before .before .before .before .before .before .before .before .before .before .before .before .before .before .before .args .names .now) in
-    let s = c .before .before .before .before .before .before .before .before .before .before .before .before .before .before .before .before .before .args .s .now in
-    let row = c .before .before .before .before .before .before .before .before .before .before .before .before .before .before .before .before .before .args .row in
-    let place = c .before .before .before .before .before .before .before .before .before .before .before .before .before .before .before .before .before .args .place in
-    let top = c .before .before .before .before .before .before .before .before .before .before .before .before .before .before .before .before .before .args .top in
-    at-depth t s (c .before .before .before .before .before .before .before .before .before .before .before .before .before .before .before .before .before .args .tape .now) _ _ (c .before .before .before .before .before .before .before .before .before .before .before .before .before .before .before .before .before .args .depth) row place top _ (omega (arith, c .before .before .before .before .before .before .before .before .before .before .if2 .left)) (c .before .before .object .ensures)
+value-returns-3 : (t : ℕ) → value-lts.Need-returns-3 (value-calls t) (value-at t) value.Post
+value-returns-3 t c = search needs
 
-value-other-requires-4 : (t : ℕ) → value-lts.Need-other-requires-4 (value-calls t) (value-at t) value.Post
-value-other-requires-4 t c κs = search needs
-
-value-returns-7 : (t : ℕ) → value-lts.Need-returns-7 (value-calls t) (value-at t) value.Post
-value-returns-7 t c =
-    let t = table (c .before .before .before .before .before .before .before .before .before .before .before .args .types .now) (c .before .before .before .before .before .before .before .before .before .before .before .args .names .now) in
-    let s = c .before .before .before .before .before .before .before .before .before .before .before .args .s .now in
-    let row = c .before .before .before .before .before .before .before .before .before .before .before .args .row in
-    let place = c .before .before .before .before .before .before .before .before .before .before .before .args .place in
-    let top = c .before .before .before .before .before .before .before .before .before .before .before .args .top in
-    not-here t s (c .before .before .before .before .before .before .before .before .before .before .before .args .tape .now) (c .before .before .before .before .before .before .before .before .before .before .before .args .depth) row place top _ (c .other4 .ensures)
-
-pub +list+member+object+value-spec : {M : Type 1} → statement M
-+list+member+object+value-spec =
-    close μ-list μ-member μ-object μ-value
+pub +bracket+choice+list+member+object+picked+plain+sequence+value-spec : {M : Type 1} → statement M
++bracket+choice+list+member+object+picked+plain+sequence+value-spec =
+    close μ-bracket μ-choice μ-list μ-member μ-object μ-picked μ-plain μ-sequence μ-value
+    (λ t. bracket-lts.spec (bracket-calls t) (bracket-at t) bracket.Post
+    (bracket-other-requires t)
+    (bracket-returns t)
+    (bracket-add-if2 t)
+    (bracket-other-requires-2 t)
+    (bracket-returns-2 t)
+    (bracket-kind-of-requires t)
+    (bracket-sub-sequence t)
+    (bracket-sequence-requires t)
+    (bracket-sub-list t)
+    (bracket-list-requires t)
+    (bracket-sub-choice t)
+    (bracket-choice-requires t)
+    (bracket-other-requires-3 t)
+    (bracket-same-length t)
+    (bracket-returns-3 t)
+    (bracket-same-length-2 t)
+    (bracket-returns-4 t)
+    (bracket-same-length-3 t)
+    (bracket-returns-5 t)
+    (bracket-returns-6 t))
+    (λ t. choice-lts.spec (choice-calls t) (choice-at t) choice.Post
+    (choice-byte-at-requires t)
+    (choice-other-requires t)
+    (choice-returns t)
+    (choice-add-space t)
+    (choice-space-requires t)
+    (choice-name-at-requires t)
+    (choice-other-requires-2 t)
+    (choice-returns-2 t)
+    (choice-count-of-requires t)
+    (choice-other-requires-3 t)
+    (choice-returns-3 t)
+    (choice-space-requires-2 t)
+    (choice-type-at-requires t)
+    (choice-add-value t)
+    (choice-value-requires t)
+    (choice-other-requires-4 t)
+    (choice-same-length t)
+    (choice-returns-4 t)
+    (choice-space-requires-3 t)
+    (choice-byte-at-requires-2 t)
+    (choice-other-requires-5 t)
+    (choice-same-length-2 t)
+    (choice-returns-5 t)
+    (choice-add-head t)
+    (choice-head-requires t)
+    (choice-same-length-3 t)
+    (choice-returns-6 t))
     (λ t. list-lts.spec (list-calls t) (list-at t) list.Post
     list-Inv-loop
     list-μ-loop
@@ -923,27 +1360,51 @@ pub +list+member+object+value-spec : {M : Type 1} → statement M
     (object-add-m t)
     (object-loop-less t)
     (object-loop-again t))
+    (λ t. picked-lts.spec (picked-calls t) (picked-at t) picked.Post
+    (picked-add-if1 t)
+    (picked-other-requires t)
+    (picked-returns t)
+    (picked-token-at-requires t)
+    (picked-alternative-requires t)
+    (picked-enum-known-k t)
+    (picked-enum-told t)
+    (picked-other-requires-2 t)
+    (picked-returns-2 t)
+    (picked-type-at-requires t)
+    (picked-add-plain t)
+    (picked-plain-requires t)
+    (picked-other-requires-3 t)
+    (picked-same-length t)
+    (picked-returns-3 t)
+    (picked-head-requires t)
+    (picked-same-length-2 t)
+    (picked-returns-4 t))
+    (λ t. plain-lts.spec (plain-calls t) (plain-at t) plain.Post
+    (plain-kind-of-requires t)
+    (plain-note-requires t)
+    (plain-same-length t)
+    (plain-returns t)
+    (plain-bracket-requires t)
+    (plain-same-length-2 t)
+    (plain-returns-2 t))
+    (λ t. sequence-lts.spec (sequence-calls t) (sequence-at t) sequence.Post
+    (sequence-at-requires t)
+    (sequence-is-array-requires t)
+    (sequence-other-requires t)
+    (sequence-returns t)
+    (sequence-object-requires t)
+    (sequence-same-length t)
+    (sequence-returns-2 t))
     λ t. value-lts.spec (value-calls t) (value-at t) value.Post
     (value-kind-of-requires t)
     (value-note-requires t)
     (value-same-length t)
     (value-returns t)
-    (value-other-requires t)
-    (value-returns-2 t)
-    (value-add-if3 t)
-    (value-other-requires-2 t)
-    (value-returns-3 t)
-    (value-sub-list t)
-    (value-list-requires t)
-    (value-same-length-2 t)
-    (value-returns-4 t)
     (value-at-requires t)
-    (value-is-array-requires t)
-    (value-other-requires-3 t)
-    (value-returns-5 t)
-    (value-sub-object t)
-    (value-object-requires t)
+    (value-is-unwrapped-requires t)
+    (value-picked-requires t)
+    (value-same-length-2 t)
+    (value-returns-2 t)
+    (value-bracket-requires t)
     (value-same-length-3 t)
-    (value-returns-6 t)
-    (value-other-requires-4 t)
-    (value-returns-7 t)
+    (value-returns-3 t)
