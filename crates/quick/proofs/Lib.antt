@@ -10,4 +10,5 @@ pub mod PartedLaws
 pub mod ObjectingLaws
 pub mod StepLaws
 pub mod ChoiceLaws
+pub mod TextLaws
 pub mod ListingLaws

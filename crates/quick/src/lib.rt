@@ -5,6 +5,7 @@ pub mod member; // member.rt: members that are absent
 pub mod name; // name.rt: the name of a member
 pub mod note; // note.rt: words noted on the tape
 pub mod step; // step.rt: what a member of an object gives
+pub mod take; // take.rt: a whole text
 pub mod walk; // walk.rt: the walk over the text
 
 // What a value gives: the place after it, or 0 for what is not taken here; the tape's end; how many rows and pool bytes.
