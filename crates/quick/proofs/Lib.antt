@@ -11,4 +11,7 @@ pub mod ObjectingLaws
 pub mod StepLaws
 pub mod ChoiceLaws
 pub mod TextLaws
+pub mod EmitLaws
+pub mod StoreLaws
+pub mod PourLaws
 pub mod ListingLaws

@@ -1,3 +1,4 @@
 pub mod Stood
 pub mod Tape
 pub mod Taken
+pub mod Emit
