@@ -14,4 +14,5 @@ pub mod TextLaws
 pub mod EmitLaws
 pub mod StoreLaws
 pub mod PourLaws
+pub mod CallLaws
 pub mod ListingLaws

@@ -40,7 +40,7 @@ text-read t s p q b v l x k y h =
 pub text-taken : {t : Table} {s z₀ z : List ℕ} {p c : ℕ} {g : Got} → length s ≤ 65536 → Spaces s 0 p → Walked t s z₀ z 32 0 p 0 g → (g .next ≡ 0 → ⊥) → Spaces s (g .next) c → c ≡ length s → Whole t s z g
 text-taken {t} {s} {z₀} {z} {p} {c} {g} l x w nz y h =
     let k = w .taken (omega (arith, nz)) in
-    record { value = k .value; reads = text-read t s p (g .next) c (k .value) l x (k .stood) y h; stands = k .stands; inside = k .inside; rows = k .rows; pool = k .pool }
+    record { value = k .value; reads = text-read t s p (g .next) c (k .value) l x (k .stood) y h; stands = k .stands; inside = k .inside; rows = k .rows; pool = k .pool; words = omega (arith, k .words, k .inside); few = omega (arith, k .few, k .placed) }
 
 pub text-given : {t : Table} {s z f : List ℕ} {p : ℕ} → Sane t → length s ≤ 65536 → length z ≤ 1048576 → IsFlags f → p ≤ length s → Given t s z f 0 p 0
 text-given sane l m f a = record { sane = sane; typed = sane .whole; short = l; room = m; here = omega arith; start = omega arith; flags = f }

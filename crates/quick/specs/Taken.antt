@@ -84,6 +84,8 @@ pub record Whole (t : Table) (s z : List ℕ) (g : Got) : Type 0 where
   pub inside : g .tape ≤ length z
   pub rows : g .rows ≡ length (rowsOf value t 0 0)
   pub pool : g .pool ≡ length (poolOf value)
+  pub words : g .rows ≤ length z
+  pub few : g .pool ≤ length s
 
 -- ---- a member of an object
 

@@ -5,6 +5,7 @@ pub mod emit; // emit.rt: the walk over the tape
 pub mod member; // member.rt: members that are absent
 pub mod name; // name.rt: the name of a member
 pub mod note; // note.rt: words noted on the tape
+pub mod read; // read.rt: the call that reads
 pub mod step; // step.rt: what a member of an object gives
 pub mod store; // store.rt: stores into lent room
 pub mod take; // take.rt: a whole text
