@@ -8,3 +8,5 @@ pub mod FlagLaws
 pub mod CharLaws
 pub mod AnyNumber
 pub mod SkipLaws
+pub mod SameLaws
+pub mod NameLaws

@@ -2,3 +2,4 @@ pub mod Stretch
 pub mod Leaves
 pub mod Bytes
 pub mod Number
+pub mod Names
