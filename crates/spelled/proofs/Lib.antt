@@ -10,3 +10,5 @@ pub mod AnyNumber
 pub mod SkipLaws
 pub mod SameLaws
 pub mod NameLaws
+pub mod OctetLaws
+pub mod ReadLaws

@@ -3,3 +3,4 @@ pub mod Leaves
 pub mod Bytes
 pub mod Number
 pub mod Names
+pub mod Octets
