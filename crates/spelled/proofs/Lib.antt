@@ -12,3 +12,4 @@ pub mod SameLaws
 pub mod NameLaws
 pub mod OctetLaws
 pub mod ReadLaws
+pub mod PutLaws

@@ -22,10 +22,10 @@ all-next P s p k h e i l = go (leb k i) refl
     go false r = h i (leb-false k i r)
 
 module _ (s : List ℕ) (p n : ℕ) (l : p + n ≤ length s) where
-  part-length : length (take n (drop p s)) ≡ n
+  pub part-length : length (take n (drop p s)) ≡ n
   part-length = length-take-le n (drop p s) (omega (arith, length-drop p s))
 
-  part-at : (i : ℕ) → i < n → getD (take n (drop p s)) i 0 ≡ getD s (p + i) 0
+  pub part-at : (i : ℕ) → i < n → getD (take n (drop p s)) i 0 ≡ getD s (p + i) 0
   part-at i h = getD-take n (drop p s) i 0 h ∙ getD-drop p s i 0
 
 -- ---- hexadecimal

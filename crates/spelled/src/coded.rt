@@ -1,17 +1,15 @@
 // Octets of a string without escapes: how many they are.
-ghost use mathlib.Core.Path.{_≡_};
-ghost use mathlib.Core.Option.{some};
 ghost use Prim.Native.Nat.{_+_, _≤_, _<_};
 ghost use lib.ListN.{length, take, drop};
 ghost use Rattle.jer.specs.Octets.{hexValue, unhex, base64Value, unbase64};
-ghost use Rattle.spelled.specs.Octets.{Group, OctetsAre};
+ghost use Rattle.spelled.specs.Octets.{Digit, Group, OctetsAre};
 
 // The answer for what is not taken.
 const NONE: usize = 4294967295;
 
 // The value of a hexadecimal digit, 16 for any other character.
-fn nibble(b: u8) -> u8
-    ensures { λ r. ⌜ (r < 16 → hexValue b ≡ some r) ⌝ }
+pub fn nibble(b: u8) -> u8
+    ensures { λ r. ⌜ Digit hexValue 16 b r ⌝ }
 {
     match b {
         0x30..=0x39 => b - 0x30,
@@ -40,8 +38,8 @@ pub fn hex_count(s: &[u8], p: usize, n: usize) -> usize
 }
 
 // The value of a Base64 digit, 64 for any other character.
-fn digit(b: u8) -> u8
-    ensures { λ r. ⌜ (r < 64 → base64Value b ≡ some r) ⌝ }
+pub fn digit(b: u8) -> u8
+    ensures { λ r. ⌜ Digit base64Value 64 b r ⌝ }
 {
     match b {
         0x2B => 62,

@@ -7,6 +7,7 @@ pub mod integer; // integer.rt: INTEGER
 pub mod names; // names.rt: the member that has a name
 mod number; // number.rt: any number
 pub mod plain; // plain.rt: runs of characters that stand for themselves
+pub mod put; // put.rt: bytes and octets stored
 mod same; // same.rt: bytes compared
 pub mod skip; // skip.rt: past any value
 pub mod space; // space.rt: white space

@@ -1,4 +1,4 @@
--- Made by tools/answers.py from answers/coded/base64_count.ans: edit that. 9c9433cb361a7e93
+-- Made by tools/answers.py from answers/coded/base64_count.ans: edit that. efbc7c1f868923e2
 use Prim.Native.Nat.{ℕ, _+_, _-_, _<_}
 use lib.ListN.{getD}
 use native.Mathlib.Omega.{arith}
@@ -52,7 +52,7 @@ loop-again c =
     let s = c .before .before .before .before .before .before .before .before .args .s .now in
     let p = c .before .before .before .before .before .before .before .before .args .p in
     let l = c .before .before .before .before .loop in
-    all-next Base64Byte s p (l .k) (l .inv) (record { value = c .before .digit .result; is = c .before .digit .ensures (omega (arith, c .if3 .left)) })
+    all-next Base64Byte s p (l .k) (l .inv) (record { value = c .before .digit .result; is = c .before .digit .ensures .is (omega (arith, c .if3 .left)) })
 
 add-q : tie.Need-add-q Inv-loop μ-loop
 add-q c = search needs

@@ -1,4 +1,4 @@
--- Made by tools/answers.py from answers/coded/hex_count.ans: edit that. 051ef16dee8fc18c
+-- Made by tools/answers.py from answers/coded/hex_count.ans: edit that. 8a61a4ab63c6331e
 use Prim.Native.Nat.{ℕ, _+_, _-_, _<_}
 use lib.ListN.{getD}
 use native.Mathlib.Omega.{arith}
@@ -43,7 +43,7 @@ loop-again c =
     let s = c .before .before .before .before .before .before .before .args .s .now in
     let p = c .before .before .before .before .before .before .before .args .p in
     let l = c .before .before .before .before .loop in
-    all-next HexByte s p (l .k) (l .inv) (record { value = c .before .nibble .result; is = c .before .nibble .ensures (omega (arith, c .if2 .left)) })
+    all-next HexByte s p (l .k) (l .inv) (record { value = c .before .nibble .result; is = c .before .nibble .ensures .is (omega (arith, c .if2 .left)) })
 
 returns-3 : tie.Need-returns-3 Inv-loop μ-loop
 returns-3 c =
