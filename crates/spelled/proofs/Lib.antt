@@ -8,3 +8,8 @@ pub mod FlagLaws
 pub mod CharLaws
 pub mod AnyNumber
 pub mod SkipLaws
+pub mod SameLaws
+pub mod NameLaws
+pub mod OctetLaws
+pub mod ReadLaws
+pub mod PutLaws

@@ -5,15 +5,12 @@ use mathlib.Core.List.{List, [], _∷_, _++_}
 use mathlib.Core.Bool.{Bool, true, false}
 use native.Mathlib.Omega.{arith}
 use borrow.Author.Tests.{lt-ltb, le-leb}
-use lib.Dec.{eqb}
 use lib.ListN.{length, getD}
 use Rattle.json.specs.Bytes.{In}
-use Rattle.json.specs.Tree.{jint}
 use Rattle.json.specs.Grammar.{Onward, stop, onward, Whole, nought, from, Signed, bare, minus}
-use Rattle.jer.specs.Table.{Table, kindOf, isUnwrapped, INTEGER, CHOICE}
-use Rattle.jer.specs.Value.{Val, vInt}
-use Rattle.jer.specs.Answer.{Res, ok}
-use Rattle.jer.specs.Read.{read, readInt, unwrapping, atKind}
+use Rattle.jer.specs.Value.{vInt}
+use Rattle.jer.specs.Answer.{ok}
+use Rattle.jer.specs.Read.{readInt}
 use Rattle.tokens.specs.Places.{byteAt}
 use Rattle.tokens.proofs.PlaceLaws.{byte-inside}
 use Rattle.spelled.specs.Stretch.{Stretch, Passed, Within}
@@ -98,13 +95,3 @@ module _ (s : List ℕ) (p q n : ℕ) (l : n < 2 ^ 63) where
 
     pub integer-nought : n ≡ 0 → IntegerAt s p q 0 0
     integer-nought w = integer-minus 0 (sym (ap negative w))
-
--- ---- for whoever reads it at a type
-
-not-unwrapped : (t : Table) (r k : ℕ) → kindOf t r ≡ k → eqb k CHOICE ≡ false → isUnwrapped t r ≡ false
-unfolding isUnwrapped
-not-unwrapped t r k e f = rw (e, f)
-
-pub read-int : (t : Table) (r p n x : ℕ) (m : Bool) → kindOf t r ≡ INTEGER → readInt p m n ≡ ok (vInt x) → read (jint p m n) t r ≡ ok (vInt x)
-unfolding read unwrapping atKind
-read-int t r p n x m e h = rw (not-unwrapped t r INTEGER e refl, unwrapping) (rw (e, atKind) h)

@@ -3,6 +3,7 @@ use Prim.Native.Nat.{ℕ, _+_, _-_, _<_, _≤_}
 use mathlib.Core.Path.{_≡_, refl, sym, ap, _∙_}
 use mathlib.Core.List.{List, [], _∷_, _++_, append-assoc, append-nil}
 use mathlib.Core.Bool.{Bool, true, false}
+use native.Mathlib.Numerals.{add-one}
 use native.Mathlib.Omega.{arith}
 use lib.ListN.{length, getD, take, drop, length-append}
 use lib.Seq.{take-append-seam}
@@ -10,6 +11,8 @@ use Rattle.json.specs.Grammar.{Char, plain, wide, Chars, noChar, char, Quoted, 
 use Rattle.json.specs.Utf8.{Wide}
 use Rattle.json.specs.Bytes.{past}
 use Rattle.tokens.specs.Places.{byteAt}
+use Rattle.tokens.specs.Strings.{denoted}
+use Rattle.tokens.proofs.TieString.{quoted-read}
 use Rattle.tokens.proofs.PlaceLaws.{byte-inside}
 use Rattle.tokens.proofs.TiePlace.{past-append, past-length}
 use Rattle.spelled.specs.Stretch.{Stretch, Passed, Selves}
@@ -115,3 +118,9 @@ string-of s p q n e a k b =
       plain = λ h. let i = k .plain h in
           (sym (rw (k .stretch .text, i, k .size) (take-append-seam t (drop q s))), omega (arith, k .size, ap (length {A = ℕ}) i));
     }
+
+-- ---- for whoever reads it by places
+
+-- what the string denotes by places is what it denotes
+pub string-denotes : (s : List ℕ) (p q n : ℕ) (e : Bool) (k : StringAt s p q n e) → denoted s (p + 1) ≡ k .chars
+string-denotes s p q n e k = rw (add-one p) (quoted-read s p (drop q s) (k .passed .stretch .holds) (k .passed .stretch .text) .0)

@@ -20,13 +20,13 @@ here : (s : List ℕ) (p b : ℕ) → p < length s → getD s p 0 ≡ b → byte
 here s p b l e = sym (byte-inside s p l) ∙ e
 
 -- four bytes are told by their number
-record Told (a b c d i j k l : ℕ) : Type 0 where
-  first : a ≡ i
-  second : b ≡ j
-  third : c ≡ k
-  fourth : d ≡ l
+pub record Told (a b c d i j k l : ℕ) : Type 0 where
+  pub first : a ≡ i
+  pub second : b ≡ j
+  pub third : c ≡ k
+  pub fourth : d ≡ l
 
-told : (a b c d i j k l : ℕ) → (a < 256) × (b < 256) × (c < 256) × (d < 256) → (i < 256) × (j < 256) × (k < 256) × (l < 256) → fourOf a b c d ≡ fourOf i j k l → Told a b c d i j k l
+pub told : (a b c d i j k l : ℕ) → (a < 256) × (b < 256) × (c < 256) × (d < 256) → (i < 256) × (j < 256) × (k < 256) × (l < 256) → fourOf a b c d ≡ fourOf i j k l → Told a b c d i j k l
 told a b c d i j k l h g e = record { first = omega arith; second = omega arith; third = omega arith; fourth = omega arith }
 
 module _ (s : List ℕ) (p n : ℕ) (f : FourAt s p n) where
