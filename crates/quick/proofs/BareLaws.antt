@@ -5,19 +5,19 @@ use mathlib.Core.List.{List, []}
 use mathlib.Core.Bool.{Bool, true, false, _&&_}
 use native.Mathlib.Nat.{mod-eq-of-lt}
 use native.Mathlib.Omega.{arith}
-use lib.Dec.{eqb}
 use lib.ListN.{length, take, drop}
-use Rattle.json.specs.Bytes.{on, pick}
 use Rattle.json.specs.Tree.{Json, jnull, jbool, jint, jstr}
 use Rattle.json.specs.Grammar as grammar
 use Rattle.json.specs.Grammar.{Value, Quoted}
-use Rattle.jer.specs.Table.{Table, kindOf, isUnwrapped, BOOLEAN, INTEGER, NULL, UTF8String, CHOICE}
-use Rattle.jer.specs.Value.{Leaf, lBool, lInt, lNull, lBytes, Val, vLeaf, vInt}
+use Rattle.jer.specs.Table.{Table, kindOf, countOf, BOOLEAN, INTEGER, ENUMERATED, NULL, UTF8String}
+use Rattle.jer.specs.Value.{Leaf, lBool, lInt, lEnum, lNull, lBytes, Val, vLeaf, vInt}
 use Rattle.jer.specs.Answer.{Res, ok}
-use Rattle.jer.specs.Read.{read, readInt, readString, unwrapping, atKind}
+use Rattle.jer.specs.Read.{read}
 use Rattle.jer.specs.Rows.{bit, leafPool}
 use Rattle.spelled.specs.Stretch.{Stretch, Passed}
 use Rattle.spelled.specs.Leaves.{IntegerAt, StringAt}
+use Rattle.spelled.specs.Names.{PositionIs}
+use Rattle.spelled.proofs.ReadLaws.{read-null, read-bool, read-int, read-item, read-utf8}
 use Rattle.quick.specs.declared.bare.Words as declared-leaf
 use Rattle.quick.specs.Stood.{Stood}
 use Rattle.quick.specs.Tape.{Text, Words, inRow, inText}
@@ -26,26 +26,6 @@ use Rattle.quick.specs.Taken.{LeafTaken}
 -- the four numbers of an answer
 abbrev pub Answers : ℕ → ℕ → ℕ → ℕ → declared-leaf.Words → Type 0
 Answers next a b pool g = (g .next ≡ next) × (g .a ≡ a) × (g .b ≡ b) × (g .pool ≡ pool)
-
-not-unwrapped : (t : Table) (r k : ℕ) → kindOf t r ≡ k → eqb k CHOICE ≡ false → isUnwrapped t r ≡ false
-unfolding isUnwrapped
-not-unwrapped t r k e f = rw (e, f)
-
-read-null : (t : Table) (r p : ℕ) → kindOf t r ≡ NULL → read (jnull p) t r ≡ ok (vLeaf lNull)
-unfolding read unwrapping atKind
-read-null t r p e = rw (not-unwrapped t r NULL e refl, unwrapping) (rw (e, atKind))
-
-read-bool : (t : Table) (r p : ℕ) (b : Bool) → kindOf t r ≡ BOOLEAN → read (jbool p b) t r ≡ ok (vLeaf (lBool b))
-unfolding read unwrapping atKind
-read-bool t r p b e = rw (not-unwrapped t r BOOLEAN e refl, unwrapping) (rw (e, atKind))
-
-read-int : (t : Table) (r p n x : ℕ) (m : Bool) → kindOf t r ≡ INTEGER → readInt p m n ≡ ok (vInt x) → read (jint p m n) t r ≡ ok (vInt x)
-unfolding read unwrapping atKind
-read-int t r p n x m e h = rw (not-unwrapped t r INTEGER e refl, unwrapping) (rw (e, atKind) h)
-
-read-text : (t : Table) (r p : ℕ) (x : List ℕ) → kindOf t r ≡ UTF8String → read (jstr p x) t r ≡ ok (vLeaf (lBytes x))
-unfolding read unwrapping readString pick
-read-text t r p x e = rw (not-unwrapped t r UTF8String e refl, unwrapping) (rw e)
 
 -- ---- the kinds that the row holds
 
@@ -89,7 +69,7 @@ text-leaf t s r p n a b c e′ g e k ea eb pl w =
     let y = k .passed .stretch in
     record {
       leaf = lBytes (k .chars);
-      stood = λ d. rw (w .0) (record { tree = jstr p (k .chars); here = record { bytes = y .bytes; holds = grammar.string (y .holds); text = y .text; end = y .end }; reads = read-text t r p (k .chars) e });
+      stood = λ d. rw (w .0) (record { tree = jstr p (k .chars); here = record { bytes = y .bytes; holds = grammar.string (y .holds); text = y .text; end = y .end }; reads = read-utf8 t r p (k .chars) e });
       words = rw (w .1, w .2, ea) (inText e (record { end = n; quoted = y; size = eb ∙ k .size; plain = λ h. let q = pl h in k .plain (q .0) .0 ∙ ap (λ (m : ℕ). take m (drop (p + 1) s)) (sym (q .1)) }));
       pool = w .3 ∙ k .size;
       ahead = omega (arith, w .0, k .passed .ahead);
@@ -102,6 +82,15 @@ plain-leaf {t} {s} {r} {p} {n} {a} {b} {c} {e′} {g} e k ea eb l f w = text-lea
 
 pub escaped-leaf : {t : Table} {s : List ℕ} {r p n a b c : ℕ} {e′ : Bool} {g : declared-leaf.Words} → kindOf t r ≡ UTF8String → StringAt s p n c e′ → a ≡ p → b ≡ c + 2147483648 → c ≤ 65536 → Answers n a b c g → LeafTaken t s r p g
 escaped-leaf {t} {s} {r} {p} {n} {a} {b} {c} {e′} {g} e k ea eb l w = text-leaf t s r p n a b c e′ g e k ea (rw eb (omega arith)) (λ h. absurd (omega arith)) w
+
+-- ---- an item
+
+pub item-leaf : {t : Table} {s : List ℕ} {r p n k c : ℕ} {e′ : Bool} {g : declared-leaf.Words} → kindOf t r ≡ ENUMERATED → (w : StringAt s p n c e′) → PositionIs t r (w .chars) k → k < countOf t r → Answers n k 0 0 g → LeafTaken t s r p g
+item-leaf {t} {s} {r} {p} {n} {k} {c} {e′} {g} e w q l a =
+    let y = w .passed .stretch in
+    in-row t s r p (lEnum k) g n k 0 a
+    (λ d. record { tree = jstr p (w .chars); here = record { bytes = y .bytes; holds = grammar.string (y .holds); text = y .text; end = y .end }; reads = read-item t r p (w .chars) k e (q .known l) })
+    (inRow {l = lEnum k} {a = k} {b = 0} (omega arith) refl (λ o. refl)) refl (w .passed .ahead) (w .passed .inside)
 
 -- ---- the two booleans
 

@@ -5,13 +5,14 @@ use mathlib.Core.List.{List, [], _∷_, _++_, append-assoc}
 use mathlib.Core.Option.{Option, none, some}
 use native.Mathlib.Numerals.{add-one}
 use native.Mathlib.Omega.{arith}
-use lib.ListN.{length, getD, drop}
+use lib.ListN.{length, take, drop}
 use lib.Seq.{drop-cons}
 use Rattle.json.specs.Bytes.{past}
-use mathlib.Core.Bool.{Bool}
+use mathlib.Core.Bool.{Bool, true, false}
 use Rattle.spelled.specs.Stretch.{Stretch, Passed}
 use Rattle.spelled.specs.Leaves.{StringAt}
-use Rattle.jer.specs.Table.{Table, position, countOf}
+use Rattle.spelled.specs.Names.{Distinct, PositionIs, FoundAmong}
+use Rattle.jer.specs.Table.{Table, position, firstOf, countOf}
 use Rattle.tokens.specs.Places.{byteAt}
 use Rattle.tokens.specs.Strings.{denoted}
 use Rattle.tokens.proofs.PlaceLaws.{byte-inside, inside}
@@ -53,17 +54,27 @@ unfolding foundOf
 found-none none e = refl
 found-none (some i) e = cc
 
--- the string that the name denotes by its place is the name
-name-denoted : (s : List ℕ) (o q : ℕ) (x : List ℕ) → NameAt s o q x → denoted s (o + 1) ≡ x
-name-denoted s o q x n = rw (add-one o) (quoted-read s o (n .gap ++ (0x3A ∷ drop q s)) (n .quoted) (n .text) .0)
+-- the name's position, as it is found
+pub name-taken : {t : Table} {s : List ℕ} {r o : ℕ} {g : declared-name.Name} {q c n : ℕ} {e : Bool} (k : StringAt s o q n e) → Spaces s q c → byteAt s c ≡ 0x3A → g .next ≡ c + 1 → q ≤ c → c < length s → PositionIs t r (k .chars) (g .position)
+    → NameTaken t s r o g
+name-taken {t} {s} {r} {o} {g} k y cb en l m p =
+    record { name = k .chars; stood = rw en (name-here k y cb); known = p .known; unknown = p .unknown; ahead = omega (arith, k .passed .ahead); placed = omega arith }
 
-module _ (t : Table) (s : List ℕ) (r o : ℕ) (g : declared-name.Name) (x : List ℕ) (n : NameAt s o (g .next) x) (a : o < g .next) (l : g .next ≤ length s) where
-  pub name-known : (k : ℕ) → At k ≡ foundOf (position t r (denoted s (o + 1))) → g .position ≡ k → NameTaken t s r o g
-  name-known k h e =
-      let f : position t r x ≡ some k = ap (λ (y : List ℕ). position t r y) (sym (name-denoted s o (g .next) x n)) ∙ found-some _ h in
-      let i = position-found t r x k f .1 in
-      record { name = x; stood = n; known = λ _. rw e f; unknown = λ u. absurd (omega arith); ahead = a; placed = l }
+pub plain-position : {t : Table} {s : List ℕ} {r o n first count k : ℕ} {e : Bool} → e ≡ false → first ≡ firstOf t r → count ≡ countOf t r → Distinct t r → FoundAmong t first count (take n (drop (o + 1) s)) k → (q : ℕ) (w : StringAt s o q n e) → PositionIs t r (w .chars) k
+plain-position {t} {r = r} {k = k} u e f d h q w = ap′ (sym (w .plain u .0)) (h r e f d)
+  where
+    ap′ : {x y : List ℕ} → x ≡ y → PositionIs t r x k → PositionIs t r y k
+    ap′ u v = rw (← u) v
 
-  pub name-unknown : Nothing ≡ foundOf (position t r (denoted s (o + 1))) → g .position ≡ countOf t r → NameTaken t s r o g
-  name-unknown h e =
-      record { name = x; stood = n; known = λ u. absurd (omega arith); unknown = λ _. ap (λ (y : List ℕ). position t r y) (sym (name-denoted s o (g .next) x n)) ∙ found-none _ h; ahead = a; placed = l }
+string-denoted : (s : List ℕ) (o q n : ℕ) (e : Bool) (w : StringAt s o q n e) → denoted s (o + 1) ≡ w .chars
+string-denoted s o q n e w = rw (add-one o) (quoted-read s o (drop q s) (w .passed .stretch .holds) (w .passed .stretch .text) .0)
+
+pub known-position : {t : Table} {s : List ℕ} {r o n k : ℕ} {e : Bool} → At k ≡ foundOf (position t r (denoted s (o + 1))) → (q : ℕ) (w : StringAt s o q n e) → PositionIs t r (w .chars) k
+known-position {t} {s} {r} {o} {n} {k} {e} h q w =
+    let f : position t r (w .chars) ≡ some k = ap (λ (y : List ℕ). position t r y) (sym (string-denoted s o q n e w)) ∙ found-some _ h in
+    let i = position-found t r (w .chars) k f .1 in
+    record { known = λ _. f; unknown = λ u. absurd (omega arith) }
+
+pub unknown-position : {t : Table} {s : List ℕ} {r o n k : ℕ} {e : Bool} → k ≡ countOf t r → Nothing ≡ foundOf (position t r (denoted s (o + 1))) → (q : ℕ) (w : StringAt s o q n e) → PositionIs t r (w .chars) k
+unknown-position {t} {s} {r} {o} {n} {k} {e} c h q w =
+    record { known = λ u. absurd (omega arith); unknown = λ _. ap (λ (y : List ℕ). position t r y) (sym (string-denoted s o q n e w)) ∙ found-none _ h }

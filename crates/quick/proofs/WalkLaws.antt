@@ -20,6 +20,7 @@ use Rattle.places.specs.ByPlaces.{bitOf}
 use Rattle.quick.specs.declared.Got.{Got}
 use Rattle.quick.specs.declared.bare.Words as declared-leaf
 use Rattle.spelled.specs.Stretch.{Stretch, Within}
+use Rattle.spelled.specs.Names.{Distinct}
 use Rattle.quick.specs.Stood.{Spaces, Stood}
 use Rattle.quick.specs.Tape.{headed, Alike, Words, Header, Stands, aLeaf}
 use Rattle.quick.specs.Taken.{Headed, Shut, Given, LeafTaken, Taken, Walked}
@@ -205,3 +206,7 @@ walked-if f k = record { kept = f; taken = λ h. k h .taken h }
 -- another type further on, on the same tape
 pub given-at : {t : Table} {s z f : List ℕ} {r p j e m at end : ℕ} → Given t s z f r p j → isType t e ≡ true → m ≡ e → at ≤ length s → end ≤ length z → Given t s z f m at end
 given-at g ty em a b = given-part g refl (rw em ty) a b
+
+-- its members' names differ
+pub given-distinct : {t : Table} {s z f : List ℕ} {r p j : ℕ} → Given t s z f r p j → Distinct t r
+given-distinct {r = r} g i j l m = g .sane .differ r i j (g .typed) l m

@@ -1,4 +1,5 @@
 // A value without parts, at a place of the text.
+use crate::name::position_of;
 use spelled::integer::integer;
 use spelled::string::string;
 use spelled::word::literal_false;
@@ -6,13 +7,15 @@ use spelled::word::literal_null;
 use spelled::word::literal_true;
 use tokens::cursor::byte_at;
 use types::row::Row;
+use types::row::count_of;
 use types::row::kind_of;
 ghost use mathlib.Core.Path.{_≡_};
 ghost use mathlib.Core.List.{List};
 ghost use Prim.Native.Nat.{ℕ, _≤_, _<_};
 ghost use lib.ListN.{length};
-ghost use Rattle.jer.specs.Table.{Table, kindOf, BOOLEAN, INTEGER, NULL, UTF8String, table};
+ghost use Rattle.jer.specs.Table.{Table, kindOf, BOOLEAN, INTEGER, ENUMERATED, NULL, UTF8String, table};
 ghost use Rattle.spelled.specs.Leaves.{IsFlags};
+ghost use Rattle.spelled.specs.Names.{Distinct};
 ghost use Rattle.quick.specs.Taken.{LeafTaken};
 
 // The place after it, or 0; the two words of it; how many pool bytes.
@@ -29,13 +32,14 @@ fn taken(next: usize, a: u32, b: u32, pool: usize) -> Words
     Words { next, a, b, pool }
 }
 
-pub fn leaf(types: &[u32], names: &[u8], s: &[u8], flags: &[u8; 256], row: usize, place: usize) -> Words
-    requires { ⌜ (length (now s) ≤ 65536) × (place ≤ 65536) × IsFlags (now flags) ⌝ }
+pub fn leaf(types: &[u32], names: &[u8], s: &[u8], flags: &[u8; 256], memo: &mut [u8; 1024], row: usize, place: usize) -> Words
+    requires { ⌜ (length (now s) ≤ 65536) × (place ≤ 65536) × IsFlags (now flags) × Distinct (table (now types) (now names)) row ⌝ }
     ensures { λ r. ⌜ (0 < r .next → LeafTaken (table (now (types .entry)) (now (names .entry))) (now (s .entry)) row place r) ⌝ }
 {
     match kind_of(types, row) {
         Row::BOOLEAN => boolean(s, place),
         Row::INTEGER => number(s, place),
+        Row::ENUMERATED => item(types, names, s, flags, memo, row, place),
         Row::NULL => taken(literal_null(s, place), 0, 0, 0),
         Row::UTF8_STRING => text(s, flags, place),
         _ => taken(0, 0, 0, 0),
@@ -75,4 +79,20 @@ fn text(s: &[u8], flags: &[u8; 256], place: usize) -> Words
         return taken(w.next, place as u32, n + ESCAPED, w.count);
     }
     taken(w.next, place as u32, n, w.count)
+}
+
+// An ENUMERATED: the item's position.
+fn item(types: &[u32], names: &[u8], s: &[u8], flags: &[u8; 256], memo: &mut [u8; 1024], row: usize, place: usize) -> Words
+    requires { ⌜ (length (now s) ≤ 65536) × (place ≤ 65536) × IsFlags (now flags) × Distinct (table (now types) (now names)) row ⌝ }
+    ensures { λ r. ⌜ (0 < r .next → kindOf (table (now (types .entry)) (now (names .entry))) row ≡ ENUMERATED → LeafTaken (table (now (types .entry)) (now (names .entry))) (now (s .entry)) row place r) ⌝ }
+{
+    let w = string(s, place, flags);
+    if w.next == 0 {
+        return taken(0, 0, 0, 0);
+    }
+    let k = position_of(types, names, s, memo, row, 0, place, w.count, w.escaped);
+    if count_of(types, row) <= k {
+        return taken(0, 0, 0, 0);
+    }
+    taken(w.next, k, 0, 0)
 }

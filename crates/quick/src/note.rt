@@ -21,14 +21,14 @@ pub fn other() -> Got
 }
 
 // A value without parts: its two words from `top` on.
-pub fn note(types: &[u32], names: &[u8], s: &[u8], tape: &mut [u32], flags: &[u8; 256], row: usize, place: usize, top: usize) -> Got
+pub fn note(types: &[u32], names: &[u8], s: &[u8], tape: &mut [u32], flags: &[u8; 256], memo: &mut [u8; 1024], row: usize, place: usize, top: usize) -> Got
     requires { ⌜ Given (table (now types) (now names)) (now s) (now tape) (now flags) row place top ⌝ }
     ensures { λ r. ⌜ ((d : ℕ) → Walked (table (now (types .entry)) (now (names .entry))) (now (s .entry)) (now (tape .entry)) (now (tape .exit)) d row place top r) ⌝ }
 {
     if tape.len() < top + 2 {
         return other();
     }
-    let w = leaf(types, names, s, flags, row, place);
+    let w = leaf(types, names, s, flags, memo, row, place);
     if w.next == 0 {
         return other();
     }

@@ -78,7 +78,8 @@ fn over(types: &[u32], names: &[u8], s: &[u8], tape: &mut [u32], rows: &mut [u32
     ensures { λ r. ⌜ Replied (table (now (types .entry)) (now (names .entry))) (now (s .entry)) (now (rows .entry)) (now (pool .entry)) r (now (rows .exit)) (now (pool .exit)) ⌝ }
 {
     let flags = plain::table();
-    let g = take(types, names, s, tape, &flags);
+    let mut memo = [0u8; 1024];
+    let g = take(types, names, s, tape, &flags, &mut memo);
     if g.next == 0 {
         return Reply::Other;
     }

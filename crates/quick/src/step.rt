@@ -1,7 +1,7 @@
 // What a member of an object gives.
 ghost use mathlib.Core.Path.{_≡_};
 
-// The place after it, or 0; the tape's end; its rows and pool bytes; and the members met, and those present, with it.
+// The place after it, or 0; the tape's end; its rows and pool bytes; the members met, and those present, with it; and the position that is due next.
 pub struct Step {
     pub next: usize,
     pub tape: usize,
@@ -9,6 +9,7 @@ pub struct Step {
     pub pool: usize,
     pub met: u64,
     pub present: u64,
+    pub due: u32,
 }
 
 // What is not taken.
@@ -22,10 +23,11 @@ pub fn no_step() -> Step
         pool: 0,
         met: 0,
         present: 0,
+        due: 0,
     }
 }
 
-pub fn gave(next: usize, tape: usize, rows: usize, pool: usize, met: u64, present: u64) -> Step
+pub fn gave(next: usize, tape: usize, rows: usize, pool: usize, met: u64, present: u64, due: u32) -> Step
     ensures { λ r. ⌜ (r .next ≡ next) × (r .tape ≡ tape) × (r .rows ≡ rows) × (r .pool ≡ pool) × (r .met ≡ met) × (r .present ≡ present) ⌝ }
 {
     Step {
@@ -35,5 +37,6 @@ pub fn gave(next: usize, tape: usize, rows: usize, pool: usize, met: u64, presen
         pool,
         met,
         present,
+        due,
     }
 }

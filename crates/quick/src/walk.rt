@@ -34,21 +34,21 @@ ghost use Rattle.quick.specs.Tape.{Alike};
 ghost use Rattle.quick.specs.Taken.{Given, Walked, Stepped};
 
 // The value of the type at `row` from the place on, noted on the tape from `top` on.
-pub fn value(types: &[u32], names: &[u8], s: &[u8], tape: &mut [u32], flags: &[u8; 256], row: usize, place: usize, top: usize, depth: u32) -> Got
+pub fn value(types: &[u32], names: &[u8], s: &[u8], tape: &mut [u32], flags: &[u8; 256], memo: &mut [u8; 1024], row: usize, place: usize, top: usize, depth: u32) -> Got
     requires { ⌜ Given (table (now types) (now names)) (now s) (now tape) (now flags) row place top ⌝ }
     ensures { λ r. ⌜ Walked (table (now (types .entry)) (now (names .entry))) (now (s .entry)) (now (tape .entry)) (now (tape .exit)) depth row place top r ⌝ }
 {
     if kind_of(types, row) < Row::SEQUENCE {
-        return note(types, names, s, tape, flags, row, place, top);
+        return note(types, names, s, tape, flags, memo, row, place, top);
     }
     if Row::at(types, row).is_unwrapped() {
-        return picked(types, names, s, tape, flags, row, place, top, depth);
+        return picked(types, names, s, tape, flags, memo, row, place, top, depth);
     }
-    bracket(types, names, s, tape, flags, row, place, top, depth)
+    bracket(types, names, s, tape, flags, memo, row, place, top, depth)
 }
 
 // UNWRAPPED: the token picks the alternative.
-fn picked(types: &[u32], names: &[u8], s: &[u8], tape: &mut [u32], flags: &[u8; 256], row: usize, place: usize, top: usize, depth: u32) -> Got
+fn picked(types: &[u32], names: &[u8], s: &[u8], tape: &mut [u32], flags: &[u8; 256], memo: &mut [u8; 1024], row: usize, place: usize, top: usize, depth: u32) -> Got
     requires { ⌜ Given (table (now types) (now names)) (now s) (now tape) (now flags) row place top ⌝ }
     requires { ⌜ isUnwrapped (table (now types) (now names)) row ≡ true ⌝ }
     ensures { λ r. ⌜ Walked (table (now (types .entry)) (now (names .entry))) (now (s .entry)) (now (tape .entry)) (now (tape .exit)) depth row place top r ⌝ }
@@ -59,7 +59,7 @@ fn picked(types: &[u32], names: &[u8], s: &[u8], tape: &mut [u32], flags: &[u8; 
     let Found::At(k) = alternative(types, row, token_at(s, place)) else {
         return other();
     };
-    let g = plain(types, names, s, tape, flags, type_at(types, row, k), place, top + 3, depth);
+    let g = plain(types, names, s, tape, flags, memo, type_at(types, row, k), place, top + 3, depth);
     if g.next == 0 {
         return other();
     }
@@ -67,19 +67,19 @@ fn picked(types: &[u32], names: &[u8], s: &[u8], tape: &mut [u32], flags: &[u8; 
 }
 
 // A value of a type that is not UNWRAPPED.
-fn plain(types: &[u32], names: &[u8], s: &[u8], tape: &mut [u32], flags: &[u8; 256], row: usize, place: usize, top: usize, depth: u32) -> Got
+fn plain(types: &[u32], names: &[u8], s: &[u8], tape: &mut [u32], flags: &[u8; 256], memo: &mut [u8; 1024], row: usize, place: usize, top: usize, depth: u32) -> Got
     requires { ⌜ Given (table (now types) (now names)) (now s) (now tape) (now flags) row place top ⌝ }
     requires { ⌜ isUnwrapped (table (now types) (now names)) row ≡ false ⌝ }
     ensures { λ r. ⌜ Walked (table (now (types .entry)) (now (names .entry))) (now (s .entry)) (now (tape .entry)) (now (tape .exit)) depth row place top r ⌝ }
 {
     if kind_of(types, row) < Row::SEQUENCE {
-        return note(types, names, s, tape, flags, row, place, top);
+        return note(types, names, s, tape, flags, memo, row, place, top);
     }
-    bracket(types, names, s, tape, flags, row, place, top, depth)
+    bracket(types, names, s, tape, flags, memo, row, place, top, depth)
 }
 
 // A bracket, by its type.
-fn bracket(types: &[u32], names: &[u8], s: &[u8], tape: &mut [u32], flags: &[u8; 256], row: usize, place: usize, top: usize, depth: u32) -> Got
+fn bracket(types: &[u32], names: &[u8], s: &[u8], tape: &mut [u32], flags: &[u8; 256], memo: &mut [u8; 1024], row: usize, place: usize, top: usize, depth: u32) -> Got
     requires { ⌜ Given (table (now types) (now names)) (now s) (now tape) (now flags) row place top ⌝ }
     requires { ⌜ isUnwrapped (table (now types) (now names)) row ≡ false ⌝ }
     ensures { λ r. ⌜ Walked (table (now (types .entry)) (now (names .entry))) (now (s .entry)) (now (tape .entry)) (now (tape .exit)) depth row place top r ⌝ }
@@ -91,15 +91,15 @@ fn bracket(types: &[u32], names: &[u8], s: &[u8], tape: &mut [u32], flags: &[u8;
         return other();
     }
     match kind_of(types, row) {
-        Row::SEQUENCE => sequence(types, names, s, tape, flags, row, place, top, depth - 1),
-        Row::SEQUENCE_OF => list(types, names, s, tape, flags, row, place, top, depth - 1),
-        Row::CHOICE => choice(types, names, s, tape, flags, row, place, top, depth - 1),
+        Row::SEQUENCE => sequence(types, names, s, tape, flags, memo, row, place, top, depth - 1),
+        Row::SEQUENCE_OF => list(types, names, s, tape, flags, memo, row, place, top, depth - 1),
+        Row::CHOICE => choice(types, names, s, tape, flags, memo, row, place, top, depth - 1),
         _ => other(),
     }
 }
 
 // SEQUENCE OF; `depth` brackets may be open in an item.
-fn list(types: &[u32], names: &[u8], s: &[u8], tape: &mut [u32], flags: &[u8; 256], row: usize, place: usize, top: usize, depth: u32) -> Got
+fn list(types: &[u32], names: &[u8], s: &[u8], tape: &mut [u32], flags: &[u8; 256], memo: &mut [u8; 1024], row: usize, place: usize, top: usize, depth: u32) -> Got
     requires { ⌜ Given (table (now types) (now names)) (now s) (now tape) (now flags) row place top ⌝ }
     requires { ⌜ (top + 3 ≤ length (now tape)) × (kindOf (table (now types) (now names)) row ≡ SEQUENCE-OF) ⌝ }
     ensures { λ r. ⌜ Walked (table (now (types .entry)) (now (names .entry))) (now (s .entry)) (now (tape .entry)) (now (tape .exit)) (depth + 1) row place top r ⌝ }
@@ -120,7 +120,7 @@ fn list(types: &[u32], names: &[u8], s: &[u8], tape: &mut [u32], flags: &[u8; 25
         if s.len() < at {
             return other();
         }
-        let g = value(types, names, s, tape, flags, element, at, end, depth);
+        let g = value(types, names, s, tape, flags, memo, element, at, end, depth);
         if g.next == 0 {
             return other();
         }
@@ -141,7 +141,7 @@ fn list(types: &[u32], names: &[u8], s: &[u8], tape: &mut [u32], flags: &[u8; 25
 }
 
 // SEQUENCE; `depth` brackets may be open in a member.
-fn sequence(types: &[u32], names: &[u8], s: &[u8], tape: &mut [u32], flags: &[u8; 256], row: usize, place: usize, top: usize, depth: u32) -> Got
+fn sequence(types: &[u32], names: &[u8], s: &[u8], tape: &mut [u32], flags: &[u8; 256], memo: &mut [u8; 1024], row: usize, place: usize, top: usize, depth: u32) -> Got
     requires { ⌜ Given (table (now types) (now names)) (now s) (now tape) (now flags) row place top ⌝ }
     requires { ⌜ kindOf (table (now types) (now names)) row ≡ SEQUENCE ⌝ }
     ensures { λ r. ⌜ Walked (table (now (types .entry)) (now (names .entry))) (now (s .entry)) (now (tape .entry)) (now (tape .exit)) (depth + 1) row place top r ⌝ }
@@ -149,11 +149,11 @@ fn sequence(types: &[u32], names: &[u8], s: &[u8], tape: &mut [u32], flags: &[u8
     if Row::at(types, row).is_array() {
         return other();
     }
-    object(types, names, s, tape, flags, row, place, top, depth)
+    object(types, names, s, tape, flags, memo, row, place, top, depth)
 }
 
 // SEQUENCE as an object; `depth` brackets may be open in a member.
-fn object(types: &[u32], names: &[u8], s: &[u8], tape: &mut [u32], flags: &[u8; 256], row: usize, place: usize, top: usize, depth: u32) -> Got
+fn object(types: &[u32], names: &[u8], s: &[u8], tape: &mut [u32], flags: &[u8; 256], memo: &mut [u8; 1024], row: usize, place: usize, top: usize, depth: u32) -> Got
     requires { ⌜ Given (table (now types) (now names)) (now s) (now tape) (now flags) row place top ⌝ }
     requires { ⌜ (kindOf (table (now types) (now names)) row ≡ SEQUENCE) × (isArray (table (now types) (now names)) row ≡ false) ⌝ }
     ensures { λ r. ⌜ Walked (table (now (types .entry)) (now (names .entry))) (now (s .entry)) (now (tape .entry)) (now (tape .exit)) (depth + 1) row place top r ⌝ }
@@ -173,10 +173,11 @@ fn object(types: &[u32], names: &[u8], s: &[u8], tape: &mut [u32], flags: &[u8; 
     }
     let mut met: u64 = 0;
     let mut present: u64 = 0;
+    let mut due: u32 = 0;
     let mut n: usize = 0;
     let mut m: usize = 0;
     loop {
-        let g = member(types, names, s, tape, flags, row, at, top, end, met, present, depth);
+        let g = member(types, names, s, tape, flags, memo, row, at, top, end, met, present, due, depth);
         if g.next == 0 {
             return other();
         }
@@ -192,19 +193,20 @@ fn object(types: &[u32], names: &[u8], s: &[u8], tape: &mut [u32], flags: &[u8; 
         end = g.tape;
         met = g.met;
         present = g.present;
+        due = g.due;
         n += g.rows;
         m += g.pool;
     }
 }
 
 // The member whose name stands at the place, of the object whose header is at `top`: its value is noted from `end` on, and linked.
-fn member(types: &[u32], names: &[u8], s: &[u8], tape: &mut [u32], flags: &[u8; 256], row: usize, place: usize, top: usize, end: usize, met: u64, present: u64, depth: u32) -> Step
+fn member(types: &[u32], names: &[u8], s: &[u8], tape: &mut [u32], flags: &[u8; 256], memo: &mut [u8; 1024], row: usize, place: usize, top: usize, end: usize, met: u64, present: u64, due: u32, depth: u32) -> Step
     requires { ⌜ Given (table (now types) (now names)) (now s) (now tape) (now flags) row place end ⌝ }
     requires { ⌜ (top + 3 + countOf (table (now types) (now names)) row ≤ end) × (end ≤ length (now tape)) ⌝ }
     ensures { λ r. ⌜ Alike (now (tape .entry)) (now (tape .exit)) 0 (top + 3) ⌝ }
     ensures { λ r. ⌜ (0 < r .next → Stepped (table (now (types .entry)) (now (names .entry))) (now (s .entry)) (now (tape .entry)) (now (tape .exit)) depth row place top end met present r) ⌝ }
 {
-    let name = name_at(types, names, s, flags, row, place);
+    let name = name_at(types, names, s, flags, memo, row, due, place);
     if name.next == 0 {
         return no_step();
     }
@@ -214,24 +216,24 @@ fn member(types: &[u32], names: &[u8], s: &[u8], tape: &mut [u32], flags: &[u8; 
         if !Row::at(types, row).extensible() {
             return no_step();
         }
-        return gave(skip(s, at, flags, depth), end, 0, 0, met, present);
+        return gave(skip(s, at, flags, depth), end, 0, 0, met, present, due);
     }
     if bit(met, k) {
         return no_step();
     }
     if absent_at(types, s, row, k, at) {
-        return gave(literal_null(s, at), end, 0, 0, with(met, k), present);
+        return gave(literal_null(s, at), end, 0, 0, with(met, k), present, k + 1);
     }
-    let g = value(types, names, s, tape, flags, type_at(types, row, k), at, end, depth);
+    let g = value(types, names, s, tape, flags, memo, type_at(types, row, k), at, end, depth);
     if g.next == 0 {
         return no_step();
     }
     tape[top + 3 + wide(k)] = end as u32;
-    gave(g.next, g.tape, g.rows, g.pool, with(met, k), with(present, k))
+    gave(g.next, g.tape, g.rows, g.pool, with(met, k), with(present, k), k + 1)
 }
 
 // CHOICE as an object of one member; `depth` brackets may be open in its value.
-fn choice(types: &[u32], names: &[u8], s: &[u8], tape: &mut [u32], flags: &[u8; 256], row: usize, place: usize, top: usize, depth: u32) -> Got
+fn choice(types: &[u32], names: &[u8], s: &[u8], tape: &mut [u32], flags: &[u8; 256], memo: &mut [u8; 1024], row: usize, place: usize, top: usize, depth: u32) -> Got
     requires { ⌜ Given (table (now types) (now names)) (now s) (now tape) (now flags) row place top ⌝ }
     requires { ⌜ (top + 3 ≤ length (now tape)) × (kindOf (table (now types) (now names)) row ≡ CHOICE) × (isUnwrapped (table (now types) (now names)) row ≡ false) ⌝ }
     ensures { λ r. ⌜ Walked (table (now (types .entry)) (now (names .entry))) (now (s .entry)) (now (tape .entry)) (now (tape .exit)) (depth + 1) row place top r ⌝ }
@@ -239,7 +241,7 @@ fn choice(types: &[u32], names: &[u8], s: &[u8], tape: &mut [u32], flags: &[u8; 
     if byte_at(s, place) != 0x7B {
         return other();
     }
-    let name = name_at(types, names, s, flags, row, space(s, place + 1));
+    let name = name_at(types, names, s, flags, memo, row, 0, space(s, place + 1));
     if name.next == 0 {
         return other();
     }
@@ -248,7 +250,7 @@ fn choice(types: &[u32], names: &[u8], s: &[u8], tape: &mut [u32], flags: &[u8; 
         return other();
     }
     let at = space(s, name.next);
-    let g = value(types, names, s, tape, flags, type_at(types, row, k), at, top + 3, depth);
+    let g = value(types, names, s, tape, flags, memo, type_at(types, row, k), at, top + 3, depth);
     if g.next == 0 {
         return other();
     }

@@ -1,4 +1,4 @@
--- Made by tools/answers.py from answers/bare/leaf.ans: edit that. cc3e636c4f10abed
+-- Made by tools/answers.py from answers/bare/leaf.ans: edit that. 118b7ca1f2889a8a
 use mathlib.Core.Path.{sym, _∙_}
 use native.Mathlib.Omega.{arith}
 use Rattle.jer.specs.Table.{table}
@@ -16,6 +16,9 @@ boolean-requires c κs = search needs
 number-requires : tie.Need-number-requires
 number-requires c κs = search needs
 
+item-requires : tie.Need-item-requires
+item-requires c κs = search needs
+
 literal-null-requires : tie.Need-literal-null-requires
 literal-null-requires c κs = search needs
 
@@ -23,7 +26,7 @@ taken-requires : tie.Need-taken-requires
 taken-requires c κs = search needs
 
 text-requires : tie.Need-text-requires
-text-requires c κs = search needs
+text-requires c κs = (c .before .before .before .before .before .pre .0, c .before .before .before .before .before .pre .1, c .before .before .before .before .before .pre .2)
 
 taken-requires-2 : tie.Need-taken-requires-2
 taken-requires-2 c κs = search needs
@@ -43,16 +46,21 @@ returns-2 c =
 returns-3 : tie.Need-returns-3
 returns-3 c =
     let kind = c .before .before .before .kind-of .ensures (c .before .before .before .before .before .before .before .args .names .now) in
-    λ h. null-leaf (sym kind ∙ c .before .before .match .keys3) (c .before .literal-null .ensures) (c .taken .ensures) h
+    λ h. c .item .ensures h (sym kind ∙ c .before .before .match .keys3)
 
 returns-4 : tie.Need-returns-4
 returns-4 c =
-    let t = table (c .before .before .before .before .before .before .args .types .now) (c .before .before .before .before .before .before .args .names .now) in
-    let kind = c .before .before .kind-of .ensures (c .before .before .before .before .before .before .args .names .now) in
-    λ h. c .text .ensures h t (c .before .before .before .before .before .before .args .row) (sym kind ∙ c .before .match .keys4)
+    let kind = c .before .before .before .kind-of .ensures (c .before .before .before .before .before .before .before .args .names .now) in
+    λ h. null-leaf (sym kind ∙ c .before .before .match .keys4) (c .before .literal-null .ensures) (c .taken .ensures) h
 
 returns-5 : tie.Need-returns-5
-returns-5 c = λ h. absurd (omega (arith, c .taken2 .ensures .0))
+returns-5 c =
+    let t = table (c .before .before .before .before .before .before .args .types .now) (c .before .before .before .before .before .before .args .names .now) in
+    let kind = c .before .before .kind-of .ensures (c .before .before .before .before .before .before .args .names .now) in
+    λ h. c .text .ensures h t (c .before .before .before .before .before .before .args .row) (sym kind ∙ c .before .match .keys5)
+
+returns-6 : tie.Need-returns-6
+returns-6 c = λ h. absurd (omega (arith, c .taken2 .ensures .0))
 
 pub leaf-spec : {M : Type 1} → statement M
 leaf-spec =
@@ -61,6 +69,7 @@ leaf-spec =
     kind-of-requires
     boolean-requires
     number-requires
+    item-requires
     literal-null-requires
     taken-requires
     text-requires
@@ -69,4 +78,5 @@ leaf-spec =
     returns-2
     returns-3
     returns-4
-    returns-5)
+    returns-5
+    returns-6)

@@ -1,4 +1,4 @@
--- Made by tools/answers.py from answers/note/note.ans: edit that. 1a518b6bd5d39b11
+-- Made by tools/answers.py from answers/note/note.ans: edit that. 16b0f69a6b2841ea
 use mathlib.Core.Path.{refl}
 use lib.ListN.{length-set}
 use native.Mathlib.Omega.{arith}
@@ -22,17 +22,17 @@ returns c =
     λ d. not-here t s z d (c .before .before .before .before .before .before .args .row) (c .before .before .before .before .before .before .args .place) (c .before .before .before .before .before .before .args .top) _ (c .other .ensures)
 
 leaf-requires : tie.Need-leaf-requires
-leaf-requires c κs = search needs
+leaf-requires c κs = (c .before .before .before .before .before .before .pre .short, c .before .before .before .before .before .before .pre .here, c .before .before .before .before .before .before .pre .flags, λ i j. c .before .before .before .before .before .before .pre .sane .differ (c .before .before .before .before .before .before .args .row) i j (c .before .before .before .before .before .before .pre .typed))
 
 other-requires-2 : tie.Need-other-requires-2
 other-requires-2 c κs = search needs
 
 returns-2 : tie.Need-returns-2
 returns-2 c =
-    let t = table (c .before .before .before .before .before .before .before .before .before .args .types .now) (c .before .before .before .before .before .before .before .before .before .args .names .now) in
-    let s = c .before .before .before .before .before .before .before .before .before .args .s .now in
-    let z = c .before .before .before .before .before .before .before .before .before .args .tape .now in
-    λ d. not-here t s z d (c .before .before .before .before .before .before .before .before .before .args .row) (c .before .before .before .before .before .before .before .before .before .args .place) (c .before .before .before .before .before .before .before .before .before .args .top) _ (c .other2 .ensures)
+    let t = table (c .before .before .before .before .before .before .before .before .before .before .args .types .now) (c .before .before .before .before .before .before .before .before .before .before .args .names .now) in
+    let s = c .before .before .before .before .before .before .before .before .before .before .args .s .now in
+    let z = c .before .before .before .before .before .before .before .before .before .before .args .tape .now in
+    λ d. not-here t s z d (c .before .before .before .before .before .before .before .before .before .before .args .row) (c .before .before .before .before .before .before .before .before .before .before .args .place) (c .before .before .before .before .before .before .before .before .before .before .args .top) _ (c .other2 .ensures)
 
 mul-tape : tie.Need-mul-tape
 mul-tape c = search needs
@@ -47,20 +47,20 @@ mul-tape-2 : tie.Need-mul-tape-2
 mul-tape-2 c = search needs
 
 slice-write-tape-2 : tie.Need-slice-write-tape-2
-slice-write-tape-2 c = omega (arith, length-set (c .before .before .before .before .before .before .before .before .args .tape .now) (c .before .before .before .before .before .before .before .before .args .top) (c .before .before .leaf .result .a), c .before .before .before .if1 .left)
+slice-write-tape-2 c = omega (arith, length-set (c .before .before .before .before .before .before .before .before .before .args .tape .now) (c .before .before .before .before .before .before .before .before .before .args .top) (c .before .before .leaf .result .a), c .before .before .before .before .if1 .left)
 
-add-t11 : tie.Need-add-t11
-add-t11 c = search needs
+add-t12 : tie.Need-add-t12
+add-t12 c = search needs
 
 same-length : tie.Need-same-length
 same-length c = search needs
 
 returns-3 : tie.Need-returns-3
 returns-3 c =
-    let t = table (c .before .before .before .before .before .before .before .before .args .types .now) (c .before .before .before .before .before .before .before .before .args .names .now) in
-    let s = c .before .before .before .before .before .before .before .before .args .s .now in
-    let z = c .before .before .before .before .before .before .before .before .args .tape .now in
-    leaf-noted t s z (c .before .before .before .before .before .before .before .before .args .row) (c .before .before .before .before .before .before .before .before .args .place) (c .before .before .before .before .before .before .before .before .args .top) (c .before .before .leaf .result) _ (omega (arith, c .before .before .before .if1 .left)) (c .before .before .leaf .ensures (omega (arith, c .if2 .left))) refl refl refl refl
+    let t = table (c .before .before .before .before .before .before .before .before .before .args .types .now) (c .before .before .before .before .before .before .before .before .before .args .names .now) in
+    let s = c .before .before .before .before .before .before .before .before .before .args .s .now in
+    let z = c .before .before .before .before .before .before .before .before .before .args .tape .now in
+    leaf-noted t s z (c .before .before .before .before .before .before .before .before .before .args .row) (c .before .before .before .before .before .before .before .before .before .args .place) (c .before .before .before .before .before .before .before .before .before .args .top) (c .before .before .leaf .result) _ (omega (arith, c .before .before .before .before .if1 .left)) (c .before .before .leaf .ensures (omega (arith, c .if2 .left))) refl refl refl refl
 
 pub note-spec : {M : Type 1} → statement M
 note-spec =
@@ -77,6 +77,6 @@ note-spec =
     add-tape
     mul-tape-2
     slice-write-tape-2
-    add-t11
+    add-t12
     same-length
     returns-3)

@@ -1,4 +1,4 @@
--- Made by tools/answers.py from answers/take/take.ans: edit that. 0afb6a11e2a525dc
+-- Made by tools/answers.py from answers/take/take.ans: edit that. 1837db757f221465
 use native.Mathlib.Omega.{arith}
 use Rattle.quick.proofs.WalkLaws.{within-at}
 use Rattle.quick.proofs.TextLaws.{text-taken, text-given}
@@ -10,7 +10,7 @@ space-requires : tie.Need-space-requires
 space-requires c κs = search needs
 
 value-requires : tie.Need-value-requires
-value-requires c κs = text-given (c .before .before .before .before .before .before .pre .0) (c .before .before .before .before .before .before .pre .1) (c .before .before .before .before .before .before .pre .2) (c .before .before .before .before .before .before .pre .3) (within-at (c .before .before .before .before .before .before .args .s .now) (c .space .ensures .1) (omega arith))
+value-requires c κs = text-given (c .before .before .before .before .before .before .before .pre .0) (c .before .before .before .before .before .before .before .pre .1) (c .before .before .before .before .before .before .before .pre .2) (c .before .before .before .before .before .before .before .pre .3) (within-at (c .before .before .before .before .before .before .before .args .s .now) (c .space .ensures .1) (omega arith))
 
 other-requires : tie.Need-other-requires
 other-requires c κs = search needs
@@ -37,7 +37,7 @@ same-length-3 : tie.Need-same-length-3
 same-length-3 c = search needs
 
 returns-3 : tie.Need-returns-3
-returns-3 c = λ h. text-taken (c .before .before .before .before .before .before .before .before .before .before .before .before .before .pre .1) (c .before .before .before .before .before .before .before .space .ensures .0) (c .before .before .before .before .before .before .value .ensures) (c .before .before .if1 .left) (c .before .space2 .ensures .0) (c .if2 .left)
+returns-3 c = λ h. text-taken (c .before .before .before .before .before .before .before .before .before .before .before .before .before .before .pre .1) (c .before .before .before .before .before .before .before .space .ensures .0) (c .before .before .before .before .before .before .value .ensures) (c .before .before .if1 .left) (c .before .space2 .ensures .0) (c .if2 .left)
 
 pub take-spec : {M : Type 1} → statement M
 take-spec =

@@ -1,4 +1,4 @@
--- Made by tools/answers.py from answers/walk/+bracket+choice+list+member+object+picked+plain+sequence+value.ans: edit that. 19fe5bf460810cbc
+-- Made by tools/answers.py from answers/walk/+bracket+choice+list+member+object+picked+plain+sequence+value.ans: edit that. 97e841c6d4906cda
 use Prim.Native.Nat.{ℕ, _<_, _≤_, _+_, _-_, _*_}
 use mathlib.Core.Path.{_≡_, refl, sym, ap, _∙_}
 use native.Mathlib.Omega.{arith}
@@ -8,7 +8,7 @@ use mathlib.Core.List.{[]}
 use lib.ListN.{length-set}
 use borrow.Author.Tests.{not-false}
 use Rattle.quick.proofs.TapeLaws.{alike-part}
-use Rattle.quick.proofs.WalkLaws.{alike-same, alike-then, not-taken, not-here, at-depth, mark-inside, given-part, given-on, given-at, walked-from, walked-if, spaced, within-at}
+use Rattle.quick.proofs.WalkLaws.{alike-same, alike-then, not-taken, not-here, at-depth, mark-inside, given-part, given-on, given-at, given-distinct, walked-from, walked-if, spaced, within-at}
 use Rattle.places.specs.ByPlaces.{tokenAt}
 use Rattle.quick.proofs.ChoiceLaws.{choice-here, picked-given, picked-plain, picked-here}
 use Rattle.quick.proofs.StepLaws.{member-given, step-null, step-value, step-passed, link-kept, known-at, links-at, cleared-below}
@@ -73,86 +73,86 @@ use Rattle.types.proofs.token.alternative.Reads as alternative-reads
 use Rattle.quick.proofs.walk.+bracket+choice+list+member+object+picked+plain+sequence+value.{statement}
 use Rattle.quick.proofs.walk.+bracket+choice+list+member+object+picked+plain+sequence+value.Tie.{close}
 
-abbrev μ-bracket : Measures 5 bracket-kinds.ps ℕ
-μ-bracket κs a = a .1 .1 .1 .1 .1 .1 .1 .1 .0 * 8 + 2
+abbrev μ-bracket : Measures 6 bracket-kinds.ps ℕ
+μ-bracket κs a = a .1 .1 .1 .1 .1 .1 .1 .1 .1 .0 * 8 + 2
 
-abbrev μ-choice : Measures 5 choice-kinds.ps ℕ
-μ-choice κs a = a .1 .1 .1 .1 .1 .1 .1 .1 .0 * 8 + 7
+abbrev μ-choice : Measures 6 choice-kinds.ps ℕ
+μ-choice κs a = a .1 .1 .1 .1 .1 .1 .1 .1 .1 .0 * 8 + 7
 
-abbrev μ-list : Measures 5 list-kinds.ps ℕ
-μ-list κs a = a .1 .1 .1 .1 .1 .1 .1 .1 .0 * 8 + 7
+abbrev μ-list : Measures 6 list-kinds.ps ℕ
+μ-list κs a = a .1 .1 .1 .1 .1 .1 .1 .1 .1 .0 * 8 + 7
 
-abbrev μ-member : Measures 5 member-kinds.ps ℕ
-μ-member κs a = a .1 .1 .1 .1 .1 .1 .1 .1 .1 .1 .1 .0 * 8 + 6
+abbrev μ-member : Measures 6 member-kinds.ps ℕ
+μ-member κs a = a .1 .1 .1 .1 .1 .1 .1 .1 .1 .1 .1 .1 .1 .0 * 8 + 6
 
-abbrev μ-object : Measures 5 object-kinds.ps ℕ
-μ-object κs a = a .1 .1 .1 .1 .1 .1 .1 .1 .0 * 8 + 7
+abbrev μ-object : Measures 6 object-kinds.ps ℕ
+μ-object κs a = a .1 .1 .1 .1 .1 .1 .1 .1 .1 .0 * 8 + 7
 
-abbrev μ-picked : Measures 5 picked-kinds.ps ℕ
-μ-picked κs a = a .1 .1 .1 .1 .1 .1 .1 .1 .0 * 8 + 4
+abbrev μ-picked : Measures 6 picked-kinds.ps ℕ
+μ-picked κs a = a .1 .1 .1 .1 .1 .1 .1 .1 .1 .0 * 8 + 4
 
-abbrev μ-plain : Measures 5 plain-kinds.ps ℕ
-μ-plain κs a = a .1 .1 .1 .1 .1 .1 .1 .1 .0 * 8 + 3
+abbrev μ-plain : Measures 6 plain-kinds.ps ℕ
+μ-plain κs a = a .1 .1 .1 .1 .1 .1 .1 .1 .1 .0 * 8 + 3
 
-abbrev μ-sequence : Measures 5 sequence-kinds.ps ℕ
-μ-sequence κs a = a .1 .1 .1 .1 .1 .1 .1 .1 .0 * 8 + 8
+abbrev μ-sequence : Measures 6 sequence-kinds.ps ℕ
+μ-sequence κs a = a .1 .1 .1 .1 .1 .1 .1 .1 .1 .0 * 8 + 8
 
-abbrev μ-value : Measures 5 value-kinds.ps ℕ
-μ-value κs a = a .1 .1 .1 .1 .1 .1 .1 .1 .0 * 8 + 5
+abbrev μ-value : Measures 6 value-kinds.ps ℕ
+μ-value κs a = a .1 .1 .1 .1 .1 .1 .1 .1 .1 .0 * 8 + 5
 
-abbrev bracket-at : ℕ → In 5 bracket-kinds.ps
-bracket-at t = and 5 bracket-kinds.ps (is 5 bracket-kinds.ps μ-bracket t) bracket.Pre
+abbrev bracket-at : ℕ → In 6 bracket-kinds.ps
+bracket-at t = and 6 bracket-kinds.ps (is 6 bracket-kinds.ps μ-bracket t) bracket.Pre
 
-abbrev bracket-below : ℕ → In 5 bracket-kinds.ps
-bracket-below t = and 5 bracket-kinds.ps (falls 5 bracket-kinds.ps _<_ μ-bracket t) bracket.Pre
+abbrev bracket-below : ℕ → In 6 bracket-kinds.ps
+bracket-below t = and 6 bracket-kinds.ps (falls 6 bracket-kinds.ps _<_ μ-bracket t) bracket.Pre
 
-abbrev choice-at : ℕ → In 5 choice-kinds.ps
-choice-at t = and 5 choice-kinds.ps (is 5 choice-kinds.ps μ-choice t) choice.Pre
+abbrev choice-at : ℕ → In 6 choice-kinds.ps
+choice-at t = and 6 choice-kinds.ps (is 6 choice-kinds.ps μ-choice t) choice.Pre
 
-abbrev choice-below : ℕ → In 5 choice-kinds.ps
-choice-below t = and 5 choice-kinds.ps (falls 5 choice-kinds.ps _<_ μ-choice t) choice.Pre
+abbrev choice-below : ℕ → In 6 choice-kinds.ps
+choice-below t = and 6 choice-kinds.ps (falls 6 choice-kinds.ps _<_ μ-choice t) choice.Pre
 
-abbrev list-at : ℕ → In 5 list-kinds.ps
-list-at t = and 5 list-kinds.ps (is 5 list-kinds.ps μ-list t) list.Pre
+abbrev list-at : ℕ → In 6 list-kinds.ps
+list-at t = and 6 list-kinds.ps (is 6 list-kinds.ps μ-list t) list.Pre
 
-abbrev list-below : ℕ → In 5 list-kinds.ps
-list-below t = and 5 list-kinds.ps (falls 5 list-kinds.ps _<_ μ-list t) list.Pre
+abbrev list-below : ℕ → In 6 list-kinds.ps
+list-below t = and 6 list-kinds.ps (falls 6 list-kinds.ps _<_ μ-list t) list.Pre
 
-abbrev member-at : ℕ → In 5 member-kinds.ps
-member-at t = and 5 member-kinds.ps (is 5 member-kinds.ps μ-member t) member.Pre
+abbrev member-at : ℕ → In 6 member-kinds.ps
+member-at t = and 6 member-kinds.ps (is 6 member-kinds.ps μ-member t) member.Pre
 
-abbrev member-below : ℕ → In 5 member-kinds.ps
-member-below t = and 5 member-kinds.ps (falls 5 member-kinds.ps _<_ μ-member t) member.Pre
+abbrev member-below : ℕ → In 6 member-kinds.ps
+member-below t = and 6 member-kinds.ps (falls 6 member-kinds.ps _<_ μ-member t) member.Pre
 
-abbrev object-at : ℕ → In 5 object-kinds.ps
-object-at t = and 5 object-kinds.ps (is 5 object-kinds.ps μ-object t) object.Pre
+abbrev object-at : ℕ → In 6 object-kinds.ps
+object-at t = and 6 object-kinds.ps (is 6 object-kinds.ps μ-object t) object.Pre
 
-abbrev object-below : ℕ → In 5 object-kinds.ps
-object-below t = and 5 object-kinds.ps (falls 5 object-kinds.ps _<_ μ-object t) object.Pre
+abbrev object-below : ℕ → In 6 object-kinds.ps
+object-below t = and 6 object-kinds.ps (falls 6 object-kinds.ps _<_ μ-object t) object.Pre
 
-abbrev picked-at : ℕ → In 5 picked-kinds.ps
-picked-at t = and 5 picked-kinds.ps (is 5 picked-kinds.ps μ-picked t) picked.Pre
+abbrev picked-at : ℕ → In 6 picked-kinds.ps
+picked-at t = and 6 picked-kinds.ps (is 6 picked-kinds.ps μ-picked t) picked.Pre
 
-abbrev picked-below : ℕ → In 5 picked-kinds.ps
-picked-below t = and 5 picked-kinds.ps (falls 5 picked-kinds.ps _<_ μ-picked t) picked.Pre
+abbrev picked-below : ℕ → In 6 picked-kinds.ps
+picked-below t = and 6 picked-kinds.ps (falls 6 picked-kinds.ps _<_ μ-picked t) picked.Pre
 
-abbrev plain-at : ℕ → In 5 plain-kinds.ps
-plain-at t = and 5 plain-kinds.ps (is 5 plain-kinds.ps μ-plain t) plain.Pre
+abbrev plain-at : ℕ → In 6 plain-kinds.ps
+plain-at t = and 6 plain-kinds.ps (is 6 plain-kinds.ps μ-plain t) plain.Pre
 
-abbrev plain-below : ℕ → In 5 plain-kinds.ps
-plain-below t = and 5 plain-kinds.ps (falls 5 plain-kinds.ps _<_ μ-plain t) plain.Pre
+abbrev plain-below : ℕ → In 6 plain-kinds.ps
+plain-below t = and 6 plain-kinds.ps (falls 6 plain-kinds.ps _<_ μ-plain t) plain.Pre
 
-abbrev sequence-at : ℕ → In 5 sequence-kinds.ps
-sequence-at t = and 5 sequence-kinds.ps (is 5 sequence-kinds.ps μ-sequence t) sequence.Pre
+abbrev sequence-at : ℕ → In 6 sequence-kinds.ps
+sequence-at t = and 6 sequence-kinds.ps (is 6 sequence-kinds.ps μ-sequence t) sequence.Pre
 
-abbrev sequence-below : ℕ → In 5 sequence-kinds.ps
-sequence-below t = and 5 sequence-kinds.ps (falls 5 sequence-kinds.ps _<_ μ-sequence t) sequence.Pre
+abbrev sequence-below : ℕ → In 6 sequence-kinds.ps
+sequence-below t = and 6 sequence-kinds.ps (falls 6 sequence-kinds.ps _<_ μ-sequence t) sequence.Pre
 
-abbrev value-at : ℕ → In 5 value-kinds.ps
-value-at t = and 5 value-kinds.ps (is 5 value-kinds.ps μ-value t) value.Pre
+abbrev value-at : ℕ → In 6 value-kinds.ps
+value-at t = and 6 value-kinds.ps (is 6 value-kinds.ps μ-value t) value.Pre
 
-abbrev value-below : ℕ → In 5 value-kinds.ps
-value-below t = and 5 value-kinds.ps (falls 5 value-kinds.ps _<_ μ-value t) value.Pre
+abbrev value-below : ℕ → In 6 value-kinds.ps
+value-below t = and 6 value-kinds.ps (falls 6 value-kinds.ps _<_ μ-value t) value.Pre
 
 abbrev bracket-calls : ℕ → bracket-lts.Claims
 bracket-calls t = (other-reads.Asked, other-reads.Learnt, kind-of-reads.Asked, kind-of-reads.Learnt, sequence-below t, sequence.Post, list-below t, list.Post, choice-below t, choice.Post)
@@ -216,27 +216,27 @@ bracket-sub-sequence t c = search needs
 
 bracket-sequence-requires : (t : ℕ) → bracket-lts.Need-sequence-requires (bracket-calls t) (bracket-at t) bracket.Post
 bracket-sequence-requires t c κs =
-    let names = c .before .before .before .before .before .before .before .before .before .args .names .now in
-    let given = c .before .before .before .before .before .before .before .before .before .pre .1 .0 in
-    (omega (arith, c .before .before .before .before .if1 .left), (given, sym (c .before .before .kind-of .ensures names) ∙ c .before .match .keys1))
+    let names = c .before .before .before .before .before .before .before .before .before .before .args .names .now in
+    let given = c .before .before .before .before .before .before .before .before .before .before .pre .1 .0 in
+    (omega (arith, c .before .before .before .before .before .if1 .left), (given, sym (c .before .before .before .kind-of .ensures names) ∙ c .before .before .match .keys1))
 
 bracket-sub-list : (t : ℕ) → bracket-lts.Need-sub-list (bracket-calls t) (bracket-at t) bracket.Post
 bracket-sub-list t c = search needs
 
 bracket-list-requires : (t : ℕ) → bracket-lts.Need-list-requires (bracket-calls t) (bracket-at t) bracket.Post
 bracket-list-requires t c κs =
-    let names = c .before .before .before .before .before .before .before .before .before .args .names .now in
-    let given = c .before .before .before .before .before .before .before .before .before .pre .1 .0 in
-    (omega (arith, c .before .before .before .before .if1 .left), (given, (omega (arith, c .before .before .before .if2 .left), sym (c .before .before .kind-of .ensures names) ∙ c .before .match .keys2)))
+    let names = c .before .before .before .before .before .before .before .before .before .before .args .names .now in
+    let given = c .before .before .before .before .before .before .before .before .before .before .pre .1 .0 in
+    (omega (arith, c .before .before .before .before .before .if1 .left), (given, (omega (arith, c .before .before .before .before .if2 .left), sym (c .before .before .before .kind-of .ensures names) ∙ c .before .before .match .keys2)))
 
 bracket-sub-choice : (t : ℕ) → bracket-lts.Need-sub-choice (bracket-calls t) (bracket-at t) bracket.Post
 bracket-sub-choice t c = search needs
 
 bracket-choice-requires : (t : ℕ) → bracket-lts.Need-choice-requires (bracket-calls t) (bracket-at t) bracket.Post
 bracket-choice-requires t c κs =
-    let names = c .before .before .before .before .before .before .before .before .before .args .names .now in
-    let given = c .before .before .before .before .before .before .before .before .before .pre .1 .0 in
-    (omega (arith, c .before .before .before .before .if1 .left), (given, (omega (arith, c .before .before .before .if2 .left), sym (c .before .before .kind-of .ensures names) ∙ c .before .match .keys3, c .before .before .before .before .before .before .before .before .before .pre .1 .1)))
+    let names = c .before .before .before .before .before .before .before .before .before .before .args .names .now in
+    let given = c .before .before .before .before .before .before .before .before .before .before .pre .1 .0 in
+    (omega (arith, c .before .before .before .before .before .if1 .left), (given, (omega (arith, c .before .before .before .before .if2 .left), sym (c .before .before .before .kind-of .ensures names) ∙ c .before .before .match .keys3, c .before .before .before .before .before .before .before .before .before .before .pre .1 .1)))
 
 bracket-other-requires-3 : (t : ℕ) → bracket-lts.Need-other-requires-3 (bracket-calls t) (bracket-at t) bracket.Post
 bracket-other-requires-3 t c κs = search needs
@@ -246,36 +246,36 @@ bracket-same-length t c = search needs
 
 bracket-returns-3 : (t : ℕ) → bracket-lts.Need-returns-3 (bracket-calls t) (bracket-at t) bracket.Post
 bracket-returns-3 t c =
-    let t = table (c .before .before .before .before .before .before .before .before .before .before .before .before .args .types .now) (c .before .before .before .before .before .before .before .before .before .before .before .before .args .names .now) in
-    let s = c .before .before .before .before .before .before .before .before .before .before .before .before .args .s .now in
-    let row = c .before .before .before .before .before .before .before .before .before .before .before .before .args .row in
-    let place = c .before .before .before .before .before .before .before .before .before .before .before .before .args .place in
-    let top = c .before .before .before .before .before .before .before .before .before .before .before .before .args .top in
-    at-depth t s (c .before .before .before .before .before .before .before .before .before .before .before .before .args .tape .now) _ _ (c .before .before .before .before .before .before .before .before .before .before .before .before .args .depth) row place top _ (omega (arith, c .before .before .before .before .before .before .before .if1 .left)) (c .before .before .sequence .ensures)
+    let t = table (c .before .before .before .before .before .before .before .before .before .before .before .before .before .args .types .now) (c .before .before .before .before .before .before .before .before .before .before .before .before .before .args .names .now) in
+    let s = c .before .before .before .before .before .before .before .before .before .before .before .before .before .args .s .now in
+    let row = c .before .before .before .before .before .before .before .before .before .before .before .before .before .args .row in
+    let place = c .before .before .before .before .before .before .before .before .before .before .before .before .before .args .place in
+    let top = c .before .before .before .before .before .before .before .before .before .before .before .before .before .args .top in
+    at-depth t s (c .before .before .before .before .before .before .before .before .before .before .before .before .before .args .tape .now) _ _ (c .before .before .before .before .before .before .before .before .before .before .before .before .before .args .depth) row place top _ (omega (arith, c .before .before .before .before .before .before .before .before .if1 .left)) (c .before .before .sequence .ensures)
 
 bracket-same-length-2 : (t : ℕ) → bracket-lts.Need-same-length-2 (bracket-calls t) (bracket-at t) bracket.Post
 bracket-same-length-2 t c = search needs
 
 bracket-returns-4 : (t : ℕ) → bracket-lts.Need-returns-4 (bracket-calls t) (bracket-at t) bracket.Post
 bracket-returns-4 t c =
-    let t = table (c .before .before .before .before .before .before .before .before .before .before .before .before .args .types .now) (c .before .before .before .before .before .before .before .before .before .before .before .before .args .names .now) in
-    let s = c .before .before .before .before .before .before .before .before .before .before .before .before .args .s .now in
-    let row = c .before .before .before .before .before .before .before .before .before .before .before .before .args .row in
-    let place = c .before .before .before .before .before .before .before .before .before .before .before .before .args .place in
-    let top = c .before .before .before .before .before .before .before .before .before .before .before .before .args .top in
-    at-depth t s (c .before .before .before .before .before .before .before .before .before .before .before .before .args .tape .now) _ _ (c .before .before .before .before .before .before .before .before .before .before .before .before .args .depth) row place top _ (omega (arith, c .before .before .before .before .before .before .before .if1 .left)) (c .before .before .list .ensures)
+    let t = table (c .before .before .before .before .before .before .before .before .before .before .before .before .before .args .types .now) (c .before .before .before .before .before .before .before .before .before .before .before .before .before .args .names .now) in
+    let s = c .before .before .before .before .before .before .before .before .before .before .before .before .before .args .s .now in
+    let row = c .before .before .before .before .before .before .before .before .before .before .before .before .before .args .row in
+    let place = c .before .before .before .before .before .before .before .before .before .before .before .before .before .args .place in
+    let top = c .before .before .before .before .before .before .before .before .before .before .before .before .before .args .top in
+    at-depth t s (c .before .before .before .before .before .before .before .before .before .before .before .before .before .args .tape .now) _ _ (c .before .before .before .before .before .before .before .before .before .before .before .before .before .args .depth) row place top _ (omega (arith, c .before .before .before .before .before .before .before .before .if1 .left)) (c .before .before .list .ensures)
 
 bracket-same-length-3 : (t : ℕ) → bracket-lts.Need-same-length-3 (bracket-calls t) (bracket-at t) bracket.Post
 bracket-same-length-3 t c = search needs
 
 bracket-returns-5 : (t : ℕ) → bracket-lts.Need-returns-5 (bracket-calls t) (bracket-at t) bracket.Post
 bracket-returns-5 t c =
-    let t = table (c .before .before .before .before .before .before .before .before .before .before .before .before .args .types .now) (c .before .before .before .before .before .before .before .before .before .before .before .before .args .names .now) in
-    let s = c .before .before .before .before .before .before .before .before .before .before .before .before .args .s .now in
-    let row = c .before .before .before .before .before .before .before .before .before .before .before .before .args .row in
-    let place = c .before .before .before .before .before .before .before .before .before .before .before .before .args .place in
-    let top = c .before .before .before .before .before .before .before .before .before .before .before .before .args .top in
-    at-depth t s (c .before .before .before .before .before .before .before .before .before .before .before .before .args .tape .now) _ _ (c .before .before .before .before .before .before .before .before .before .before .before .before .args .depth) row place top _ (omega (arith, c .before .before .before .before .before .before .before .if1 .left)) (c .before .before .choice .ensures)
+    let t = table (c .before .before .before .before .before .before .before .before .before .before .before .before .before .args .types .now) (c .before .before .before .before .before .before .before .before .before .before .before .before .before .args .names .now) in
+    let s = c .before .before .before .before .before .before .before .before .before .before .before .before .before .args .s .now in
+    let row = c .before .before .before .before .before .before .before .before .before .before .before .before .before .args .row in
+    let place = c .before .before .before .before .before .before .before .before .before .before .before .before .before .args .place in
+    let top = c .before .before .before .before .before .before .before .before .before .before .before .before .before .args .top in
+    at-depth t s (c .before .before .before .before .before .before .before .before .before .before .before .before .before .args .tape .now) _ _ (c .before .before .before .before .before .before .before .before .before .before .before .before .before .args .depth) row place top _ (omega (arith, c .before .before .before .before .before .before .before .before .if1 .left)) (c .before .before .choice .ensures)
 
 bracket-returns-6 : (t : ℕ) → bracket-lts.Need-returns-6 (bracket-calls t) (bracket-at t) bracket.Post
 bracket-returns-6 t c =
@@ -309,22 +309,23 @@ choice-space-requires t c κs = search needs
 
 choice-name-at-requires : (t : ℕ) → choice-lts.Need-name-at-requires (choice-calls t) (choice-at t) choice.Post
 choice-name-at-requires t c κs =
-    let s = c .before .before .before .before .before .before .before .args .s .now in
-    let place = c .before .before .before .before .before .before .before .args .place in
-    let given = c .before .before .before .before .before .before .before .pre .1 .0 in
-    (given .short, omega (arith, given .short, within-at s (c .space .ensures .1) (omega (arith, mark-inside s place (c .before .before .byte-at .result) 0x7B (c .before .before .byte-at .ensures .0) (c .before .if1 .left) (omega arith)))), given .flags)
+    let s = c .before .before .before .before .before .before .before .before .args .s .now in
+    let place = c .before .before .before .before .before .before .before .before .args .place in
+    let given = c .before .before .before .before .before .before .before .before .pre .1 .0 in
+    let distinct = given-distinct (c .before .before .before .before .before .before .before .before .pre .1 .0) in
+    (given .short, omega (arith, given .short, within-at s (c .space .ensures .1) (omega (arith, mark-inside s place (c .before .before .before .byte-at .result) 0x7B (c .before .before .before .byte-at .ensures .0) (c .before .before .if1 .left) (omega arith)))), given .flags, distinct)
 
 choice-other-requires-2 : (t : ℕ) → choice-lts.Need-other-requires-2 (choice-calls t) (choice-at t) choice.Post
 choice-other-requires-2 t c κs = search needs
 
 choice-returns-2 : (t : ℕ) → choice-lts.Need-returns-2 (choice-calls t) (choice-at t) choice.Post
 choice-returns-2 t c =
-    let t = table (c .before .before .before .before .before .before .before .before .before .before .before .args .types .now) (c .before .before .before .before .before .before .before .before .before .before .before .args .names .now) in
-    let s = c .before .before .before .before .before .before .before .before .before .before .before .args .s .now in
-    let row = c .before .before .before .before .before .before .before .before .before .before .before .args .row in
-    let place = c .before .before .before .before .before .before .before .before .before .before .before .args .place in
-    let top = c .before .before .before .before .before .before .before .before .before .before .before .args .top in
-    not-here t s (c .before .before .before .before .before .before .before .before .before .before .before .args .tape .now) (c .before .before .before .before .before .before .before .before .before .before .before .args .depth + 1) row place top _ (c .other2 .ensures)
+    let t = table (c .before .before .before .before .before .before .before .before .before .before .before .before .args .types .now) (c .before .before .before .before .before .before .before .before .before .before .before .before .args .names .now) in
+    let s = c .before .before .before .before .before .before .before .before .before .before .before .before .args .s .now in
+    let row = c .before .before .before .before .before .before .before .before .before .before .before .before .args .row in
+    let place = c .before .before .before .before .before .before .before .before .before .before .before .before .args .place in
+    let top = c .before .before .before .before .before .before .before .before .before .before .before .before .args .top in
+    not-here t s (c .before .before .before .before .before .before .before .before .before .before .before .before .args .tape .now) (c .before .before .before .before .before .before .before .before .before .before .before .before .args .depth + 1) row place top _ (c .other2 .ensures)
 
 choice-count-of-requires : (t : ℕ) → choice-lts.Need-count-of-requires (choice-calls t) (choice-at t) choice.Post
 choice-count-of-requires t c κs = search needs
@@ -334,12 +335,12 @@ choice-other-requires-3 t c κs = search needs
 
 choice-returns-3 : (t : ℕ) → choice-lts.Need-returns-3 (choice-calls t) (choice-at t) choice.Post
 choice-returns-3 t c =
-    let t = table (c .before .before .before .before .before .before .before .before .before .before .before .before .before .args .types .now) (c .before .before .before .before .before .before .before .before .before .before .before .before .before .args .names .now) in
-    let s = c .before .before .before .before .before .before .before .before .before .before .before .before .before .args .s .now in
-    let row = c .before .before .before .before .before .before .before .before .before .before .before .before .before .args .row in
-    let place = c .before .before .before .before .before .before .before .before .before .before .before .before .before .args .place in
-    let top = c .before .before .before .before .before .before .before .before .before .before .before .before .before .args .top in
-    not-here t s (c .before .before .before .before .before .before .before .before .before .before .before .before .before .args .tape .now) (c .before .before .before .before .before .before .before .before .before .before .before .before .before .args .depth + 1) row place top _ (c .other3 .ensures)
+    let t = table (c .before .before .before .before .before .before .before .before .before .before .before .before .before .before .args .types .now) (c .before .before .before .before .before .before .before .before .before .before .before .before .before .before .args .names .now) in
+    let s = c .before .before .before .before .before .before .before .before .before .before .before .before .before .before .args .s .now in
+    let row = c .before .before .before .before .before .before .before .before .before .before .before .before .before .before .args .row in
+    let place = c .before .before .before .before .before .before .before .before .before .before .before .before .before .before .args .place in
+    let top = c .before .before .before .before .before .before .before .before .before .before .before .before .before .before .args .top in
+    not-here t s (c .before .before .before .before .before .before .before .before .before .before .before .before .before .before .args .tape .now) (c .before .before .before .before .before .before .before .before .before .before .before .before .before .before .args .depth + 1) row place top _ (c .other3 .ensures)
 
 choice-space-requires-2 : (t : ℕ) → choice-lts.Need-space-requires-2 (choice-calls t) (choice-at t) choice.Post
 choice-space-requires-2 t c κs = search needs
@@ -348,15 +349,17 @@ choice-type-at-requires : (t : ℕ) → choice-lts.Need-type-at-requires (choice
 choice-type-at-requires t c κs = search needs
 
 choice-add-value : (t : ℕ) → choice-lts.Need-add-value (choice-calls t) (choice-at t) choice.Post
-choice-add-value t c = search needs
+choice-add-value t c =
+    let given = c .before .before .before .before .before .before .before .before .before .before .before .before .before .before .before .before .before .pre .1 .0 in
+    omega (arith, c .before .before .before .before .before .before .before .before .before .before .before .before .before .before .before .before .before .pre .1 .1 .0, given .room)
 
 choice-value-requires : (t : ℕ) → choice-lts.Need-value-requires (choice-calls t) (choice-at t) choice.Post
 choice-value-requires t c κs =
-    let names = c .before .before .before .before .before .before .before .before .before .before .before .before .before .before .before .args .names .now in
-    let s = c .before .before .before .before .before .before .before .before .before .before .before .before .before .before .before .args .s .now in
-    let row = c .before .before .before .before .before .before .before .before .before .before .before .before .before .before .before .args .row in
-    let given = c .before .before .before .before .before .before .before .before .before .before .before .before .before .before .before .pre .1 .0 in
-    (omega arith, given-at given (given .sane .member row _ (given .typed) (known-at (c .before .before .before .if3 .left) (c .before .before .before .before .count-of .ensures names))) (c .type-at .ensures names) (within-at s (c .before .before .space2 .ensures .1) ((c .before .before .before .before .before .before .before .name-at .ensures (omega (arith, c .before .before .before .before .before .if2 .left))) .placed)) (omega (arith, c .before .before .before .before .before .before .before .before .before .before .before .before .before .before .before .pre .1 .1 .0)))
+    let names = c .before .before .before .before .before .before .before .before .before .before .before .before .before .before .before .before .before .args .names .now in
+    let s = c .before .before .before .before .before .before .before .before .before .before .before .before .before .before .before .before .before .args .s .now in
+    let row = c .before .before .before .before .before .before .before .before .before .before .before .before .before .before .before .before .before .args .row in
+    let given = c .before .before .before .before .before .before .before .before .before .before .before .before .before .before .before .before .before .pre .1 .0 in
+    (omega arith, given-at given (given .sane .member row _ (given .typed) (known-at (c .before .before .before .before .if3 .left) (c .before .before .before .before .before .count-of .ensures names))) (c .type-at .ensures names) (within-at s (c .before .before .before .space2 .ensures .1) ((c .before .before .before .before .before .before .before .before .name-at .ensures (omega (arith, c .before .before .before .before .before .before .if2 .left))) .placed)) (omega (arith, c .before .before .before .before .before .before .before .before .before .before .before .before .before .before .before .before .before .pre .1 .1 .0)))
 
 choice-other-requires-4 : (t : ℕ) → choice-lts.Need-other-requires-4 (choice-calls t) (choice-at t) choice.Post
 choice-other-requires-4 t c κs = search needs
@@ -366,12 +369,12 @@ choice-same-length t c = search needs
 
 choice-returns-4 : (t : ℕ) → choice-lts.Need-returns-4 (choice-calls t) (choice-at t) choice.Post
 choice-returns-4 t c =
-    let t = table (c .before .before .before .before .before .before .before .before .before .before .before .before .before .before .before .before .before .before .before .before .before .args .types .now) (c .before .before .before .before .before .before .before .before .before .before .before .before .before .before .before .before .before .before .before .before .before .args .names .now) in
-    let s = c .before .before .before .before .before .before .before .before .before .before .before .before .before .before .before .before .before .before .before .before .before .args .s .now in
-    let row = c .before .before .before .before .before .before .before .before .before .before .before .before .before .before .before .before .before .before .before .before .before .args .row in
-    let place = c .before .before .before .before .before .before .before .before .before .before .before .before .before .before .before .before .before .before .before .before .before .args .place in
-    let top = c .before .before .before .before .before .before .before .before .before .before .before .before .before .before .before .before .before .before .before .before .before .args .top in
-    not-taken t s (c .before .before .before .before .before .before .before .before .before .before .before .before .before .before .before .before .before .before .before .before .before .args .tape .now) _ (c .before .before .before .before .before .before .before .before .before .before .before .before .before .before .before .before .before .before .before .before .before .args .depth + 1) row place top _ (alike-part 0 top (c .before .before .before .before .before .value .ensures .kept) (omega arith) (omega arith)) (c .other4 .ensures)
+    let t = table (c .before .before .before .before .before .before .before .before .before .before .before .before .before .before .before .before .before .before .before .before .before .before .before .args .types .now) (c .before .before .before .before .before .before .before .before .before .before .before .before .before .before .before .before .before .before .before .before .before .before .before .args .names .now) in
+    let s = c .before .before .before .before .before .before .before .before .before .before .before .before .before .before .before .before .before .before .before .before .before .before .before .args .s .now in
+    let row = c .before .before .before .before .before .before .before .before .before .before .before .before .before .before .before .before .before .before .before .before .before .before .before .args .row in
+    let place = c .before .before .before .before .before .before .before .before .before .before .before .before .before .before .before .before .before .before .before .before .before .before .before .args .place in
+    let top = c .before .before .before .before .before .before .before .before .before .before .before .before .before .before .before .before .before .before .before .before .before .before .before .args .top in
+    not-taken t s (c .before .before .before .before .before .before .before .before .before .before .before .before .before .before .before .before .before .before .before .before .before .before .before .args .tape .now) _ (c .before .before .before .before .before .before .before .before .before .before .before .before .before .before .before .before .before .before .before .before .before .before .before .args .depth + 1) row place top _ (alike-part 0 top (c .before .before .before .before .before .value .ensures .kept) (omega arith) (omega arith)) (c .other4 .ensures)
 
 choice-space-requires-3 : (t : ℕ) → choice-lts.Need-space-requires-3 (choice-calls t) (choice-at t) choice.Post
 choice-space-requires-3 t c κs = search needs
@@ -387,37 +390,37 @@ choice-same-length-2 t c = search needs
 
 choice-returns-5 : (t : ℕ) → choice-lts.Need-returns-5 (choice-calls t) (choice-at t) choice.Post
 choice-returns-5 t c =
-    let t = table (c .before .before .before .before .before .before .before .before .before .before .before .before .before .before .before .before .before .before .before .before .before .before .before .before .args .types .now) (c .before .before .before .before .before .before .before .before .before .before .before .before .before .before .before .before .before .before .before .before .before .before .before .before .args .names .now) in
-    let s = c .before .before .before .before .before .before .before .before .before .before .before .before .before .before .before .before .before .before .before .before .before .before .before .before .args .s .now in
-    let row = c .before .before .before .before .before .before .before .before .before .before .before .before .before .before .before .before .before .before .before .before .before .before .before .before .args .row in
-    let place = c .before .before .before .before .before .before .before .before .before .before .before .before .before .before .before .before .before .before .before .before .before .before .before .before .args .place in
-    let top = c .before .before .before .before .before .before .before .before .before .before .before .before .before .before .before .before .before .before .before .before .before .before .before .before .args .top in
-    not-taken t s (c .before .before .before .before .before .before .before .before .before .before .before .before .before .before .before .before .before .before .before .before .before .before .before .before .args .tape .now) _ (c .before .before .before .before .before .before .before .before .before .before .before .before .before .before .before .before .before .before .before .before .before .before .before .before .args .depth + 1) row place top _ (alike-part 0 top (c .before .before .before .before .before .before .before .before .value .ensures .kept) (omega arith) (omega arith)) (c .other5 .ensures)
+    let t = table (c .before .before .before .before .before .before .before .before .before .before .before .before .before .before .before .before .before .before .before .before .before .before .before .before .before .before .args .types .now) (c .before .before .before .before .before .before .before .before .before .before .before .before .before .before .before .before .before .before .before .before .before .before .before .before .before .before .args .names .now) in
+    let s = c .before .before .before .before .before .before .before .before .before .before .before .before .before .before .before .before .before .before .before .before .before .before .before .before .before .before .args .s .now in
+    let row = c .before .before .before .before .before .before .before .before .before .before .before .before .before .before .before .before .before .before .before .before .before .before .before .before .before .before .args .row in
+    let place = c .before .before .before .before .before .before .before .before .before .before .before .before .before .before .before .before .before .before .before .before .before .before .before .before .before .before .args .place in
+    let top = c .before .before .before .before .before .before .before .before .before .before .before .before .before .before .before .before .before .before .before .before .before .before .before .before .before .before .args .top in
+    not-taken t s (c .before .before .before .before .before .before .before .before .before .before .before .before .before .before .before .before .before .before .before .before .before .before .before .before .before .before .args .tape .now) _ (c .before .before .before .before .before .before .before .before .before .before .before .before .before .before .before .before .before .before .before .before .before .before .before .before .before .before .args .depth + 1) row place top _ (alike-part 0 top (c .before .before .before .before .before .before .before .before .value .ensures .kept) (omega arith) (omega arith)) (c .other5 .ensures)
 
 choice-add-head : (t : ℕ) → choice-lts.Need-add-head (choice-calls t) (choice-at t) choice.Post
 choice-add-head t c =
-    let s = c .before .before .before .before .before .before .before .before .before .before .before .before .before .before .before .before .before .before .before .before .before .before .before .before .args .s .now in
-    let given = c .before .before .before .before .before .before .before .before .before .before .before .before .before .before .before .before .before .before .before .before .before .before .before .before .pre .1 .0 in
+    let s = c .before .before .before .before .before .before .before .before .before .before .before .before .before .before .before .before .before .before .before .before .before .before .before .before .before .before .args .s .now in
+    let given = c .before .before .before .before .before .before .before .before .before .before .before .before .before .before .before .before .before .before .before .before .before .before .before .before .before .before .pre .1 .0 in
     omega (arith, mark-inside s (c .before .before .before .space3 .result) (c .before .before .byte-at2 .result) 0x7D (c .before .before .byte-at2 .ensures .0) (c .before .if5 .left) (omega arith), given .short)
 
 choice-head-requires : (t : ℕ) → choice-lts.Need-head-requires (choice-calls t) (choice-at t) choice.Post
 choice-head-requires t c κs =
-    let given = c .before .before .before .before .before .before .before .before .before .before .before .before .before .before .before .before .before .before .before .before .before .before .before .before .pre .1 .0 in
-    let g = c .before .before .before .before .before .before .before .before .value .ensures .taken (omega (arith, c .before .before .before .before .if4 .left)) in omega (arith, c .before .before .before .before .before .before .before .before .before .before .before .before .before .before .before .before .before .before .before .before .before .before .before .before .pre .1 .1 .0, c .before .before .before .before .before .before .before .before .value .kept .1 .1 .1 .0, g .words, g .inside, given .room)
+    let given = c .before .before .before .before .before .before .before .before .before .before .before .before .before .before .before .before .before .before .before .before .before .before .before .before .before .before .pre .1 .0 in
+    let g = c .before .before .before .before .before .before .before .before .value .ensures .taken (omega (arith, c .before .before .before .before .if4 .left)) in omega (arith, c .before .before .before .before .before .before .before .before .before .before .before .before .before .before .before .before .before .before .before .before .before .before .before .before .before .before .pre .1 .1 .0, c .before .before .before .before .before .before .before .before .value .kept .1 .1 .1 .0, g .words, g .inside, given .room)
 
 choice-same-length-3 : (t : ℕ) → choice-lts.Need-same-length-3 (choice-calls t) (choice-at t) choice.Post
 choice-same-length-3 t c = search needs
 
 choice-returns-6 : (t : ℕ) → choice-lts.Need-returns-6 (choice-calls t) (choice-at t) choice.Post
 choice-returns-6 t c =
-    let names = c .before .before .before .before .before .before .before .before .before .before .before .before .before .before .before .before .before .before .before .before .before .before .before .before .before .before .before .args .names .now in
-    choice-here (c .before .before .before .before .before .before .before .before .before .before .before .before .before .before .before .before .before .before .before .before .before .before .before .before .before .before .before .pre .1 .1 .1) (c .before .before .before .before .before .before .before .before .before .before .before .before .before .before .before .before .before .before .before .before .before .before .before .before .before .before .before .pre .1 .1 .2) (c .before .before .before .before .before .before .before .before .before .before .before .before .before .before .before .before .before .before .before .before .before .before .byte-at .ensures .0) (c .before .before .before .before .before .before .before .before .before .before .before .before .before .before .before .before .before .before .before .before .before .if1 .left) (c .before .before .before .before .before .before .before .before .before .before .before .before .before .before .before .before .before .before .before .before .space .ensures .0) (c .before .before .before .before .before .before .before .before .before .before .before .before .before .before .before .before .before .before .before .before .space .ensures .1 .0) (c .before .before .before .before .before .before .before .before .before .before .before .before .before .before .before .before .before .before .before .name-at .ensures (omega (arith, c .before .before .before .before .before .before .before .before .before .before .before .before .before .before .before .before .before .if2 .left))) (known-at (c .before .before .before .before .before .before .before .before .before .before .before .before .before .before .before .if3 .left) (c .before .before .before .before .before .before .before .before .before .before .before .before .before .before .before .before .count-of .ensures names)) (c .before .before .before .before .before .before .before .before .before .before .before .before .before .before .space2 .ensures .0) (c .before .before .before .before .before .before .before .before .before .before .before .before .before .before .space2 .ensures .1 .0) (c .before .before .before .before .before .before .before .before .before .before .before .before .type-at .ensures names) (c .before .before .before .before .before .before .before .before .before .before .before .value .ensures) (c .before .before .before .before .before .before .before .if4 .left) (c .before .before .before .before .before .before .space3 .ensures .0) (c .before .before .before .before .before .before .space3 .ensures .1 .0) (c .before .before .before .before .before .byte-at2 .ensures .0) (c .before .before .before .before .if5 .left) (c .before .before .head .ensures .0) (c .before .before .head .ensures .1)
+    let names = c .before .before .before .before .before .before .before .before .before .before .before .before .before .before .before .before .before .before .before .before .before .before .before .before .before .before .before .before .before .args .names .now in
+    choice-here (c .before .before .before .before .before .before .before .before .before .before .before .before .before .before .before .before .before .before .before .before .before .before .before .before .before .before .before .before .before .pre .1 .1 .1) (c .before .before .before .before .before .before .before .before .before .before .before .before .before .before .before .before .before .before .before .before .before .before .before .before .before .before .before .before .before .pre .1 .1 .2) (c .before .before .before .before .before .before .before .before .before .before .before .before .before .before .before .before .before .before .before .before .before .before .before .before .byte-at .ensures .0) (c .before .before .before .before .before .before .before .before .before .before .before .before .before .before .before .before .before .before .before .before .before .before .before .if1 .left) (c .before .before .before .before .before .before .before .before .before .before .before .before .before .before .before .before .before .before .before .before .before .space .ensures .0) (c .before .before .before .before .before .before .before .before .before .before .before .before .before .before .before .before .before .before .before .before .before .space .ensures .1 .0) (c .before .before .before .before .before .before .before .before .before .before .before .before .before .before .before .before .before .before .before .before .name-at .ensures (omega (arith, c .before .before .before .before .before .before .before .before .before .before .before .before .before .before .before .before .before .before .if2 .left))) (known-at (c .before .before .before .before .before .before .before .before .before .before .before .before .before .before .before .before .if3 .left) (c .before .before .before .before .before .before .before .before .before .before .before .before .before .before .before .before .before .count-of .ensures names)) (c .before .before .before .before .before .before .before .before .before .before .before .before .before .before .before .space2 .ensures .0) (c .before .before .before .before .before .before .before .before .before .before .before .before .before .before .before .space2 .ensures .1 .0) (c .before .before .before .before .before .before .before .before .before .before .before .before .type-at .ensures names) (c .before .before .before .before .before .before .before .before .before .before .before .value .ensures) (c .before .before .before .before .before .before .before .if4 .left) (c .before .before .before .before .before .before .space3 .ensures .0) (c .before .before .before .before .before .before .space3 .ensures .1 .0) (c .before .before .before .before .before .byte-at2 .ensures .0) (c .before .before .before .before .if5 .left) (c .before .before .head .ensures .0) (c .before .before .head .ensures .1)
 
 abbrev list-Inv-loop : list-lts.InvT-loop
-list-Inv-loop types names s tape₀ flags row place top depth element at₀ end₀ count₀ n₀ m₀ tape at end count n m = Listing (table types names) s tape₀ tape depth row place top at end count n m
+list-Inv-loop types names s tape₀ flags memo₀ row place top depth element at₀ end₀ count₀ n₀ m₀ tape memo at end count n m = Listing (table types names) s tape₀ tape depth row place top at end count n m
 
 abbrev list-μ-loop : list-lts.MeasureT-loop
-list-μ-loop types names s tape₀ flags row place top depth element at₀ end₀ count₀ n₀ m₀ tape at end count n m = 65537 - at
+list-μ-loop types names s tape₀ flags memo₀ row place top depth element at₀ end₀ count₀ n₀ m₀ tape memo at end count n m = 65537 - at
 
 list-byte-at-requires : (t : ℕ) → list-lts.Need-byte-at-requires (list-calls t) (list-at t) list.Post list-Inv-loop list-μ-loop
 list-byte-at-requires t c κs = search needs
@@ -498,9 +501,9 @@ list-returns-3 t c =
 
 list-value-requires : (t : ℕ) → list-lts.Need-value-requires (list-calls t) (list-at t) list.Post list-Inv-loop list-μ-loop
 list-value-requires t c κs =
-    let names = c .before .before .before .before .before .before .before .before .before .before .before .before .before .args .names .now in
-    let row = c .before .before .before .before .before .before .before .before .before .before .before .before .before .args .row in
-    (omega arith, given-part (c .before .before .before .before .before .before .before .before .before .before .before .before .before .pre .1 .0) (c .before .before .loop .inv .same) (rw (c .before .before .before .before .before .before .element-of .ensures names) ((c .before .before .before .before .before .before .before .before .before .before .before .before .before .pre .1 .0) .sane .element row (c .before .before .before .before .before .before .before .before .before .before .before .before .before .pre .1 .1 .1))) (omega (arith, c .before .if3 .left)) (c .before .before .loop .inv .inside))
+    let names = c .before .before .before .before .before .before .before .before .before .before .before .before .before .before .args .names .now in
+    let row = c .before .before .before .before .before .before .before .before .before .before .before .before .before .before .args .row in
+    (omega arith, given-part (c .before .before .before .before .before .before .before .before .before .before .before .before .before .before .pre .1 .0) (c .before .before .before .loop .inv .same) (rw (c .before .before .before .before .before .before .before .element-of .ensures names) ((c .before .before .before .before .before .before .before .before .before .before .before .before .before .before .pre .1 .0) .sane .element row (c .before .before .before .before .before .before .before .before .before .before .before .before .before .before .pre .1 .1 .1))) (omega (arith, c .before .before .if3 .left)) (c .before .before .before .loop .inv .inside))
 
 list-other-requires-3 : (t : ℕ) → list-lts.Need-other-requires-3 (list-calls t) (list-at t) list.Post list-Inv-loop list-μ-loop
 list-other-requires-3 t c κs = search needs
@@ -510,14 +513,14 @@ list-same-length-3 t c = search needs
 
 list-returns-4 : (t : ℕ) → list-lts.Need-returns-4 (list-calls t) (list-at t) list.Post list-Inv-loop list-μ-loop
 list-returns-4 t c =
-    let names = c .before .before .before .before .before .before .before .before .before .before .before .before .before .before .before .before .before .before .before .args .names .now in
-    let t = table (c .before .before .before .before .before .before .before .before .before .before .before .before .before .before .before .before .before .before .before .args .types .now) (c .before .before .before .before .before .before .before .before .before .before .before .before .before .before .before .before .before .before .before .args .names .now) in
-    let s = c .before .before .before .before .before .before .before .before .before .before .before .before .before .before .before .before .before .before .before .args .s .now in
-    let row = c .before .before .before .before .before .before .before .before .before .before .before .before .before .before .before .before .before .before .before .args .row in
-    let place = c .before .before .before .before .before .before .before .before .before .before .before .before .before .before .before .before .before .before .before .args .place in
-    let top = c .before .before .before .before .before .before .before .before .before .before .before .before .before .before .before .before .before .before .before .args .top in
-    let kept = listing-kept (c .before .before .before .before .before .before .before .before .loop .inv) (c .before .before .before .before .before .before .before .before .before .before .before .before .element-of .ensures names) (c .before .before .before .before .before .value .ensures) in
-    not-taken t s (c .before .before .before .before .before .before .before .before .before .before .before .before .before .before .before .before .before .before .before .args .tape .now) _ (c .before .before .before .before .before .before .before .before .before .before .before .before .before .before .before .before .before .before .before .args .depth + 1) row place top _ kept (c .other3 .ensures)
+    let names = c .before .before .before .before .before .before .before .before .before .before .before .before .before .before .before .before .before .before .before .before .args .names .now in
+    let t = table (c .before .before .before .before .before .before .before .before .before .before .before .before .before .before .before .before .before .before .before .before .args .types .now) (c .before .before .before .before .before .before .before .before .before .before .before .before .before .before .before .before .before .before .before .before .args .names .now) in
+    let s = c .before .before .before .before .before .before .before .before .before .before .before .before .before .before .before .before .before .before .before .before .args .s .now in
+    let row = c .before .before .before .before .before .before .before .before .before .before .before .before .before .before .before .before .before .before .before .before .args .row in
+    let place = c .before .before .before .before .before .before .before .before .before .before .before .before .before .before .before .before .before .before .before .before .args .place in
+    let top = c .before .before .before .before .before .before .before .before .before .before .before .before .before .before .before .before .before .before .before .before .args .top in
+    let kept = listing-kept (c .before .before .before .before .before .before .before .before .before .loop .inv) (c .before .before .before .before .before .before .before .before .before .before .before .before .before .element-of .ensures names) (c .before .before .before .before .before .value .ensures) in
+    not-taken t s (c .before .before .before .before .before .before .before .before .before .before .before .before .before .before .before .before .before .before .before .before .args .tape .now) _ (c .before .before .before .before .before .before .before .before .before .before .before .before .before .before .before .before .before .before .before .before .args .depth + 1) row place top _ kept (c .other3 .ensures)
 
 list-space-requires-2 : (t : ℕ) → list-lts.Need-space-requires-2 (list-calls t) (list-at t) list.Post list-Inv-loop list-μ-loop
 list-space-requires-2 t c κs = search needs
@@ -527,40 +530,40 @@ list-byte-at-requires-3 t c κs = search needs
 
 list-add-head-3 : (t : ℕ) → list-lts.Need-add-head-3 (list-calls t) (list-at t) list.Post list-Inv-loop list-μ-loop
 list-add-head-3 t c =
-    let names = c .before .before .before .before .before .before .before .before .before .before .before .before .before .before .before .before .before .before .before .before .before .before .args .names .now in
-    let numbers = listing-bounds (c .before .before .before .before .before .before .before .before .before .before .before .loop .inv) (c .before .before .before .before .before .before .before .before .before .before .before .before .before .before .before .element-of .ensures names) (c .before .before .before .before .before .before .before .before .value .ensures) (c .before .before .before .before .if4 .left) (c .before .before .before .before .before .before .before .before .value .kept .1 .1 .1 .0) in
-    omega (arith, numbers, c .before .before .before .before .before .before .before .before .before .before .before .loop .inv .each, c .before .before .before .before .before .before .before .before .before .before .before .loop .inv .inside, c .before .before .before .before .before .before .before .before .before .before .before .loop .inv .same, (c .before .before .before .before .before .before .before .before .before .before .before .before .before .before .before .before .before .before .before .before .before .before .pre .1 .0) .room)
+    let names = c .before .before .before .before .before .before .before .before .before .before .before .before .before .before .before .before .before .before .before .before .before .before .before .args .names .now in
+    let numbers = listing-bounds (c .before .before .before .before .before .before .before .before .before .before .before .before .loop .inv) (c .before .before .before .before .before .before .before .before .before .before .before .before .before .before .before .before .element-of .ensures names) (c .before .before .before .before .before .before .before .before .value .ensures) (c .before .before .before .before .if4 .left) (c .before .before .before .before .before .before .before .before .value .kept .1 .1 .1 .0) in
+    omega (arith, numbers, c .before .before .before .before .before .before .before .before .before .before .before .before .loop .inv .each, c .before .before .before .before .before .before .before .before .before .before .before .before .loop .inv .inside, c .before .before .before .before .before .before .before .before .before .before .before .before .loop .inv .same, (c .before .before .before .before .before .before .before .before .before .before .before .before .before .before .before .before .before .before .before .before .before .before .before .pre .1 .0) .room)
 
 list-add-head-4 : (t : ℕ) → list-lts.Need-add-head-4 (list-calls t) (list-at t) list.Post list-Inv-loop list-μ-loop
 list-add-head-4 t c =
-    let names = c .before .before .before .before .before .before .before .before .before .before .before .before .before .before .before .before .before .before .before .before .before .before .before .args .names .now in
-    let numbers = listing-bounds (c .before .before .before .before .before .before .before .before .before .before .before .before .loop .inv) (c .before .before .before .before .before .before .before .before .before .before .before .before .before .before .before .before .element-of .ensures names) (c .before .before .before .before .before .before .before .before .before .value .ensures) (c .before .before .before .before .before .if4 .left) (c .before .before .before .before .before .before .before .before .before .value .kept .1 .1 .1 .0) in
-    omega (arith, numbers, c .before .before .before .before .before .before .before .before .before .before .before .before .loop .inv .words, (c .before .before .before .before .before .before .before .before .before .before .before .before .before .before .before .before .before .before .before .before .before .before .before .pre .1 .0) .room)
+    let names = c .before .before .before .before .before .before .before .before .before .before .before .before .before .before .before .before .before .before .before .before .before .before .before .before .args .names .now in
+    let numbers = listing-bounds (c .before .before .before .before .before .before .before .before .before .before .before .before .before .loop .inv) (c .before .before .before .before .before .before .before .before .before .before .before .before .before .before .before .before .before .element-of .ensures names) (c .before .before .before .before .before .before .before .before .before .value .ensures) (c .before .before .before .before .before .if4 .left) (c .before .before .before .before .before .before .before .before .before .value .kept .1 .1 .1 .0) in
+    omega (arith, numbers, c .before .before .before .before .before .before .before .before .before .before .before .before .before .loop .inv .words, (c .before .before .before .before .before .before .before .before .before .before .before .before .before .before .before .before .before .before .before .before .before .before .before .before .pre .1 .0) .room)
 
 list-add-head-5 : (t : ℕ) → list-lts.Need-add-head-5 (list-calls t) (list-at t) list.Post list-Inv-loop list-μ-loop
 list-add-head-5 t c =
-    let names = c .before .before .before .before .before .before .before .before .before .before .before .before .before .before .before .before .before .before .before .before .before .before .before .before .args .names .now in
-    let numbers = listing-bounds (c .before .before .before .before .before .before .before .before .before .before .before .before .before .loop .inv) (c .before .before .before .before .before .before .before .before .before .before .before .before .before .before .before .before .before .element-of .ensures names) (c .before .before .before .before .before .before .before .before .before .before .value .ensures) (c .before .before .before .before .before .before .if4 .left) (c .before .before .before .before .before .before .before .before .before .before .value .kept .1 .1 .1 .0) in
-    omega (arith, numbers, c .before .before .before .before .before .before .before .before .before .before .before .before .before .loop .inv .few, (c .before .before .before .before .before .before .before .before .before .before .before .before .before .before .before .before .before .before .before .before .before .before .before .before .pre .1 .0) .short)
+    let names = c .before .before .before .before .before .before .before .before .before .before .before .before .before .before .before .before .before .before .before .before .before .before .before .before .before .args .names .now in
+    let numbers = listing-bounds (c .before .before .before .before .before .before .before .before .before .before .before .before .before .before .loop .inv) (c .before .before .before .before .before .before .before .before .before .before .before .before .before .before .before .before .before .before .element-of .ensures names) (c .before .before .before .before .before .before .before .before .before .before .value .ensures) (c .before .before .before .before .before .before .if4 .left) (c .before .before .before .before .before .before .before .before .before .before .value .kept .1 .1 .1 .0) in
+    omega (arith, numbers, c .before .before .before .before .before .before .before .before .before .before .before .before .before .before .loop .inv .few, (c .before .before .before .before .before .before .before .before .before .before .before .before .before .before .before .before .before .before .before .before .before .before .before .before .before .pre .1 .0) .short)
 
 list-add-head-6 : (t : ℕ) → list-lts.Need-add-head-6 (list-calls t) (list-at t) list.Post list-Inv-loop list-μ-loop
 list-add-head-6 t c =
-    let mark = mark-inside (c .before .before .before .before .before .before .before .before .before .before .before .before .before .before .before .before .before .before .before .before .before .before .before .before .args .s .now) (c .before .before .before .before .before .space2 .result) (c .before .before .before .before .byte-at3 .result) 0x5D (c .before .before .before .before .byte-at3 .ensures .0) (c .before .before .before .if5 .taken) (omega arith) in
-    omega (arith, mark, (c .before .before .before .before .before .before .before .before .before .before .before .before .before .before .before .before .before .before .before .before .before .before .before .before .pre .1 .0) .short)
+    let mark = mark-inside (c .before .before .before .before .before .before .before .before .before .before .before .before .before .before .before .before .before .before .before .before .before .before .before .before .before .args .s .now) (c .before .before .before .before .before .space2 .result) (c .before .before .before .before .byte-at3 .result) 0x5D (c .before .before .before .before .byte-at3 .ensures .0) (c .before .before .before .if5 .taken) (omega arith) in
+    omega (arith, mark, (c .before .before .before .before .before .before .before .before .before .before .before .before .before .before .before .before .before .before .before .before .before .before .before .before .before .pre .1 .0) .short)
 
 list-head-requires-2 : (t : ℕ) → list-lts.Need-head-requires-2 (list-calls t) (list-at t) list.Post list-Inv-loop list-μ-loop
 list-head-requires-2 t c κs =
-    let names = c .before .before .before .before .before .before .before .before .before .before .before .before .before .before .before .before .before .before .before .before .before .before .before .before .args .names .now in
-    let numbers = listing-bounds (c .before .before .before .before .before .before .before .before .before .before .before .before .before .loop .inv) (c .before .before .before .before .before .before .before .before .before .before .before .before .before .before .before .before .before .element-of .ensures names) (c .before .before .before .before .before .before .before .before .before .before .value .ensures) (c .before .before .before .before .before .before .if4 .left) (c .before .before .before .before .before .before .before .before .before .before .value .kept .1 .1 .1 .0) in
-    omega (arith, numbers, c .before .before .before .before .before .before .before .before .before .before .before .before .before .loop .inv .words, c .before .before .before .before .before .before .before .before .before .before .before .before .before .loop .inv .start, c .before .before .before .before .before .before .before .before .before .before .before .before .before .loop .inv .same, c .before .before .before .before .before .before .before .before .before .before .before .before .before .loop .inv .inside, c .before .before .before .before .before .before .before .before .before .before .value .kept .1 .1 .1 .0, (c .before .before .before .before .before .before .before .before .before .before .before .before .before .before .before .before .before .before .before .before .before .before .before .before .pre .1 .0) .room)
+    let names = c .before .before .before .before .before .before .before .before .before .before .before .before .before .before .before .before .before .before .before .before .before .before .before .before .before .args .names .now in
+    let numbers = listing-bounds (c .before .before .before .before .before .before .before .before .before .before .before .before .before .before .loop .inv) (c .before .before .before .before .before .before .before .before .before .before .before .before .before .before .before .before .before .before .element-of .ensures names) (c .before .before .before .before .before .before .before .before .before .before .value .ensures) (c .before .before .before .before .before .before .if4 .left) (c .before .before .before .before .before .before .before .before .before .before .value .kept .1 .1 .1 .0) in
+    omega (arith, numbers, c .before .before .before .before .before .before .before .before .before .before .before .before .before .before .loop .inv .words, c .before .before .before .before .before .before .before .before .before .before .before .before .before .before .loop .inv .start, c .before .before .before .before .before .before .before .before .before .before .before .before .before .before .loop .inv .same, c .before .before .before .before .before .before .before .before .before .before .before .before .before .before .loop .inv .inside, c .before .before .before .before .before .before .before .before .before .before .value .kept .1 .1 .1 .0, (c .before .before .before .before .before .before .before .before .before .before .before .before .before .before .before .before .before .before .before .before .before .before .before .before .before .pre .1 .0) .room)
 
 list-same-length-4 : (t : ℕ) → list-lts.Need-same-length-4 (list-calls t) (list-at t) list.Post list-Inv-loop list-μ-loop
-list-same-length-4 t c = search needs
+list-same-length-4 t c = c .before .before .head2 .kept .0 ∙ c .before .before .before .before .before .before .before .before .before .before .before .before .before .value .kept .1 .1 .1 .0 ∙ c .before .before .before .before .before .before .before .before .before .before .before .before .before .before .before .before .before .loop .inv .same
 
 list-returns-5 : (t : ℕ) → list-lts.Need-returns-5 (list-calls t) (list-at t) list.Post list-Inv-loop list-μ-loop
 list-returns-5 t c =
-    let names = c .before .before .before .before .before .before .before .before .before .before .before .before .before .before .before .before .before .before .before .before .before .before .before .before .before .before .before .args .names .now in
-    listing-last (c .before .before .before .before .before .before .before .before .before .before .before .before .before .before .before .before .loop .inv) (c .before .before .before .before .before .before .before .before .before .before .before .before .before .before .before .before .before .before .before .before .element-of .ensures names) (c .before .before .before .before .before .before .before .before .before .before .before .before .before .value .ensures) (c .before .before .before .before .before .before .before .before .before .if4 .left) (c .before .before .before .before .before .before .before .before .before .before .before .before .before .value .kept .1 .1 .1 .0) (spaced (c .before .before .before .before .before .before .before .before .space2 .ensures .0) (c .before .before .before .before .before .before .before .before .space2 .ensures .1)) (c .before .before .before .before .before .before .before .byte-at3 .ensures .0) (c .before .before .before .before .before .before .before .before .before .before .before .before .before .before .before .before .before .before .before .before .before .before .before .before .before .before .before .pre .1 .1 .1) (c .before .before .before .before .before .before .before .before .before .before .before .before .before .before .before .before .before .before .before .before .before .before .byte-at .ensures .0) (c .before .before .before .before .before .before .before .before .before .before .before .before .before .before .before .before .before .before .before .before .before .if1 .left) (c .before .before .before .before .before .before .if5 .taken) (c .before .before .head2 .ensures .0) (c .before .before .head2 .ensures .1)
+    let names = c .before .before .before .before .before .before .before .before .before .before .before .before .before .before .before .before .before .before .before .before .before .before .before .before .before .before .before .before .args .names .now in
+    listing-last (c .before .before .before .before .before .before .before .before .before .before .before .before .before .before .before .before .before .loop .inv) (c .before .before .before .before .before .before .before .before .before .before .before .before .before .before .before .before .before .before .before .before .before .element-of .ensures names) (c .before .before .before .before .before .before .before .before .before .before .before .before .before .value .ensures) (c .before .before .before .before .before .before .before .before .before .if4 .left) (c .before .before .before .before .before .before .before .before .before .before .before .before .before .value .kept .1 .1 .1 .0) (spaced (c .before .before .before .before .before .before .before .before .space2 .ensures .0) (c .before .before .before .before .before .before .before .before .space2 .ensures .1)) (c .before .before .before .before .before .before .before .byte-at3 .ensures .0) (c .before .before .before .before .before .before .before .before .before .before .before .before .before .before .before .before .before .before .before .before .before .before .before .before .before .before .before .before .pre .1 .1 .1) (c .before .before .before .before .before .before .before .before .before .before .before .before .before .before .before .before .before .before .before .before .before .before .before .byte-at .ensures .0) (c .before .before .before .before .before .before .before .before .before .before .before .before .before .before .before .before .before .before .before .before .before .before .if1 .left) (c .before .before .before .before .before .before .if5 .taken) (c .before .before .head2 .ensures .0) (c .before .before .head2 .ensures .1)
 
 list-other-requires-4 : (t : ℕ) → list-lts.Need-other-requires-4 (list-calls t) (list-at t) list.Post list-Inv-loop list-μ-loop
 list-other-requires-4 t c κs = search needs
@@ -570,54 +573,57 @@ list-same-length-5 t c = search needs
 
 list-returns-6 : (t : ℕ) → list-lts.Need-returns-6 (list-calls t) (list-at t) list.Post list-Inv-loop list-μ-loop
 list-returns-6 t c =
-    let names = c .before .before .before .before .before .before .before .before .before .before .before .before .before .before .before .before .before .before .before .before .before .before .before .args .names .now in
-    let t = table (c .before .before .before .before .before .before .before .before .before .before .before .before .before .before .before .before .before .before .before .before .before .before .before .args .types .now) (c .before .before .before .before .before .before .before .before .before .before .before .before .before .before .before .before .before .before .before .before .before .before .before .args .names .now) in
-    let s = c .before .before .before .before .before .before .before .before .before .before .before .before .before .before .before .before .before .before .before .before .before .before .before .args .s .now in
-    let row = c .before .before .before .before .before .before .before .before .before .before .before .before .before .before .before .before .before .before .before .before .before .before .before .args .row in
-    let place = c .before .before .before .before .before .before .before .before .before .before .before .before .before .before .before .before .before .before .before .before .before .before .before .args .place in
-    let top = c .before .before .before .before .before .before .before .before .before .before .before .before .before .before .before .before .before .before .before .before .before .before .before .args .top in
-    let kept = listing-kept (c .before .before .before .before .before .before .before .before .before .before .before .before .loop .inv) (c .before .before .before .before .before .before .before .before .before .before .before .before .before .before .before .before .element-of .ensures names) (c .before .before .before .before .before .before .before .before .before .value .ensures) in
-    not-taken t s (c .before .before .before .before .before .before .before .before .before .before .before .before .before .before .before .before .before .before .before .before .before .before .before .args .tape .now) _ (c .before .before .before .before .before .before .before .before .before .before .before .before .before .before .before .before .before .before .before .before .before .before .before .args .depth + 1) row place top _ kept (c .other4 .ensures)
+    let names = c .before .before .before .before .before .before .before .before .before .before .before .before .before .before .before .before .before .before .before .before .before .before .before .before .args .names .now in
+    let t = table (c .before .before .before .before .before .before .before .before .before .before .before .before .before .before .before .before .before .before .before .before .before .before .before .before .args .types .now) (c .before .before .before .before .before .before .before .before .before .before .before .before .before .before .before .before .before .before .before .before .before .before .before .before .args .names .now) in
+    let s = c .before .before .before .before .before .before .before .before .before .before .before .before .before .before .before .before .before .before .before .before .before .before .before .before .args .s .now in
+    let row = c .before .before .before .before .before .before .before .before .before .before .before .before .before .before .before .before .before .before .before .before .before .before .before .before .args .row in
+    let place = c .before .before .before .before .before .before .before .before .before .before .before .before .before .before .before .before .before .before .before .before .before .before .before .before .args .place in
+    let top = c .before .before .before .before .before .before .before .before .before .before .before .before .before .before .before .before .before .before .before .before .before .before .before .before .args .top in
+    let kept = listing-kept (c .before .before .before .before .before .before .before .before .before .before .before .before .before .loop .inv) (c .before .before .before .before .before .before .before .before .before .before .before .before .before .before .before .before .before .element-of .ensures names) (c .before .before .before .before .before .before .before .before .before .value .ensures) in
+    not-taken t s (c .before .before .before .before .before .before .before .before .before .before .before .before .before .before .before .before .before .before .before .before .before .before .before .before .args .tape .now) _ (c .before .before .before .before .before .before .before .before .before .before .before .before .before .before .before .before .before .before .before .before .before .before .before .before .args .depth + 1) row place top _ kept (c .other4 .ensures)
 
 list-add-space-2 : (t : ℕ) → list-lts.Need-add-space-2 (list-calls t) (list-at t) list.Post list-Inv-loop list-μ-loop
 list-add-space-2 t c =
-    let comma = mark-inside (c .before .before .before .before .before .before .before .before .before .before .before .before .before .before .before .before .before .before .before .before .before .before .args .s .now) (c .before .before .before .space2 .result) (c .before .before .byte-at3 .result) 0x2C (c .before .before .byte-at3 .ensures .0) (c .if6 .left) (omega arith) in
-    omega (arith, comma, (c .before .before .before .before .before .before .before .before .before .before .before .before .before .before .before .before .before .before .before .before .before .before .pre .1 .0) .short)
+    let comma = mark-inside (c .before .before .before .before .before .before .before .before .before .before .before .before .before .before .before .before .before .before .before .before .before .before .before .args .s .now) (c .before .before .before .space2 .result) (c .before .before .byte-at3 .result) 0x2C (c .before .before .byte-at3 .ensures .0) (c .if6 .left) (omega arith) in
+    omega (arith, comma, (c .before .before .before .before .before .before .before .before .before .before .before .before .before .before .before .before .before .before .before .before .before .before .before .pre .1 .0) .short)
 
 list-space-requires-3 : (t : ℕ) → list-lts.Need-space-requires-3 (list-calls t) (list-at t) list.Post list-Inv-loop list-μ-loop
 list-space-requires-3 t c κs = search needs
 
 list-add-count : (t : ℕ) → list-lts.Need-add-count (list-calls t) (list-at t) list.Post list-Inv-loop list-μ-loop
 list-add-count t c =
-    let names = c .before .before .before .before .before .before .before .before .before .before .before .before .before .before .before .before .before .before .before .before .before .before .before .args .names .now in
-    let numbers = listing-bounds (c .before .before .before .before .before .before .before .before .before .before .before .before .loop .inv) (c .before .before .before .before .before .before .before .before .before .before .before .before .before .before .before .before .element-of .ensures names) (c .before .before .before .before .before .before .before .before .before .value .ensures) (c .before .before .before .before .before .if4 .left) (c .before .before .before .before .before .before .before .before .before .value .kept .1 .1 .1 .0) in
-    omega (arith, numbers, c .before .before .before .before .before .before .before .before .before .before .before .before .loop .inv .each, c .before .before .before .before .before .before .before .before .before .before .before .before .loop .inv .inside, c .before .before .before .before .before .before .before .before .before .before .before .before .loop .inv .same, (c .before .before .before .before .before .before .before .before .before .before .before .before .before .before .before .before .before .before .before .before .before .before .before .pre .1 .0) .room)
+    let names = c .before .before .before .before .before .before .before .before .before .before .before .before .before .before .before .before .before .before .before .before .before .before .before .before .args .names .now in
+    let numbers = listing-bounds (c .before .before .before .before .before .before .before .before .before .before .before .before .before .loop .inv) (c .before .before .before .before .before .before .before .before .before .before .before .before .before .before .before .before .before .element-of .ensures names) (c .before .before .before .before .before .before .before .before .before .value .ensures) (c .before .before .before .before .before .if4 .left) (c .before .before .before .before .before .before .before .before .before .value .kept .1 .1 .1 .0) in
+    omega (arith, numbers, c .before .before .before .before .before .before .before .before .before .before .before .before .before .loop .inv .each, c .before .before .before .before .before .before .before .before .before .before .before .before .before .loop .inv .inside, c .before .before .before .before .before .before .before .before .before .before .before .before .before .loop .inv .same, (c .before .before .before .before .before .before .before .before .before .before .before .before .before .before .before .before .before .before .before .before .before .before .before .before .pre .1 .0) .room)
 
 list-add-n : (t : ℕ) → list-lts.Need-add-n (list-calls t) (list-at t) list.Post list-Inv-loop list-μ-loop
 list-add-n t c =
-    let names = c .before .before .before .before .before .before .before .before .before .before .before .before .before .before .before .before .before .before .before .before .before .before .before .before .args .names .now in
-    let numbers = listing-bounds (c .before .before .before .before .before .before .before .before .before .before .before .before .before .loop .inv) (c .before .before .before .before .before .before .before .before .before .before .before .before .before .before .before .before .before .element-of .ensures names) (c .before .before .before .before .before .before .before .before .before .before .value .ensures) (c .before .before .before .before .before .before .if4 .left) (c .before .before .before .before .before .before .before .before .before .before .value .kept .1 .1 .1 .0) in
-    omega (arith, numbers, c .before .before .before .before .before .before .before .before .before .before .before .before .before .loop .inv .words, (c .before .before .before .before .before .before .before .before .before .before .before .before .before .before .before .before .before .before .before .before .before .before .before .before .pre .1 .0) .room)
+    let names = c .before .before .before .before .before .before .before .before .before .before .before .before .before .before .before .before .before .before .before .before .before .before .before .before .before .args .names .now in
+    let numbers = listing-bounds (c .before .before .before .before .before .before .before .before .before .before .before .before .before .before .loop .inv) (c .before .before .before .before .before .before .before .before .before .before .before .before .before .before .before .before .before .before .element-of .ensures names) (c .before .before .before .before .before .before .before .before .before .before .value .ensures) (c .before .before .before .before .before .before .if4 .left) (c .before .before .before .before .before .before .before .before .before .before .value .kept .1 .1 .1 .0) in
+    omega (arith, numbers, c .before .before .before .before .before .before .before .before .before .before .before .before .before .before .loop .inv .words, (c .before .before .before .before .before .before .before .before .before .before .before .before .before .before .before .before .before .before .before .before .before .before .before .before .before .pre .1 .0) .room)
 
 list-add-m : (t : ℕ) → list-lts.Need-add-m (list-calls t) (list-at t) list.Post list-Inv-loop list-μ-loop
 list-add-m t c =
-    let names = c .before .before .before .before .before .before .before .before .before .before .before .before .before .before .before .before .before .before .before .before .before .before .before .before .before .args .names .now in
-    let numbers = listing-bounds (c .before .before .before .before .before .before .before .before .before .before .before .before .before .before .loop .inv) (c .before .before .before .before .before .before .before .before .before .before .before .before .before .before .before .before .before .before .element-of .ensures names) (c .before .before .before .before .before .before .before .before .before .before .before .value .ensures) (c .before .before .before .before .before .before .before .if4 .left) (c .before .before .before .before .before .before .before .before .before .before .before .value .kept .1 .1 .1 .0) in
-    omega (arith, numbers, c .before .before .before .before .before .before .before .before .before .before .before .before .before .before .loop .inv .few, (c .before .before .before .before .before .before .before .before .before .before .before .before .before .before .before .before .before .before .before .before .before .before .before .before .before .pre .1 .0) .short)
+    let names = c .before .before .before .before .before .before .before .before .before .before .before .before .before .before .before .before .before .before .before .before .before .before .before .before .before .before .args .names .now in
+    let numbers = listing-bounds (c .before .before .before .before .before .before .before .before .before .before .before .before .before .before .before .loop .inv) (c .before .before .before .before .before .before .before .before .before .before .before .before .before .before .before .before .before .before .before .element-of .ensures names) (c .before .before .before .before .before .before .before .before .before .before .before .value .ensures) (c .before .before .before .before .before .before .before .if4 .left) (c .before .before .before .before .before .before .before .before .before .before .before .value .kept .1 .1 .1 .0) in
+    omega (arith, numbers, c .before .before .before .before .before .before .before .before .before .before .before .before .before .before .before .loop .inv .few, (c .before .before .before .before .before .before .before .before .before .before .before .before .before .before .before .before .before .before .before .before .before .before .before .before .before .before .pre .1 .0) .short)
 
 list-loop-less : (t : ℕ) → list-lts.Need-loop-less (list-calls t) (list-at t) list.Post list-Inv-loop list-μ-loop
 list-loop-less t c =
-    let names = c .before .before .before .before .before .before .before .before .before .before .before .before .before .before .before .before .before .before .before .before .before .before .before .before .before .args .names .now in
-    let numbers = listing-bounds (c .before .before .before .before .before .before .before .before .before .before .before .before .before .before .loop .inv) (c .before .before .before .before .before .before .before .before .before .before .before .before .before .before .before .before .before .before .element-of .ensures names) (c .before .before .before .before .before .before .before .before .before .before .before .value .ensures) (c .before .before .before .before .before .before .before .if4 .left) (c .before .before .before .before .before .before .before .before .before .before .before .value .kept .1 .1 .1 .0) in
-    omega (arith, numbers, c .before .before .before .before .before .before .space2 .ensures .1 .0, c .before .before .space3 .ensures .1 .0, c .before .before .before .before .before .before .before .before .before .before .before .before .before .if3 .left, (c .before .before .before .before .before .before .before .before .before .before .before .before .before .before .before .before .before .before .before .before .before .before .before .before .before .pre .1 .0) .short)
+    let names = c .before .before .before .before .before .before .before .before .before .before .before .before .before .before .before .before .before .before .before .before .before .before .before .before .before .before .args .names .now in
+    let numbers = listing-bounds (c .before .before .before .before .before .before .before .before .before .before .before .before .before .before .before .loop .inv) (c .before .before .before .before .before .before .before .before .before .before .before .before .before .before .before .before .before .before .before .element-of .ensures names) (c .before .before .before .before .before .before .before .before .before .before .before .value .ensures) (c .before .before .before .before .before .before .before .if4 .left) (c .before .before .before .before .before .before .before .before .before .before .before .value .kept .1 .1 .1 .0) in
+    omega (arith, numbers, c .before .before .before .before .before .before .space2 .ensures .1 .0, c .before .before .space3 .ensures .1 .0, c .before .before .before .before .before .before .before .before .before .before .before .before .before .before .if3 .left, (c .before .before .before .before .before .before .before .before .before .before .before .before .before .before .before .before .before .before .before .before .before .before .before .before .before .before .pre .1 .0) .short)
 
 list-loop-again : (t : ℕ) → list-lts.Need-loop-again (list-calls t) (list-at t) list.Post list-Inv-loop list-μ-loop
 list-loop-again t c =
-    let names = c .before .before .before .before .before .before .before .before .before .before .before .before .before .before .before .before .before .before .before .before .before .before .before .before .before .args .names .now in
-    listing-more (c .before .before .before .before .before .before .before .before .before .before .before .before .before .before .loop .inv) (c .before .before .before .before .before .before .before .before .before .before .before .before .before .before .before .before .before .before .element-of .ensures names) (c .before .before .before .before .before .before .before .before .before .before .before .value .ensures) (c .before .before .before .before .before .before .before .if4 .left) (c .before .before .before .before .before .before .before .before .before .before .before .value .kept .1 .1 .1 .0) (spaced (c .before .before .before .before .before .before .space2 .ensures .0) (c .before .before .before .before .before .before .space2 .ensures .1)) (c .before .before .before .before .before .byte-at3 .ensures .0) (c .before .before .before .if6 .left) (spaced (c .before .before .space3 .ensures .0) (c .before .before .space3 .ensures .1))
+    let names = c .before .before .before .before .before .before .before .before .before .before .before .before .before .before .before .before .before .before .before .before .before .before .before .before .before .before .args .names .now in
+    listing-more (c .before .before .before .before .before .before .before .before .before .before .before .before .before .before .before .loop .inv) (c .before .before .before .before .before .before .before .before .before .before .before .before .before .before .before .before .before .before .before .element-of .ensures names) (c .before .before .before .before .before .before .before .before .before .before .before .value .ensures) (c .before .before .before .before .before .before .before .if4 .left) (c .before .before .before .before .before .before .before .before .before .before .before .value .kept .1 .1 .1 .0) (spaced (c .before .before .before .before .before .before .space2 .ensures .0) (c .before .before .before .before .before .before .space2 .ensures .1)) (c .before .before .before .before .before .byte-at3 .ensures .0) (c .before .before .before .if6 .left) (spaced (c .before .before .space3 .ensures .0) (c .before .before .space3 .ensures .1))
 
 member-name-at-requires : (t : ℕ) → member-lts.Need-name-at-requires (member-calls t) (member-at t) member.Post
-member-name-at-requires t c κs = search needs
+member-name-at-requires t c κs =
+    let given = c .before .before .before .before .before .pre .1 .0 in
+    let distinct = given-distinct (c .before .before .before .before .before .pre .1 .0) in
+    (given .short, given .here, given .flags, distinct)
 
 member-no-step-requires : (t : ℕ) → member-lts.Need-no-step-requires (member-calls t) (member-at t) member.Post
 member-no-step-requires t c κs = search needs
@@ -645,7 +651,7 @@ member-returns-2 t c = (alike-same _ _ _, λ h. absurd (omega (arith, c .no-step
 
 member-skip-requires : (t : ℕ) → member-lts.Need-skip-requires (member-calls t) (member-at t) member.Post
 member-skip-requires t c κs =
-    let given = c .before .before .before .before .before .before .before .before .before .before .before .before .before .pre .1 .0 in
+    let given = c .before .before .before .before .before .before .before .before .before .before .before .before .before .before .pre .1 .0 in
     given .flags
 
 member-gave-requires : (t : ℕ) → member-lts.Need-gave-requires (member-calls t) (member-at t) member.Post
@@ -653,17 +659,17 @@ member-gave-requires t c κs = search needs
 
 member-returns-3 : (t : ℕ) → member-lts.Need-returns-3 (member-calls t) (member-at t) member.Post
 member-returns-3 t c =
-    let names = c .before .before .before .before .before .before .before .before .before .before .before .before .before .before .before .args .names .now in
-    let t = table (c .before .before .before .before .before .before .before .before .before .before .before .before .before .before .before .args .types .now) (c .before .before .before .before .before .before .before .before .before .before .before .before .before .before .before .args .names .now) in
-    let row = c .before .before .before .before .before .before .before .before .before .before .before .before .before .before .before .args .row in
+    let names = c .before .before .before .before .before .before .before .before .before .before .before .before .before .before .before .before .args .names .now in
+    let t = table (c .before .before .before .before .before .before .before .before .before .before .before .before .before .before .before .before .args .types .now) (c .before .before .before .before .before .before .before .before .before .before .before .before .before .before .before .before .args .names .now) in
+    let row = c .before .before .before .before .before .before .before .before .before .before .before .before .before .before .before .before .args .row in
     let named = c .before .before .before .before .before .before .before .before .before .before .name-at .ensures (omega (arith, c .before .before .before .before .before .before .before .before .if1 .left)) in
-    (alike-same _ _ _, step-passed named (omega (arith, c .before .before .before .before .before .if2 .taken, c .before .before .before .before .before .before .count-of .ensures names)) (spaced (c .before .before .before .before .before .before .before .space .ensures .0) (c .before .before .before .before .before .before .before .space .ensures .1)) (c .before .before .before .extensible .ensures t row (c .before .before .before .before .at .ensures names)) (not-false _ (c .before .before .if3 .left)) (c .before .skip .result) (c .before .skip .ensures) (c .gave .ensures) (c .before .before .before .before .before .before .before .before .before .before .before .before .before .before .before .pre .1 .1 .1))
+    (alike-same _ _ _, step-passed named (omega (arith, c .before .before .before .before .before .if2 .taken, c .before .before .before .before .before .before .count-of .ensures names)) (spaced (c .before .before .before .before .before .before .before .space .ensures .0) (c .before .before .before .before .before .before .before .space .ensures .1)) (c .before .before .before .extensible .ensures t row (c .before .before .before .before .at .ensures names)) (not-false _ (c .before .before .if3 .left)) (c .before .skip .result) (c .before .skip .ensures) (c .gave .ensures) (c .before .before .before .before .before .before .before .before .before .before .before .before .before .before .before .before .pre .1 .1 .1))
 
 member-bit-requires : (t : ℕ) → member-lts.Need-bit-requires (member-calls t) (member-at t) member.Post
 member-bit-requires t c κs =
-    let names = c .before .before .before .before .before .before .before .before .before .before .args .names .now in
-    let row = c .before .before .before .before .before .before .before .before .before .before .args .row in
-    let given = c .before .before .before .before .before .before .before .before .before .before .pre .1 .0 in
+    let names = c .before .before .before .before .before .before .before .before .before .before .before .args .names .now in
+    let row = c .before .before .before .before .before .before .before .before .before .before .before .args .row in
+    let given = c .before .before .before .before .before .before .before .before .before .before .before .pre .1 .0 in
     let known = known-at (c .if2 .left) (c .before .count-of .ensures names) in
     omega (arith, known, given .sane .few row (given .typed))
 
@@ -681,33 +687,36 @@ member-literal-null-requires t c κs = search needs
 
 member-with-requires : (t : ℕ) → member-lts.Need-with-requires (member-calls t) (member-at t) member.Post
 member-with-requires t c κs =
-    let names = c .before .before .before .before .before .before .before .before .before .before .before .before .before .before .before .args .names .now in
-    let row = c .before .before .before .before .before .before .before .before .before .before .before .before .before .before .before .args .row in
-    let given = c .before .before .before .before .before .before .before .before .before .before .before .before .before .before .before .pre .1 .0 in
+    let names = c .before .before .before .before .before .before .before .before .before .before .before .before .before .before .before .before .args .names .now in
+    let row = c .before .before .before .before .before .before .before .before .before .before .before .before .before .before .before .before .args .row in
+    let given = c .before .before .before .before .before .before .before .before .before .before .before .before .before .before .before .before .pre .1 .0 in
     let known = known-at (c .before .before .before .before .before .if2 .left) (c .before .before .before .before .before .before .count-of .ensures names) in
     omega (arith, known, given .sane .few row (given .typed))
+
+member-add-gave : (t : ℕ) → member-lts.Need-add-gave (member-calls t) (member-at t) member.Post
+member-add-gave t c = search needs
 
 member-gave-requires-2 : (t : ℕ) → member-lts.Need-gave-requires-2 (member-calls t) (member-at t) member.Post
 member-gave-requires-2 t c κs = search needs
 
 member-returns-5 : (t : ℕ) → member-lts.Need-returns-5 (member-calls t) (member-at t) member.Post
 member-returns-5 t c =
-    let names = c .before .before .before .before .before .before .before .before .before .before .before .before .before .before .before .before .before .args .names .now in
+    let names = c .before .before .before .before .before .before .before .before .before .before .before .before .before .before .before .before .before .before .args .names .now in
     let known = known-at (c .before .before .before .before .before .before .before .if2 .left) (c .before .before .before .before .before .before .before .before .count-of .ensures names) in
     let named = c .before .before .before .before .before .before .before .before .before .before .before .before .name-at .ensures (omega (arith, c .before .before .before .before .before .before .before .before .before .before .if1 .left)) in
-    (alike-same _ _ _, step-null named refl known (sym (c .before .before .before .before .before .before .bit .ensures) ∙ c .before .before .before .before .before .if4 .left) (spaced (c .before .before .before .before .before .before .before .before .before .space .ensures .0) (c .before .before .before .before .before .before .before .before .before .space .ensures .1)) (c .before .before .before .before .absent-at .ensures names) (c .before .before .before .if5 .taken) (c .before .before .literal-null .result) (c .before .before .literal-null .ensures) (c .before .with .ensures) (c .gave2 .ensures) (c .before .before .before .before .before .before .before .before .before .before .before .before .before .before .before .before .before .pre .1 .1 .1))
+    (alike-same _ _ _, step-null named refl known (sym (c .before .before .before .before .before .before .bit .ensures) ∙ c .before .before .before .before .before .if4 .left) (spaced (c .before .before .before .before .before .before .before .before .before .space .ensures .0) (c .before .before .before .before .before .before .before .before .before .space .ensures .1)) (c .before .before .before .before .absent-at .ensures names) (c .before .before .before .if5 .taken) (c .before .before .literal-null .result) (c .before .before .literal-null .ensures) (c .before .with .ensures) (c .gave2 .ensures) (c .before .before .before .before .before .before .before .before .before .before .before .before .before .before .before .before .before .before .pre .1 .1 .1))
 
 member-type-at-requires : (t : ℕ) → member-lts.Need-type-at-requires (member-calls t) (member-at t) member.Post
 member-type-at-requires t c κs = search needs
 
 member-value-requires : (t : ℕ) → member-lts.Need-value-requires (member-calls t) (member-at t) member.Post
 member-value-requires t c κs =
-    let names = c .before .before .before .before .before .before .before .before .before .before .before .before .before .before .before .before .args .names .now in
-    let s = c .before .before .before .before .before .before .before .before .before .before .before .before .before .before .before .before .args .s .now in
-    let given = c .before .before .before .before .before .before .before .before .before .before .before .before .before .before .before .before .pre .1 .0 in
-    let known = known-at (c .before .before .before .before .before .before .if2 .left) (c .before .before .before .before .before .before .before .count-of .ensures names) in
-    let named = c .before .before .before .before .before .before .before .before .before .before .before .name-at .ensures (omega (arith, c .before .before .before .before .before .before .before .before .before .if1 .left)) in
-    (omega arith, member-given given known (c .type-at .ensures names) (within-at s (c .before .before .before .before .before .before .before .before .space .ensures .1) (named .placed)))
+    let names = c .before .before .before .before .before .before .before .before .before .before .before .before .before .before .before .before .before .before .args .names .now in
+    let s = c .before .before .before .before .before .before .before .before .before .before .before .before .before .before .before .before .before .before .args .s .now in
+    let given = c .before .before .before .before .before .before .before .before .before .before .before .before .before .before .before .before .before .before .pre .1 .0 in
+    let known = known-at (c .before .before .before .before .before .before .before .if2 .left) (c .before .before .before .before .before .before .before .before .count-of .ensures names) in
+    let named = c .before .before .before .before .before .before .before .before .before .before .before .before .name-at .ensures (omega (arith, c .before .before .before .before .before .before .before .before .before .before .if1 .left)) in
+    (omega arith, member-given given known (c .type-at .ensures names) (within-at s (c .before .before .before .before .before .before .before .before .before .space .ensures .1) (named .placed)))
 
 member-no-step-requires-4 : (t : ℕ) → member-lts.Need-no-step-requires-4 (member-calls t) (member-at t) member.Post
 member-no-step-requires-4 t c κs = search needs
@@ -716,56 +725,59 @@ member-same-length : (t : ℕ) → member-lts.Need-same-length (member-calls t) 
 member-same-length t c = search needs
 
 member-returns-6 : (t : ℕ) → member-lts.Need-returns-6 (member-calls t) (member-at t) member.Post
-member-returns-6 t c = (alike-part 0 (c .before .before .before .before .before .before .before .before .before .before .before .before .before .before .before .before .before .before .before .before .before .before .args .top + 3) (c .before .before .before .before .before .value .ensures .kept) (omega arith) (omega (arith, c .before .before .before .before .before .before .before .before .before .before .before .before .before .before .before .before .before .before .before .before .before .before .pre .1 .1 .0)), λ h. absurd (omega (arith, c .no-step4 .ensures)))
+member-returns-6 t c = (alike-part 0 (c .before .before .before .before .before .before .before .before .before .before .before .before .before .before .before .before .before .before .before .before .before .before .before .before .args .top + 3) (c .before .before .before .before .before .value .ensures .kept) (omega arith) (omega (arith, c .before .before .before .before .before .before .before .before .before .before .before .before .before .before .before .before .before .before .before .before .before .before .before .before .pre .1 .1 .0)), λ h. absurd (omega (arith, c .no-step4 .ensures)))
 
 member-cast-tape : (t : ℕ) → member-lts.Need-cast-tape (member-calls t) (member-at t) member.Post
 member-cast-tape t c =
-    let given = c .before .before .before .before .before .before .before .before .before .before .before .before .before .before .before .before .before .before .before .before .before .pre .1 .0 in
+    let given = c .before .before .before .before .before .before .before .before .before .before .before .before .before .before .before .before .before .before .before .before .before .before .before .pre .1 .0 in
     omega (arith, given .start)
 
 member-add-tape : (t : ℕ) → member-lts.Need-add-tape (member-calls t) (member-at t) member.Post
 member-add-tape t c =
-    let given = c .before .before .before .before .before .before .before .before .before .before .before .before .before .before .before .before .before .before .before .before .before .pre .1 .0 in
-    omega (arith, given .start, c .before .before .before .before .before .before .before .before .before .before .before .before .before .before .before .before .before .before .before .before .before .pre .1 .1 .0)
+    let given = c .before .before .before .before .before .before .before .before .before .before .before .before .before .before .before .before .before .before .before .before .before .before .before .pre .1 .0 in
+    omega (arith, given .start, c .before .before .before .before .before .before .before .before .before .before .before .before .before .before .before .before .before .before .before .before .before .before .before .pre .1 .1 .0)
 
 member-wide-requires : (t : ℕ) → member-lts.Need-wide-requires (member-calls t) (member-at t) member.Post
 member-wide-requires t c κs = search needs
 
 member-add-tape-2 : (t : ℕ) → member-lts.Need-add-tape-2 (member-calls t) (member-at t) member.Post
 member-add-tape-2 t c =
-    let names = c .before .before .before .before .before .before .before .before .before .before .before .before .before .before .before .before .before .before .before .before .before .before .args .names .now in
-    let given = c .before .before .before .before .before .before .before .before .before .before .before .before .before .before .before .before .before .before .before .before .before .before .pre .1 .0 in
-    let known = known-at (c .before .before .before .before .before .before .before .before .before .before .before .before .if2 .left) (c .before .before .before .before .before .before .before .before .before .before .before .before .before .count-of .ensures names) in
-    omega (arith, given .start, c .before .before .before .before .before .before .before .before .before .before .before .before .before .before .before .before .before .before .before .before .before .before .pre .1 .1 .0, known, c .wide .ensures .0)
+    let names = c .before .before .before .before .before .before .before .before .before .before .before .before .before .before .before .before .before .before .before .before .before .before .before .before .args .names .now in
+    let given = c .before .before .before .before .before .before .before .before .before .before .before .before .before .before .before .before .before .before .before .before .before .before .before .before .pre .1 .0 in
+    let known = known-at (c .before .before .before .before .before .before .before .before .before .before .before .before .before .if2 .left) (c .before .before .before .before .before .before .before .before .before .before .before .before .before .before .count-of .ensures names) in
+    omega (arith, given .start, c .before .before .before .before .before .before .before .before .before .before .before .before .before .before .before .before .before .before .before .before .before .before .before .before .pre .1 .1 .0, known, c .wide .ensures .0)
 
 member-mul-tape : (t : ℕ) → member-lts.Need-mul-tape (member-calls t) (member-at t) member.Post
 member-mul-tape t c =
-    let names = c .before .before .before .before .before .before .before .before .before .before .before .before .before .before .before .before .before .before .before .before .before .before .args .names .now in
-    let given = c .before .before .before .before .before .before .before .before .before .before .before .before .before .before .before .before .before .before .before .before .before .before .pre .1 .0 in
-    let known = known-at (c .before .before .before .before .before .before .before .before .before .before .before .before .if2 .left) (c .before .before .before .before .before .before .before .before .before .before .before .before .before .count-of .ensures names) in
-    omega (arith, given .start, c .before .before .before .before .before .before .before .before .before .before .before .before .before .before .before .before .before .before .before .before .before .before .pre .1 .1 .0, known, c .wide .ensures .0)
+    let names = c .before .before .before .before .before .before .before .before .before .before .before .before .before .before .before .before .before .before .before .before .before .before .before .before .args .names .now in
+    let given = c .before .before .before .before .before .before .before .before .before .before .before .before .before .before .before .before .before .before .before .before .before .before .before .before .pre .1 .0 in
+    let known = known-at (c .before .before .before .before .before .before .before .before .before .before .before .before .before .if2 .left) (c .before .before .before .before .before .before .before .before .before .before .before .before .before .before .count-of .ensures names) in
+    omega (arith, given .start, c .before .before .before .before .before .before .before .before .before .before .before .before .before .before .before .before .before .before .before .before .before .before .before .before .pre .1 .1 .0, known, c .wide .ensures .0)
 
 member-slice-write-tape : (t : ℕ) → member-lts.Need-slice-write-tape (member-calls t) (member-at t) member.Post
 member-slice-write-tape t c =
-    let names = c .before .before .before .before .before .before .before .before .before .before .before .before .before .before .before .before .before .before .before .before .before .before .args .names .now in
-    let known = known-at (c .before .before .before .before .before .before .before .before .before .before .before .before .if2 .left) (c .before .before .before .before .before .before .before .before .before .before .before .before .before .count-of .ensures names) in
-    omega (arith, c .before .before .before .before .before .before .before .before .before .before .before .before .before .before .before .before .before .before .before .before .before .before .pre .1 .1 .0, c .before .before .before .before .before .before .before .before .before .before .before .before .before .before .before .before .before .before .before .before .before .before .pre .1 .1 .1, known, c .wide .ensures .0, c .before .before .before .before .before .value .kept .1 .1 .1 .0)
+    let names = c .before .before .before .before .before .before .before .before .before .before .before .before .before .before .before .before .before .before .before .before .before .before .before .before .args .names .now in
+    let known = known-at (c .before .before .before .before .before .before .before .before .before .before .before .before .before .if2 .left) (c .before .before .before .before .before .before .before .before .before .before .before .before .before .before .count-of .ensures names) in
+    omega (arith, c .before .before .before .before .before .before .before .before .before .before .before .before .before .before .before .before .before .before .before .before .before .before .before .before .pre .1 .1 .0, c .before .before .before .before .before .before .before .before .before .before .before .before .before .before .before .before .before .before .before .before .before .before .before .before .pre .1 .1 .1, known, c .wide .ensures .0, c .before .before .before .before .before .value .kept .1 .1 .1 .0)
 
 member-with-requires-2 : (t : ℕ) → member-lts.Need-with-requires-2 (member-calls t) (member-at t) member.Post
 member-with-requires-2 t c κs =
-    let names = c .before .before .before .before .before .before .before .before .before .before .before .before .before .before .before .before .before .before .before .before .before .before .args .names .now in
-    let row = c .before .before .before .before .before .before .before .before .before .before .before .before .before .before .before .before .before .before .before .before .before .before .args .row in
-    let given = c .before .before .before .before .before .before .before .before .before .before .before .before .before .before .before .before .before .before .before .before .before .before .pre .1 .0 in
-    let known = known-at (c .before .before .before .before .before .before .before .before .before .before .before .before .if2 .left) (c .before .before .before .before .before .before .before .before .before .before .before .before .before .count-of .ensures names) in
+    let names = c .before .before .before .before .before .before .before .before .before .before .before .before .before .before .before .before .before .before .before .before .before .before .before .before .args .names .now in
+    let row = c .before .before .before .before .before .before .before .before .before .before .before .before .before .before .before .before .before .before .before .before .before .before .before .before .args .row in
+    let given = c .before .before .before .before .before .before .before .before .before .before .before .before .before .before .before .before .before .before .before .before .before .before .before .before .pre .1 .0 in
+    let known = known-at (c .before .before .before .before .before .before .before .before .before .before .before .before .before .if2 .left) (c .before .before .before .before .before .before .before .before .before .before .before .before .before .before .count-of .ensures names) in
     omega (arith, known, given .sane .few row (given .typed))
 
 member-with-requires-3 : (t : ℕ) → member-lts.Need-with-requires-3 (member-calls t) (member-at t) member.Post
 member-with-requires-3 t c κs =
-    let names = c .before .before .before .before .before .before .before .before .before .before .before .before .before .before .before .before .before .before .before .before .before .before .before .args .names .now in
-    let row = c .before .before .before .before .before .before .before .before .before .before .before .before .before .before .before .before .before .before .before .before .before .before .before .args .row in
-    let given = c .before .before .before .before .before .before .before .before .before .before .before .before .before .before .before .before .before .before .before .before .before .before .before .pre .1 .0 in
-    let known = known-at (c .before .before .before .before .before .before .before .before .before .before .before .before .before .if2 .left) (c .before .before .before .before .before .before .before .before .before .before .before .before .before .before .count-of .ensures names) in
+    let names = c .before .before .before .before .before .before .before .before .before .before .before .before .before .before .before .before .before .before .before .before .before .before .before .before .before .args .names .now in
+    let row = c .before .before .before .before .before .before .before .before .before .before .before .before .before .before .before .before .before .before .before .before .before .before .before .before .before .args .row in
+    let given = c .before .before .before .before .before .before .before .before .before .before .before .before .before .before .before .before .before .before .before .before .before .before .before .before .before .pre .1 .0 in
+    let known = known-at (c .before .before .before .before .before .before .before .before .before .before .before .before .before .before .if2 .left) (c .before .before .before .before .before .before .before .before .before .before .before .before .before .before .before .count-of .ensures names) in
     omega (arith, known, given .sane .few row (given .typed))
+
+member-add-gave-2 : (t : ℕ) → member-lts.Need-add-gave-2 (member-calls t) (member-at t) member.Post
+member-add-gave-2 t c = search needs
 
 member-gave-requires-3 : (t : ℕ) → member-lts.Need-gave-requires-3 (member-calls t) (member-at t) member.Post
 member-gave-requires-3 t c κs = search needs
@@ -775,16 +787,16 @@ member-same-length-2 t c = search needs
 
 member-returns-7 : (t : ℕ) → member-lts.Need-returns-7 (member-calls t) (member-at t) member.Post
 member-returns-7 t c =
-    let names = c .before .before .before .before .before .before .before .before .before .before .before .before .before .before .before .before .before .before .before .before .before .before .before .before .before .args .names .now in
-    let known = known-at (c .before .before .before .before .before .before .before .before .before .before .before .before .before .before .before .if2 .left) (c .before .before .before .before .before .before .before .before .before .before .before .before .before .before .before .before .count-of .ensures names) in
-    let named = c .before .before .before .before .before .before .before .before .before .before .before .before .before .before .before .before .before .before .before .before .name-at .ensures (omega (arith, c .before .before .before .before .before .before .before .before .before .before .before .before .before .before .before .before .before .before .if1 .left)) in
-    (link-kept (c .before .before .before .before .before .before .before .before .before .before .before .before .before .before .before .before .before .before .before .before .before .before .before .before .before .args .top + 3) (c .before .before .before .wide .result) (c .before .before .before .before .before .before .before .before .value .ensures) (omega (arith, c .before .before .before .before .before .before .before .before .before .before .before .before .before .before .before .before .before .before .before .before .before .before .before .before .before .pre .1 .1 .0)), λ _. step-value named refl known (sym (c .before .before .before .before .before .before .before .before .before .before .before .before .before .before .bit .ensures) ∙ c .before .before .before .before .before .before .before .before .before .before .before .before .before .if4 .left) (spaced (c .before .before .before .before .before .before .before .before .before .before .before .before .before .before .before .before .before .space .ensures .0) (c .before .before .before .before .before .before .before .before .before .before .before .before .before .before .before .before .before .space .ensures .1)) (c .before .before .before .before .before .before .before .before .before .before .before .before .absent-at .ensures names) (c .before .before .before .before .before .before .before .before .before .before .before .if5 .left) (c .before .before .before .before .before .before .before .before .before .type-at .result) (c .before .before .before .wide .result) (c .before .before .before .before .before .before .before .before .value .result) (c .before .before .before .before .before .before .before .before .value .last .1 .1 .1 .0) (c .before .before .before .before .before .before .before .before .before .type-at .ensures names) (c .before .before .before .wide .ensures .0) (c .before .before .before .before .before .before .before .before .value .ensures) (c .before .before .before .before .if6 .left) (c .before .before .with2 .ensures) (c .before .with3 .ensures) (c .gave3 .ensures))
+    let names = c .before .before .before .before .before .before .before .before .before .before .before .before .before .before .before .before .before .before .before .before .before .before .before .before .before .before .before .args .names .now in
+    let known = known-at (c .before .before .before .before .before .before .before .before .before .before .before .before .before .before .before .before .if2 .left) (c .before .before .before .before .before .before .before .before .before .before .before .before .before .before .before .before .before .count-of .ensures names) in
+    let named = c .before .before .before .before .before .before .before .before .before .before .before .before .before .before .before .before .before .before .before .before .before .name-at .ensures (omega (arith, c .before .before .before .before .before .before .before .before .before .before .before .before .before .before .before .before .before .before .before .if1 .left)) in
+    (link-kept (c .before .before .before .before .before .before .before .before .before .before .before .before .before .before .before .before .before .before .before .before .before .before .before .before .before .before .before .args .top + 3) (c .before .before .before .wide .result) (c .before .before .before .before .before .before .before .before .value .ensures) (omega (arith, c .before .before .before .before .before .before .before .before .before .before .before .before .before .before .before .before .before .before .before .before .before .before .before .before .before .before .before .pre .1 .1 .0)), λ _. step-value named refl known (sym (c .before .before .before .before .before .before .before .before .before .before .before .before .before .before .before .bit .ensures) ∙ c .before .before .before .before .before .before .before .before .before .before .before .before .before .before .if4 .left) (spaced (c .before .before .before .before .before .before .before .before .before .before .before .before .before .before .before .before .before .before .space .ensures .0) (c .before .before .before .before .before .before .before .before .before .before .before .before .before .before .before .before .before .before .space .ensures .1)) (c .before .before .before .before .before .before .before .before .before .before .before .before .before .absent-at .ensures names) (c .before .before .before .before .before .before .before .before .before .before .before .before .if5 .left) (c .before .before .before .before .before .before .before .before .before .type-at .result) (c .before .before .before .wide .result) (c .before .before .before .before .before .before .before .before .value .result) (c .before .before .before .before .before .before .before .before .value .last .1 .1 .1 .0) (c .before .before .before .before .before .before .before .before .before .type-at .ensures names) (c .before .before .before .wide .ensures .0) (c .before .before .before .before .before .before .before .before .value .ensures) (c .before .before .before .before .if6 .left) (c .before .before .with2 .ensures) (c .before .with3 .ensures) (c .gave3 .ensures))
 
 abbrev object-Inv-loop : object-lts.InvT-loop
-object-Inv-loop types names s tape₀ flags row place top depth count end₀ at₀ met₀ present₀ n₀ m₀ tape end at met present n m = Objecting (table types names) s tape₀ tape depth row place top at end met present n m
+object-Inv-loop types names s tape₀ flags memo₀ row place top depth count end₀ at₀ met₀ present₀ due₀ n₀ m₀ tape memo end at met present due n m = Objecting (table types names) s tape₀ tape depth row place top at end met present n m
 
 abbrev object-μ-loop : object-lts.MeasureT-loop
-object-μ-loop types names s tape₀ flags row place top depth count end₀ at₀ met₀ present₀ n₀ m₀ tape end at met present n m = 65537 - at
+object-μ-loop types names s tape₀ flags memo₀ row place top depth count end₀ at₀ met₀ present₀ due₀ n₀ m₀ tape memo end at met present due n m = 65537 - at
 
 object-byte-at-requires : (t : ℕ) → object-lts.Need-byte-at-requires (object-calls t) (object-at t) object.Post object-Inv-loop object-μ-loop
 object-byte-at-requires t c κs = search needs
@@ -886,8 +898,8 @@ object-loop-holds t c =
 
 object-member-requires : (t : ℕ) → object-lts.Need-member-requires (object-calls t) (object-at t) object.Post object-Inv-loop object-μ-loop
 object-member-requires t c κs =
-    let given = c .before .before .before .before .before .before .before .before .before .before .before .before .before .before .before .before .before .before .pre .1 .0 in
-    (omega arith, (given-on given (c .before .loop .inv .same ∙ c .before .before .before .before .before .before .before .clear .kept .0) (c .before .loop .inv .here) (c .before .loop .inv .inside), (c .before .loop .inv .start, c .before .loop .inv .inside)))
+    let given = c .before .before .before .before .before .before .before .before .before .before .before .before .before .before .before .before .before .before .before .pre .1 .0 in
+    (omega arith, (given-on given (c .before .before .loop .inv .same ∙ c .before .before .before .before .before .before .before .before .clear .kept .0) (c .before .before .loop .inv .here) (c .before .before .loop .inv .inside), (c .before .before .loop .inv .start, c .before .before .loop .inv .inside)))
 
 object-other-requires-3 : (t : ℕ) → object-lts.Need-other-requires-3 (object-calls t) (object-at t) object.Post object-Inv-loop object-μ-loop
 object-other-requires-3 t c κs = search needs
@@ -897,12 +909,12 @@ object-same-length-2 t c = search needs
 
 object-returns-4 : (t : ℕ) → object-lts.Need-returns-4 (object-calls t) (object-at t) object.Post object-Inv-loop object-μ-loop
 object-returns-4 t c =
-    let t = table (c .before .before .before .before .before .before .before .before .before .before .before .before .before .before .before .before .before .before .before .before .before .before .before .before .args .types .now) (c .before .before .before .before .before .before .before .before .before .before .before .before .before .before .before .before .before .before .before .before .before .before .before .before .args .names .now) in
-    let s = c .before .before .before .before .before .before .before .before .before .before .before .before .before .before .before .before .before .before .before .before .before .before .before .before .args .s .now in
-    let row = c .before .before .before .before .before .before .before .before .before .before .before .before .before .before .before .before .before .before .before .before .before .before .before .before .args .row in
-    let place = c .before .before .before .before .before .before .before .before .before .before .before .before .before .before .before .before .before .before .before .before .before .before .before .before .args .place in
-    let top = c .before .before .before .before .before .before .before .before .before .before .before .before .before .before .before .before .before .before .before .before .before .before .before .before .args .top in
-    not-taken t s (c .before .before .before .before .before .before .before .before .before .before .before .before .before .before .before .before .before .before .before .before .before .before .before .before .args .tape .now) _ (c .before .before .before .before .before .before .before .before .before .before .before .before .before .before .before .before .before .before .before .before .before .before .before .before .args .depth + 1) row place top _ (alike-then _ _ _ 0 top (alike-part 0 top (c .before .before .before .before .before .before .before .before .before .before .before .before .before .clear .ensures .0) (omega arith) (omega arith)) (alike-then _ _ _ 0 top (c .before .before .before .before .before .before .before .loop .inv .kept) (alike-part 0 top (c .before .before .before .before .before .member .ensures .0) (omega arith) (omega arith)))) (c .other3 .ensures)
+    let t = table (c .before .before .before .before .before .before .before .before .before .before .before .before .before .before .before .before .before .before .before .before .before .before .before .before .before .args .types .now) (c .before .before .before .before .before .before .before .before .before .before .before .before .before .before .before .before .before .before .before .before .before .before .before .before .before .args .names .now) in
+    let s = c .before .before .before .before .before .before .before .before .before .before .before .before .before .before .before .before .before .before .before .before .before .before .before .before .before .args .s .now in
+    let row = c .before .before .before .before .before .before .before .before .before .before .before .before .before .before .before .before .before .before .before .before .before .before .before .before .before .args .row in
+    let place = c .before .before .before .before .before .before .before .before .before .before .before .before .before .before .before .before .before .before .before .before .before .before .before .before .before .args .place in
+    let top = c .before .before .before .before .before .before .before .before .before .before .before .before .before .before .before .before .before .before .before .before .before .before .before .before .before .args .top in
+    not-taken t s (c .before .before .before .before .before .before .before .before .before .before .before .before .before .before .before .before .before .before .before .before .before .before .before .before .before .args .tape .now) _ (c .before .before .before .before .before .before .before .before .before .before .before .before .before .before .before .before .before .before .before .before .before .before .before .before .before .args .depth + 1) row place top _ (alike-then _ _ _ 0 top (alike-part 0 top (c .before .before .before .before .before .before .before .before .before .before .before .before .before .before .clear .ensures .0) (omega arith) (omega arith)) (alike-then _ _ _ 0 top (c .before .before .before .before .before .before .before .before .loop .inv .kept) (alike-part 0 top (c .before .before .before .before .before .member .ensures .0) (omega arith) (omega arith)))) (c .other3 .ensures)
 
 object-space-requires-2 : (t : ℕ) → object-lts.Need-space-requires-2 (object-calls t) (object-at t) object.Post object-Inv-loop object-μ-loop
 object-space-requires-2 t c κs = search needs
@@ -912,62 +924,62 @@ object-byte-at-requires-3 t c κs = search needs
 
 object-add-shut-2 : (t : ℕ) → object-lts.Need-add-shut-2 (object-calls t) (object-at t) object.Post object-Inv-loop object-μ-loop
 object-add-shut-2 t c =
-    let given = c .before .before .before .before .before .before .before .before .before .before .before .before .before .before .before .before .before .before .before .before .before .before .before .before .before .before .before .before .pre .1 .0 in
+    let given = c .before .before .before .before .before .before .before .before .before .before .before .before .before .before .before .before .before .before .before .before .before .before .before .before .before .before .before .before .before .pre .1 .0 in
     let stepped = c .before .before .before .before .before .before .before .before .before .member .ensures .1 (omega (arith, c .before .before .before .before .before .if4 .left)) in
-    omega (arith, stepped .words, stepped .inside, c .before .before .before .before .before .before .before .before .before .member .kept .1 .1 .1 .0, c .before .before .before .before .before .before .before .before .before .before .before .loop .inv .same, c .before .before .before .before .before .before .before .before .before .before .before .before .before .before .before .before .before .clear .kept .0, c .before .before .before .before .before .before .before .before .before .before .before .loop .inv .words, given .room)
+    omega (arith, stepped .words, stepped .inside, c .before .before .before .before .before .before .before .before .before .member .kept .1 .1 .1 .0, c .before .before .before .before .before .before .before .before .before .before .before .before .loop .inv .same, c .before .before .before .before .before .before .before .before .before .before .before .before .before .before .before .before .before .before .clear .kept .0, c .before .before .before .before .before .before .before .before .before .before .before .before .loop .inv .words, given .room)
 
 object-add-shut-3 : (t : ℕ) → object-lts.Need-add-shut-3 (object-calls t) (object-at t) object.Post object-Inv-loop object-μ-loop
 object-add-shut-3 t c =
-    let given = c .before .before .before .before .before .before .before .before .before .before .before .before .before .before .before .before .before .before .before .before .before .before .before .before .before .before .before .before .before .pre .1 .0 in
+    let given = c .before .before .before .before .before .before .before .before .before .before .before .before .before .before .before .before .before .before .before .before .before .before .before .before .before .before .before .before .before .before .pre .1 .0 in
     let stepped = c .before .before .before .before .before .before .before .before .before .before .member .ensures .1 (omega (arith, c .before .before .before .before .before .before .if4 .left)) in
-    omega (arith, stepped .few, stepped .placed, c .before .before .before .before .before .before .before .before .before .before .before .before .loop .inv .few, given .short)
+    omega (arith, stepped .few, stepped .placed, c .before .before .before .before .before .before .before .before .before .before .before .before .before .loop .inv .few, given .short)
 
 object-add-shut-4 : (t : ℕ) → object-lts.Need-add-shut-4 (object-calls t) (object-at t) object.Post object-Inv-loop object-μ-loop
 object-add-shut-4 t c =
-    let brace = mark-inside (c .before .before .before .before .before .before .before .before .before .before .before .before .before .before .before .before .before .before .before .before .before .before .before .before .before .before .before .before .before .args .s .now) (c .before .before .before .before .before .space2 .result) (c .before .before .before .before .byte-at3 .result) 0x7D (c .before .before .before .before .byte-at3 .ensures .0) (c .before .before .before .if5 .taken) (omega arith) in
-    let given = c .before .before .before .before .before .before .before .before .before .before .before .before .before .before .before .before .before .before .before .before .before .before .before .before .before .before .before .before .before .pre .1 .0 in
+    let brace = mark-inside (c .before .before .before .before .before .before .before .before .before .before .before .before .before .before .before .before .before .before .before .before .before .before .before .before .before .before .before .before .before .before .args .s .now) (c .before .before .before .before .before .space2 .result) (c .before .before .before .before .byte-at3 .result) 0x7D (c .before .before .before .before .byte-at3 .ensures .0) (c .before .before .before .if5 .taken) (omega arith) in
+    let given = c .before .before .before .before .before .before .before .before .before .before .before .before .before .before .before .before .before .before .before .before .before .before .before .before .before .before .before .before .before .before .pre .1 .0 in
     omega (arith, brace, given .short)
 
 object-shut-requires-2 : (t : ℕ) → object-lts.Need-shut-requires-2 (object-calls t) (object-at t) object.Post object-Inv-loop object-μ-loop
 object-shut-requires-2 t c κs =
-    let names = c .before .before .before .before .before .before .before .before .before .before .before .before .before .before .before .before .before .before .before .before .before .before .before .before .before .before .before .before .before .args .names .now in
-    let row = c .before .before .before .before .before .before .before .before .before .before .before .before .before .before .before .before .before .before .before .before .before .before .before .before .before .before .before .before .before .args .row in
-    let given = c .before .before .before .before .before .before .before .before .before .before .before .before .before .before .before .before .before .before .before .before .before .before .before .before .before .before .before .before .before .pre .1 .0 in
+    let names = c .before .before .before .before .before .before .before .before .before .before .before .before .before .before .before .before .before .before .before .before .before .before .before .before .before .before .before .before .before .before .args .names .now in
+    let row = c .before .before .before .before .before .before .before .before .before .before .before .before .before .before .before .before .before .before .before .before .before .before .before .before .before .before .before .before .before .before .args .row in
+    let given = c .before .before .before .before .before .before .before .before .before .before .before .before .before .before .before .before .before .before .before .before .before .before .before .before .before .before .before .before .before .before .pre .1 .0 in
     let stepped = c .before .before .before .before .before .before .before .before .before .before .member .ensures .1 (omega (arith, c .before .before .before .before .before .before .if4 .left)) in
-    (shuts-any (c .before .before .before .before .before .before .before .before .before .before .before .before .before .before .before .before .before .before .before .before .before .before .before .before .before .before .before .before .before .args .types .now) names row _ _ (shuts-after (objecting-after (c .before .before .before .before .before .before .before .before .before .before .before .before .loop .inv) (given .sane) (given .typed) stepped (c .before .before .before .before .before .before .before .before .before .before .member .kept .1 .1 .1 .0) (c .before .before .before .before .before .before .before .before .before .before .member .ensures .0) (c .before .before .before .before .before .space2 .ensures .0)) (given .sane) (given .typed) (omega (arith, stepped .words, stepped .inside, c .before .before .before .before .before .before .before .before .before .before .member .kept .1 .1 .1 .0, c .before .before .before .before .before .before .before .before .before .before .before .before .loop .inv .same, c .before .before .before .before .before .before .before .before .before .before .before .before .before .before .before .before .before .before .clear .kept .0, c .before .before .before .before .before .before .before .before .before .before .before .before .loop .inv .words, given .room))), omega (arith, c .before .before .before .before .before .before .before .before .before .before .member .kept .1 .1 .1 .0, c .before .before .before .before .before .before .before .before .before .before .before .before .loop .inv .start, c .before .before .before .before .before .before .before .before .before .before .before .before .loop .inv .inside), omega (arith, stepped .inside, c .before .before .before .before .before .before .before .before .before .before .member .kept .1 .1 .1 .0, c .before .before .before .before .before .before .before .before .before .before .before .before .loop .inv .same, c .before .before .before .before .before .before .before .before .before .before .before .before .before .before .before .before .before .before .clear .kept .0, given .room))
+    (shuts-any (c .before .before .before .before .before .before .before .before .before .before .before .before .before .before .before .before .before .before .before .before .before .before .before .before .before .before .before .before .before .before .args .types .now) names row _ _ (shuts-after (objecting-after (c .before .before .before .before .before .before .before .before .before .before .before .before .before .loop .inv) (given .sane) (given .typed) stepped (c .before .before .before .before .before .before .before .before .before .before .member .kept .1 .1 .1 .0) (c .before .before .before .before .before .before .before .before .before .before .member .ensures .0) (c .before .before .before .before .before .space2 .ensures .0)) (given .sane) (given .typed) (omega (arith, stepped .words, stepped .inside, c .before .before .before .before .before .before .before .before .before .before .member .kept .1 .1 .1 .0, c .before .before .before .before .before .before .before .before .before .before .before .before .before .loop .inv .same, c .before .before .before .before .before .before .before .before .before .before .before .before .before .before .before .before .before .before .before .clear .kept .0, c .before .before .before .before .before .before .before .before .before .before .before .before .before .loop .inv .words, given .room))), omega (arith, c .before .before .before .before .before .before .before .before .before .before .member .kept .1 .1 .1 .0, c .before .before .before .before .before .before .before .before .before .before .before .before .before .loop .inv .start, c .before .before .before .before .before .before .before .before .before .before .before .before .before .loop .inv .inside), omega (arith, stepped .inside, c .before .before .before .before .before .before .before .before .before .before .member .kept .1 .1 .1 .0, c .before .before .before .before .before .before .before .before .before .before .before .before .before .loop .inv .same, c .before .before .before .before .before .before .before .before .before .before .before .before .before .before .before .before .before .before .before .clear .kept .0, given .room))
 
 object-same-length-3 : (t : ℕ) → object-lts.Need-same-length-3 (object-calls t) (object-at t) object.Post object-Inv-loop object-μ-loop
-object-same-length-3 t c = c .before .before .shut2 .kept .1 .0 ∙ c .before .before .before .before .before .before .before .before .before .before .before .before .before .member .kept .1 .1 .1 .0 ∙ c .before .before .before .before .before .before .before .before .before .before .before .before .before .before .before .loop .inv .same ∙ c .before .before .before .before .before .before .before .before .before .before .before .before .before .before .before .before .before .before .before .before .before .clear .kept .0
+object-same-length-3 t c = c .before .before .shut2 .kept .1 .0 ∙ c .before .before .before .before .before .before .before .before .before .before .before .before .before .member .kept .1 .1 .1 .0 ∙ c .before .before .before .before .before .before .before .before .before .before .before .before .before .before .before .before .loop .inv .same ∙ c .before .before .before .before .before .before .before .before .before .before .before .before .before .before .before .before .before .before .before .before .before .before .clear .kept .0
 
 object-returns-5 : (t : ℕ) → object-lts.Need-returns-5 (object-calls t) (object-at t) object.Post object-Inv-loop object-μ-loop
 object-returns-5 t c =
-    let names = c .before .before .before .before .before .before .before .before .before .before .before .before .before .before .before .before .before .before .before .before .before .before .before .before .before .before .before .before .before .before .before .before .args .names .now in
-    let top = c .before .before .before .before .before .before .before .before .before .before .before .before .before .before .before .before .before .before .before .before .before .before .before .before .before .before .before .before .before .before .before .before .args .top in
-    let given = c .before .before .before .before .before .before .before .before .before .before .before .before .before .before .before .before .before .before .before .before .before .before .before .before .before .before .before .before .before .before .before .before .pre .1 .0 in
+    let names = c .before .before .before .before .before .before .before .before .before .before .before .before .before .before .before .before .before .before .before .before .before .before .before .before .before .before .before .before .before .before .before .before .before .args .names .now in
+    let top = c .before .before .before .before .before .before .before .before .before .before .before .before .before .before .before .before .before .before .before .before .before .before .before .before .before .before .before .before .before .before .before .before .before .args .top in
+    let given = c .before .before .before .before .before .before .before .before .before .before .before .before .before .before .before .before .before .before .before .before .before .before .before .before .before .before .before .before .before .before .before .before .before .pre .1 .0 in
     let step = c .before .before .before .before .before .before .before .before .before .before .before .before .before .member .ensures .1 (omega (arith, c .before .before .before .before .before .before .before .before .before .if4 .left)) in
-    let before = alike-part 0 top (c .before .before .before .before .before .before .before .before .before .before .before .before .before .before .before .before .before .before .before .before .before .clear .ensures .0) (omega arith) (omega arith) in
-    walked-from before (walked-if (alike-then _ _ _ 0 top (alike-then _ _ _ 0 top (c .before .before .before .before .before .before .before .before .before .before .before .before .before .before .before .loop .inv .kept) (alike-part 0 top (c .before .before .before .before .before .before .before .before .before .before .before .before .before .member .ensures .0) (omega arith) (omega arith))) (c .before .before .shut2 .ensures .0))
-    (λ h. objecting-last (c .before .before .before .before .before .before .before .before .before .before .before .before .before .before .before .loop .inv) (given .sane) (given .typed) step (c .before .before .before .before .before .before .before .before .before .before .before .before .before .member .kept .1 .1 .1 .0) (c .before .before .before .before .before .before .before .before .before .before .before .before .before .member .ensures .0) (c .before .before .before .before .before .before .before .before .space2 .ensures .0) (c .before .before .before .before .before .before .before .before .before .before .before .before .before .before .before .before .before .before .before .before .before .before .before .before .before .before .before .before .before .before .before .before .pre .1 .1 .0) (c .before .before .before .before .before .before .before .before .before .before .before .before .before .before .before .before .before .before .before .before .before .before .before .before .before .before .before .before .before .before .before .before .pre .1 .1 .1) (c .before .before .before .before .before .before .before .before .before .before .before .before .before .before .before .before .before .before .before .before .before .before .before .before .before .before .before .byte-at .ensures .0) (c .before .before .before .before .before .before .before .before .before .before .before .before .before .before .before .before .before .before .before .before .before .before .before .before .before .before .if1 .left) (c .before .before .before .before .before .before .before .byte-at3 .ensures .0) (c .before .before .before .before .before .before .if5 .taken) (c .before .before .before .before .before .before .before .before .space2 .ensures .1 .0) (c .before .before .shut2 .ensures .1 h names)))
+    let before = alike-part 0 top (c .before .before .before .before .before .before .before .before .before .before .before .before .before .before .before .before .before .before .before .before .before .before .clear .ensures .0) (omega arith) (omega arith) in
+    walked-from before (walked-if (alike-then _ _ _ 0 top (alike-then _ _ _ 0 top (c .before .before .before .before .before .before .before .before .before .before .before .before .before .before .before .before .loop .inv .kept) (alike-part 0 top (c .before .before .before .before .before .before .before .before .before .before .before .before .before .member .ensures .0) (omega arith) (omega arith))) (c .before .before .shut2 .ensures .0))
+    (λ h. objecting-last (c .before .before .before .before .before .before .before .before .before .before .before .before .before .before .before .before .loop .inv) (given .sane) (given .typed) step (c .before .before .before .before .before .before .before .before .before .before .before .before .before .member .kept .1 .1 .1 .0) (c .before .before .before .before .before .before .before .before .before .before .before .before .before .member .ensures .0) (c .before .before .before .before .before .before .before .before .space2 .ensures .0) (c .before .before .before .before .before .before .before .before .before .before .before .before .before .before .before .before .before .before .before .before .before .before .before .before .before .before .before .before .before .before .before .before .before .pre .1 .1 .0) (c .before .before .before .before .before .before .before .before .before .before .before .before .before .before .before .before .before .before .before .before .before .before .before .before .before .before .before .before .before .before .before .before .before .pre .1 .1 .1) (c .before .before .before .before .before .before .before .before .before .before .before .before .before .before .before .before .before .before .before .before .before .before .before .before .before .before .before .before .byte-at .ensures .0) (c .before .before .before .before .before .before .before .before .before .before .before .before .before .before .before .before .before .before .before .before .before .before .before .before .before .before .before .if1 .left) (c .before .before .before .before .before .before .before .byte-at3 .ensures .0) (c .before .before .before .before .before .before .if5 .taken) (c .before .before .before .before .before .before .before .before .space2 .ensures .1 .0) (c .before .before .shut2 .ensures .1 h names)))
 
 object-other-requires-4 : (t : ℕ) → object-lts.Need-other-requires-4 (object-calls t) (object-at t) object.Post object-Inv-loop object-μ-loop
 object-other-requires-4 t c κs = search needs
 
 object-same-length-4 : (t : ℕ) → object-lts.Need-same-length-4 (object-calls t) (object-at t) object.Post object-Inv-loop object-μ-loop
-object-same-length-4 t c = search needs
+object-same-length-4 t c = c .before .before .before .before .before .before .before .before .before .member .kept .1 .1 .1 .0 ∙ c .before .before .before .before .before .before .before .before .before .before .before .before .loop .inv .same ∙ c .before .before .before .before .before .before .before .before .before .before .before .before .before .before .before .before .before .before .clear .kept .0
 
 object-returns-6 : (t : ℕ) → object-lts.Need-returns-6 (object-calls t) (object-at t) object.Post object-Inv-loop object-μ-loop
 object-returns-6 t c =
-    let t = table (c .before .before .before .before .before .before .before .before .before .before .before .before .before .before .before .before .before .before .before .before .before .before .before .before .before .before .before .before .args .types .now) (c .before .before .before .before .before .before .before .before .before .before .before .before .before .before .before .before .before .before .before .before .before .before .before .before .before .before .before .before .args .names .now) in
-    let s = c .before .before .before .before .before .before .before .before .before .before .before .before .before .before .before .before .before .before .before .before .before .before .before .before .before .before .before .before .args .s .now in
-    let row = c .before .before .before .before .before .before .before .before .before .before .before .before .before .before .before .before .before .before .before .before .before .before .before .before .before .before .before .before .args .row in
-    let place = c .before .before .before .before .before .before .before .before .before .before .before .before .before .before .before .before .before .before .before .before .before .before .before .before .before .before .before .before .args .place in
-    let top = c .before .before .before .before .before .before .before .before .before .before .before .before .before .before .before .before .before .before .before .before .before .before .before .before .before .before .before .before .args .top in
-    not-taken t s (c .before .before .before .before .before .before .before .before .before .before .before .before .before .before .before .before .before .before .before .before .before .before .before .before .before .before .before .before .args .tape .now) _ (c .before .before .before .before .before .before .before .before .before .before .before .before .before .before .before .before .before .before .before .before .before .before .before .before .before .before .before .before .args .depth + 1) row place top _ (alike-then _ _ _ 0 top (alike-part 0 top (c .before .before .before .before .before .before .before .before .before .before .before .before .before .before .before .before .before .clear .ensures .0) (omega arith) (omega arith)) (alike-then _ _ _ 0 top (c .before .before .before .before .before .before .before .before .before .before .before .loop .inv .kept) (alike-part 0 top (c .before .before .before .before .before .before .before .before .before .member .ensures .0) (omega arith) (omega arith)))) (c .other4 .ensures)
+    let t = table (c .before .before .before .before .before .before .before .before .before .before .before .before .before .before .before .before .before .before .before .before .before .before .before .before .before .before .before .before .before .args .types .now) (c .before .before .before .before .before .before .before .before .before .before .before .before .before .before .before .before .before .before .before .before .before .before .before .before .before .before .before .before .before .args .names .now) in
+    let s = c .before .before .before .before .before .before .before .before .before .before .before .before .before .before .before .before .before .before .before .before .before .before .before .before .before .before .before .before .before .args .s .now in
+    let row = c .before .before .before .before .before .before .before .before .before .before .before .before .before .before .before .before .before .before .before .before .before .before .before .before .before .before .before .before .before .args .row in
+    let place = c .before .before .before .before .before .before .before .before .before .before .before .before .before .before .before .before .before .before .before .before .before .before .before .before .before .before .before .before .before .args .place in
+    let top = c .before .before .before .before .before .before .before .before .before .before .before .before .before .before .before .before .before .before .before .before .before .before .before .before .before .before .before .before .before .args .top in
+    not-taken t s (c .before .before .before .before .before .before .before .before .before .before .before .before .before .before .before .before .before .before .before .before .before .before .before .before .before .before .before .before .before .args .tape .now) _ (c .before .before .before .before .before .before .before .before .before .before .before .before .before .before .before .before .before .before .before .before .before .before .before .before .before .before .before .before .before .args .depth + 1) row place top _ (alike-then _ _ _ 0 top (alike-part 0 top (c .before .before .before .before .before .before .before .before .before .before .before .before .before .before .before .before .before .before .clear .ensures .0) (omega arith) (omega arith)) (alike-then _ _ _ 0 top (c .before .before .before .before .before .before .before .before .before .before .before .before .loop .inv .kept) (alike-part 0 top (c .before .before .before .before .before .before .before .before .before .member .ensures .0) (omega arith) (omega arith)))) (c .other4 .ensures)
 
 object-add-space-2 : (t : ℕ) → object-lts.Need-add-space-2 (object-calls t) (object-at t) object.Post object-Inv-loop object-μ-loop
 object-add-space-2 t c =
-    let comma = mark-inside (c .before .before .before .before .before .before .before .before .before .before .before .before .before .before .before .before .before .before .before .before .before .before .before .before .before .before .before .args .s .now) (c .before .before .before .space2 .result) (c .before .before .byte-at3 .result) 0x2C (c .before .before .byte-at3 .ensures .0) (c .if6 .left) (omega arith) in
-    let given = c .before .before .before .before .before .before .before .before .before .before .before .before .before .before .before .before .before .before .before .before .before .before .before .before .before .before .before .pre .1 .0 in
+    let comma = mark-inside (c .before .before .before .before .before .before .before .before .before .before .before .before .before .before .before .before .before .before .before .before .before .before .before .before .before .before .before .before .args .s .now) (c .before .before .before .space2 .result) (c .before .before .byte-at3 .result) 0x2C (c .before .before .byte-at3 .ensures .0) (c .if6 .left) (omega arith) in
+    let given = c .before .before .before .before .before .before .before .before .before .before .before .before .before .before .before .before .before .before .before .before .before .before .before .before .before .before .before .before .pre .1 .0 in
     omega (arith, comma, given .short)
 
 object-space-requires-3 : (t : ℕ) → object-lts.Need-space-requires-3 (object-calls t) (object-at t) object.Post object-Inv-loop object-μ-loop
@@ -975,28 +987,28 @@ object-space-requires-3 t c κs = search needs
 
 object-add-n : (t : ℕ) → object-lts.Need-add-n (object-calls t) (object-at t) object.Post object-Inv-loop object-μ-loop
 object-add-n t c =
-    let given = c .before .before .before .before .before .before .before .before .before .before .before .before .before .before .before .before .before .before .before .before .before .before .before .before .before .before .before .before .before .pre .1 .0 in
+    let given = c .before .before .before .before .before .before .before .before .before .before .before .before .before .before .before .before .before .before .before .before .before .before .before .before .before .before .before .before .before .before .pre .1 .0 in
     let stepped = c .before .before .before .before .before .before .before .before .before .before .member .ensures .1 (omega (arith, c .before .before .before .before .before .before .if4 .left)) in
-    omega (arith, stepped .words, stepped .inside, c .before .before .before .before .before .before .before .before .before .before .member .kept .1 .1 .1 .0, c .before .before .before .before .before .before .before .before .before .before .before .before .loop .inv .same, c .before .before .before .before .before .before .before .before .before .before .before .before .before .before .before .before .before .before .clear .kept .0, c .before .before .before .before .before .before .before .before .before .before .before .before .loop .inv .words, given .room)
+    omega (arith, stepped .words, stepped .inside, c .before .before .before .before .before .before .before .before .before .before .member .kept .1 .1 .1 .0, c .before .before .before .before .before .before .before .before .before .before .before .before .before .loop .inv .same, c .before .before .before .before .before .before .before .before .before .before .before .before .before .before .before .before .before .before .before .clear .kept .0, c .before .before .before .before .before .before .before .before .before .before .before .before .before .loop .inv .words, given .room)
 
 object-add-m : (t : ℕ) → object-lts.Need-add-m (object-calls t) (object-at t) object.Post object-Inv-loop object-μ-loop
 object-add-m t c =
-    let given = c .before .before .before .before .before .before .before .before .before .before .before .before .before .before .before .before .before .before .before .before .before .before .before .before .before .before .before .before .before .before .pre .1 .0 in
+    let given = c .before .before .before .before .before .before .before .before .before .before .before .before .before .before .before .before .before .before .before .before .before .before .before .before .before .before .before .before .before .before .before .pre .1 .0 in
     let stepped = c .before .before .before .before .before .before .before .before .before .before .before .member .ensures .1 (omega (arith, c .before .before .before .before .before .before .before .if4 .left)) in
-    omega (arith, stepped .few, stepped .placed, c .before .before .before .before .before .before .before .before .before .before .before .before .before .loop .inv .few, given .short)
+    omega (arith, stepped .few, stepped .placed, c .before .before .before .before .before .before .before .before .before .before .before .before .before .before .loop .inv .few, given .short)
 
 object-loop-less : (t : ℕ) → object-lts.Need-loop-less (object-calls t) (object-at t) object.Post object-Inv-loop object-μ-loop
 object-loop-less t c =
-    let given = c .before .before .before .before .before .before .before .before .before .before .before .before .before .before .before .before .before .before .before .before .before .before .before .before .before .before .before .before .before .before .pre .1 .0 in
+    let given = c .before .before .before .before .before .before .before .before .before .before .before .before .before .before .before .before .before .before .before .before .before .before .before .before .before .before .before .before .before .before .before .pre .1 .0 in
     let stepped = c .before .before .before .before .before .before .before .before .before .before .before .member .ensures .1 (omega (arith, c .before .before .before .before .before .before .before .if4 .left)) in
-    omega (arith, stepped .ahead, c .before .before .before .before .before .before .space2 .ensures .1 .0, c .before .before .space3 .ensures .1 .0, c .before .before .before .before .before .before .before .before .before .before .before .before .before .loop .inv .here, given .short)
+    omega (arith, stepped .ahead, c .before .before .before .before .before .before .space2 .ensures .1 .0, c .before .before .space3 .ensures .1 .0, c .before .before .before .before .before .before .before .before .before .before .before .before .before .before .loop .inv .here, given .short)
 
 object-loop-again : (t : ℕ) → object-lts.Need-loop-again (object-calls t) (object-at t) object.Post object-Inv-loop object-μ-loop
 object-loop-again t c =
-    let s = c .before .before .before .before .before .before .before .before .before .before .before .before .before .before .before .before .before .before .before .before .before .before .before .before .before .before .before .before .before .before .args .s .now in
-    let given = c .before .before .before .before .before .before .before .before .before .before .before .before .before .before .before .before .before .before .before .before .before .before .before .before .before .before .before .before .before .before .pre .1 .0 in
+    let s = c .before .before .before .before .before .before .before .before .before .before .before .before .before .before .before .before .before .before .before .before .before .before .before .before .before .before .before .before .before .before .before .args .s .now in
+    let given = c .before .before .before .before .before .before .before .before .before .before .before .before .before .before .before .before .before .before .before .before .before .before .before .before .before .before .before .before .before .before .before .pre .1 .0 in
     let stepped = c .before .before .before .before .before .before .before .before .before .before .before .member .ensures .1 (omega (arith, c .before .before .before .before .before .before .before .if4 .left)) in
-    objecting-more (c .before .before .before .before .before .before .before .before .before .before .before .before .before .loop .inv) (given .sane) (given .typed) stepped (c .before .before .before .before .before .before .before .before .before .before .before .member .kept .1 .1 .1 .0) (c .before .before .before .before .before .before .before .before .before .before .before .member .ensures .0) (c .before .before .before .before .before .before .space2 .ensures .0) (c .before .before .before .before .before .byte-at3 .ensures .0) (c .before .before .before .if6 .left) (c .before .before .before .before .before .before .space2 .ensures .1 .0) (c .before .before .space3 .ensures .0) (c .before .before .space3 .ensures .1 .0) (within-at (c .before .before .before .before .before .before .before .before .before .before .before .before .before .before .before .before .before .before .before .before .before .before .before .before .before .before .before .before .before .before .args .s .now) (c .before .before .space3 .ensures .1) (omega (arith, mark-inside s (c .before .before .before .before .before .before .space2 .result) (c .before .before .before .before .before .byte-at3 .result) 0x2C (c .before .before .before .before .before .byte-at3 .ensures .0) (c .before .before .before .if6 .left) (omega arith))))
+    objecting-more (c .before .before .before .before .before .before .before .before .before .before .before .before .before .before .loop .inv) (given .sane) (given .typed) stepped (c .before .before .before .before .before .before .before .before .before .before .before .member .kept .1 .1 .1 .0) (c .before .before .before .before .before .before .before .before .before .before .before .member .ensures .0) (c .before .before .before .before .before .before .space2 .ensures .0) (c .before .before .before .before .before .byte-at3 .ensures .0) (c .before .before .before .if6 .left) (c .before .before .before .before .before .before .space2 .ensures .1 .0) (c .before .before .space3 .ensures .0) (c .before .before .space3 .ensures .1 .0) (within-at (c .before .before .before .before .before .before .before .before .before .before .before .before .before .before .before .before .before .before .before .before .before .before .before .before .before .before .before .before .before .before .before .args .s .now) (c .before .before .space3 .ensures .1) (omega (arith, mark-inside s (c .before .before .before .before .before .before .space2 .result) (c .before .before .before .before .before .byte-at3 .result) 0x2C (c .before .before .before .before .before .byte-at3 .ensures .0) (c .before .before .before .if6 .left) (omega arith))))
 
 picked-add-if1 : (t : ℕ) → picked-lts.Need-add-if1 (picked-calls t) (picked-at t) picked.Post
 picked-add-if1 t c = search needs
@@ -1045,14 +1057,14 @@ picked-add-plain t c = search needs
 
 picked-plain-requires : (t : ℕ) → picked-lts.Need-plain-requires (picked-calls t) (picked-at t) picked.Post
 picked-plain-requires t c κs =
-    let names = c .before .before .before .before .before .before .before .before .before .before .before .before .args .names .now in
-    let t = table (c .before .before .before .before .before .before .before .before .before .before .before .before .args .types .now) (c .before .before .before .before .before .before .before .before .before .before .before .before .args .names .now) in
-    let s = c .before .before .before .before .before .before .before .before .before .before .before .before .args .s .now in
-    let row = c .before .before .before .before .before .before .before .before .before .before .before .before .args .row in
-    let place = c .before .before .before .before .before .before .before .before .before .before .before .before .args .place in
-    let given = c .before .before .before .before .before .before .before .before .before .before .before .before .pre .1 .0 in
-    let pick = sym (c .before .before .before .k .given .1) ∙ c .before .before .before .before .before .alternative .ensures names (tokenAt (c .before .before .before .before .before .before .before .before .before .before .before .before .args .s .now) (c .before .before .before .before .before .before .before .before .before .before .before .before .args .place)) (c .before .before .before .before .before .before .token-at .ensures) in
-    (omega arith, (picked-given t s row place (c .before .before .before .k .given .0 .0) (given .sane) (c .before .before .before .before .before .before .before .before .before .before .before .before .pre .1 .1) pick given (c .type-at .ensures names) (omega (arith, c .before .before .before .before .before .before .before .if1 .left)), rw (c .type-at .ensures names) (picked-plain t s row place (c .before .before .before .k .given .0 .0) (given .sane) (c .before .before .before .before .before .before .before .before .before .before .before .before .pre .1 .1) pick)))
+    let names = c .before .before .before .before .before .before .before .before .before .before .before .before .before .args .names .now in
+    let t = table (c .before .before .before .before .before .before .before .before .before .before .before .before .before .args .types .now) (c .before .before .before .before .before .before .before .before .before .before .before .before .before .args .names .now) in
+    let s = c .before .before .before .before .before .before .before .before .before .before .before .before .before .args .s .now in
+    let row = c .before .before .before .before .before .before .before .before .before .before .before .before .before .args .row in
+    let place = c .before .before .before .before .before .before .before .before .before .before .before .before .before .args .place in
+    let given = c .before .before .before .before .before .before .before .before .before .before .before .before .before .pre .1 .0 in
+    let pick = sym (c .before .before .before .before .k .given .1) ∙ c .before .before .before .before .before .before .alternative .ensures names (tokenAt (c .before .before .before .before .before .before .before .before .before .before .before .before .before .args .s .now) (c .before .before .before .before .before .before .before .before .before .before .before .before .before .args .place)) (c .before .before .before .before .before .before .before .token-at .ensures) in
+    (omega arith, (picked-given t s row place (c .before .before .before .before .k .given .0 .0) (given .sane) (c .before .before .before .before .before .before .before .before .before .before .before .before .before .pre .1 .1) pick given (c .type-at .ensures names) (omega (arith, c .before .before .before .before .before .before .before .before .if1 .left)), rw (c .type-at .ensures names) (picked-plain t s row place (c .before .before .before .before .k .given .0 .0) (given .sane) (c .before .before .before .before .before .before .before .before .before .before .before .before .before .pre .1 .1) pick)))
 
 picked-other-requires-3 : (t : ℕ) → picked-lts.Need-other-requires-3 (picked-calls t) (picked-at t) picked.Post
 picked-other-requires-3 t c κs = search needs
@@ -1062,31 +1074,31 @@ picked-same-length t c = search needs
 
 picked-returns-3 : (t : ℕ) → picked-lts.Need-returns-3 (picked-calls t) (picked-at t) picked.Post
 picked-returns-3 t c =
-    let t = table (c .before .before .before .before .before .before .before .before .before .before .before .before .before .before .before .before .before .before .args .types .now) (c .before .before .before .before .before .before .before .before .before .before .before .before .before .before .before .before .before .before .args .names .now) in
-    let s = c .before .before .before .before .before .before .before .before .before .before .before .before .before .before .before .before .before .before .args .s .now in
-    let row = c .before .before .before .before .before .before .before .before .before .before .before .before .before .before .before .before .before .before .args .row in
-    let place = c .before .before .before .before .before .before .before .before .before .before .before .before .before .before .before .before .before .before .args .place in
-    let top = c .before .before .before .before .before .before .before .before .before .before .before .before .before .before .before .before .before .before .args .top in
-    not-taken t s (c .before .before .before .before .before .before .before .before .before .before .before .before .before .before .before .before .before .before .args .tape .now) _ (c .before .before .before .before .before .before .before .before .before .before .before .before .before .before .before .before .before .before .args .depth) row place top _ (alike-part 0 top (c .before .before .before .before .before .plain .ensures .kept) (omega arith) (omega arith)) (c .other3 .ensures)
+    let t = table (c .before .before .before .before .before .before .before .before .before .before .before .before .before .before .before .before .before .before .before .args .types .now) (c .before .before .before .before .before .before .before .before .before .before .before .before .before .before .before .before .before .before .before .args .names .now) in
+    let s = c .before .before .before .before .before .before .before .before .before .before .before .before .before .before .before .before .before .before .before .args .s .now in
+    let row = c .before .before .before .before .before .before .before .before .before .before .before .before .before .before .before .before .before .before .before .args .row in
+    let place = c .before .before .before .before .before .before .before .before .before .before .before .before .before .before .before .before .before .before .before .args .place in
+    let top = c .before .before .before .before .before .before .before .before .before .before .before .before .before .before .before .before .before .before .before .args .top in
+    not-taken t s (c .before .before .before .before .before .before .before .before .before .before .before .before .before .before .before .before .before .before .before .args .tape .now) _ (c .before .before .before .before .before .before .before .before .before .before .before .before .before .before .before .before .before .before .before .args .depth) row place top _ (alike-part 0 top (c .before .before .before .before .before .plain .ensures .kept) (omega arith) (omega arith)) (c .other3 .ensures)
 
 picked-head-requires : (t : ℕ) → picked-lts.Need-head-requires (picked-calls t) (picked-at t) picked.Post
 picked-head-requires t c κs =
-    let given = c .before .before .before .before .before .before .before .before .before .before .before .before .before .before .before .before .before .before .pre .1 .0 in
-    let g = c .before .before .before .before .before .plain .ensures .taken (omega (arith, c .before .if2 .left)) in omega (arith, c .before .before .before .before .before .before .before .before .before .before .before .before .before .if1 .left, c .before .before .before .before .before .plain .kept .1 .1 .1 .0, g .words, g .inside, given .room)
+    let given = c .before .before .before .before .before .before .before .before .before .before .before .before .before .before .before .before .before .before .before .pre .1 .0 in
+    let g = c .before .before .before .before .before .plain .ensures .taken (omega (arith, c .before .if2 .left)) in omega (arith, c .before .before .before .before .before .before .before .before .before .before .before .before .before .before .if1 .left, c .before .before .before .before .before .plain .kept .1 .1 .1 .0, g .words, g .inside, given .room)
 
 picked-same-length-2 : (t : ℕ) → picked-lts.Need-same-length-2 (picked-calls t) (picked-at t) picked.Post
 picked-same-length-2 t c = search needs
 
 picked-returns-4 : (t : ℕ) → picked-lts.Need-returns-4 (picked-calls t) (picked-at t) picked.Post
 picked-returns-4 t c =
-    let names = c .before .before .before .before .before .before .before .before .before .before .before .before .before .before .before .before .before .before .before .before .before .args .names .now in
-    let t = table (c .before .before .before .before .before .before .before .before .before .before .before .before .before .before .before .before .before .before .before .before .before .args .types .now) (c .before .before .before .before .before .before .before .before .before .before .before .before .before .before .before .before .before .before .before .before .before .args .names .now) in
-    let s = c .before .before .before .before .before .before .before .before .before .before .before .before .before .before .before .before .before .before .before .before .before .args .s .now in
-    let row = c .before .before .before .before .before .before .before .before .before .before .before .before .before .before .before .before .before .before .before .before .before .args .row in
-    let place = c .before .before .before .before .before .before .before .before .before .before .before .before .before .before .before .before .before .before .before .before .before .args .place in
-    let given = c .before .before .before .before .before .before .before .before .before .before .before .before .before .before .before .before .before .before .before .before .before .pre .1 .0 in
-    let pick = sym (c .before .before .before .before .before .before .before .before .before .before .before .before .k .given .1) ∙ c .before .before .before .before .before .before .before .before .before .before .before .before .before .before .alternative .ensures names (tokenAt (c .before .before .before .before .before .before .before .before .before .before .before .before .before .before .before .before .before .before .before .before .before .args .s .now) (c .before .before .before .before .before .before .before .before .before .before .before .before .before .before .before .before .before .before .before .before .before .args .place)) (c .before .before .before .before .before .before .before .before .before .before .before .before .before .before .before .token-at .ensures) in
-    picked-here t s row place (c .before .before .before .before .before .before .before .before .before .before .before .before .k .given .0 .0) (given .sane) (c .before .before .before .before .before .before .before .before .before .before .before .before .before .before .before .before .before .before .before .before .before .pre .1 .1) pick (c .before .before .before .before .before .before .before .before .before .type-at .ensures names) (c .before .before .before .before .before .before .before .before .plain .ensures) (c .before .before .before .before .if2 .left) (c .before .before .head .ensures .0) (c .before .before .head .ensures .1)
+    let names = c .before .before .before .before .before .before .before .before .before .before .before .before .before .before .before .before .before .before .before .before .before .before .args .names .now in
+    let t = table (c .before .before .before .before .before .before .before .before .before .before .before .before .before .before .before .before .before .before .before .before .before .before .args .types .now) (c .before .before .before .before .before .before .before .before .before .before .before .before .before .before .before .before .before .before .before .before .before .before .args .names .now) in
+    let s = c .before .before .before .before .before .before .before .before .before .before .before .before .before .before .before .before .before .before .before .before .before .before .args .s .now in
+    let row = c .before .before .before .before .before .before .before .before .before .before .before .before .before .before .before .before .before .before .before .before .before .before .args .row in
+    let place = c .before .before .before .before .before .before .before .before .before .before .before .before .before .before .before .before .before .before .before .before .before .before .args .place in
+    let given = c .before .before .before .before .before .before .before .before .before .before .before .before .before .before .before .before .before .before .before .before .before .before .pre .1 .0 in
+    let pick = sym (c .before .before .before .before .before .before .before .before .before .before .before .before .before .k .given .1) ∙ c .before .before .before .before .before .before .before .before .before .before .before .before .before .before .before .alternative .ensures names (tokenAt (c .before .before .before .before .before .before .before .before .before .before .before .before .before .before .before .before .before .before .before .before .before .before .args .s .now) (c .before .before .before .before .before .before .before .before .before .before .before .before .before .before .before .before .before .before .before .before .before .before .args .place)) (c .before .before .before .before .before .before .before .before .before .before .before .before .before .before .before .before .token-at .ensures) in
+    picked-here t s row place (c .before .before .before .before .before .before .before .before .before .before .before .before .before .k .given .0 .0) (given .sane) (c .before .before .before .before .before .before .before .before .before .before .before .before .before .before .before .before .before .before .before .before .before .before .pre .1 .1) pick (c .before .before .before .before .before .before .before .before .before .type-at .ensures names) (c .before .before .before .before .before .before .before .before .plain .ensures) (c .before .before .before .before .if2 .left) (c .before .before .head .ensures .0) (c .before .before .head .ensures .1)
 
 plain-kind-of-requires : (t : ℕ) → plain-lts.Need-kind-of-requires (plain-calls t) (plain-at t) plain.Post
 plain-kind-of-requires t c κs = search needs
@@ -1098,10 +1110,10 @@ plain-same-length : (t : ℕ) → plain-lts.Need-same-length (plain-calls t) (pl
 plain-same-length t c = search needs
 
 plain-returns : (t : ℕ) → plain-lts.Need-returns (plain-calls t) (plain-at t) plain.Post
-plain-returns t c = c .before .before .note .ensures (c .before .before .before .before .before .before .before .before .before .before .args .depth)
+plain-returns t c = c .before .before .note .ensures (c .before .before .before .before .before .before .before .before .before .before .before .args .depth)
 
 plain-bracket-requires : (t : ℕ) → plain-lts.Need-bracket-requires (plain-calls t) (plain-at t) plain.Post
-plain-bracket-requires t c κs = (omega arith, c .before .before .before .before .before .before .before .pre .1)
+plain-bracket-requires t c κs = (omega arith, c .before .before .before .before .before .before .before .before .pre .1)
 
 plain-same-length-2 : (t : ℕ) → plain-lts.Need-same-length-2 (plain-calls t) (plain-at t) plain.Post
 plain-same-length-2 t c = search needs
@@ -1129,11 +1141,11 @@ sequence-returns t c =
 
 sequence-object-requires : (t : ℕ) → sequence-lts.Need-object-requires (sequence-calls t) (sequence-at t) sequence.Post
 sequence-object-requires t c κs =
-    let names = c .before .before .before .before .before .before .before .before .args .names .now in
-    let t = table (c .before .before .before .before .before .before .before .before .args .types .now) (c .before .before .before .before .before .before .before .before .args .names .now) in
-    let row = c .before .before .before .before .before .before .before .before .args .row in
-    let given = c .before .before .before .before .before .before .before .before .pre .1 .0 in
-    (omega arith, (given, (c .before .before .before .before .before .before .before .before .pre .1 .1, sym (c .before .before .is-array .ensures t row (c .before .before .before .at .ensures names)) ∙ c .before .if1 .left)))
+    let names = c .before .before .before .before .before .before .before .before .before .args .names .now in
+    let t = table (c .before .before .before .before .before .before .before .before .before .args .types .now) (c .before .before .before .before .before .before .before .before .before .args .names .now) in
+    let row = c .before .before .before .before .before .before .before .before .before .args .row in
+    let given = c .before .before .before .before .before .before .before .before .before .pre .1 .0 in
+    (omega arith, (given, (c .before .before .before .before .before .before .before .before .before .pre .1 .1, sym (c .before .before .before .is-array .ensures t row (c .before .before .before .before .at .ensures names)) ∙ c .before .before .if1 .left)))
 
 sequence-same-length : (t : ℕ) → sequence-lts.Need-same-length (sequence-calls t) (sequence-at t) sequence.Post
 sequence-same-length t c = search needs
@@ -1151,7 +1163,7 @@ value-same-length : (t : ℕ) → value-lts.Need-same-length (value-calls t) (va
 value-same-length t c = search needs
 
 value-returns : (t : ℕ) → value-lts.Need-returns (value-calls t) (value-at t) value.Post
-value-returns t c = c .before .before .note .ensures (c .before .before .before .before .before .before .before .before .before .before .args .depth)
+value-returns t c = c .before .before .note .ensures (c .before .before .before .before .before .before .before .before .before .before .before .args .depth)
 
 value-at-requires : (t : ℕ) → value-lts.Need-at-requires (value-calls t) (value-at t) value.Post
 value-at-requires t c κs = search needs
@@ -1161,10 +1173,10 @@ value-is-unwrapped-requires t c κs = search needs
 
 value-picked-requires : (t : ℕ) → value-lts.Need-picked-requires (value-calls t) (value-at t) value.Post
 value-picked-requires t c κs =
-    let names = c .before .before .before .before .before .before .before .before .before .before .args .names .now in
-    let t = table (c .before .before .before .before .before .before .before .before .before .before .args .types .now) (c .before .before .before .before .before .before .before .before .before .before .args .names .now) in
-    let row = c .before .before .before .before .before .before .before .before .before .before .args .row in
-    (omega arith, (c .before .before .before .before .before .before .before .before .before .before .pre .1, sym (c .before .before .is-unwrapped .ensures t row (c .before .before .before .at .ensures names)) ∙ c .before .if2 .taken))
+    let names = c .before .before .before .before .before .before .before .before .before .before .before .args .names .now in
+    let t = table (c .before .before .before .before .before .before .before .before .before .before .before .args .types .now) (c .before .before .before .before .before .before .before .before .before .before .before .args .names .now) in
+    let row = c .before .before .before .before .before .before .before .before .before .before .before .args .row in
+    (omega arith, (c .before .before .before .before .before .before .before .before .before .before .before .pre .1, sym (c .before .before .before .is-unwrapped .ensures t row (c .before .before .before .before .at .ensures names)) ∙ c .before .before .if2 .taken))
 
 value-same-length-2 : (t : ℕ) → value-lts.Need-same-length-2 (value-calls t) (value-at t) value.Post
 value-same-length-2 t c = search needs
@@ -1174,10 +1186,10 @@ value-returns-2 t c = search needs
 
 value-bracket-requires : (t : ℕ) → value-lts.Need-bracket-requires (value-calls t) (value-at t) value.Post
 value-bracket-requires t c κs =
-    let names = c .before .before .before .before .before .before .before .before .before .before .args .names .now in
-    let t = table (c .before .before .before .before .before .before .before .before .before .before .args .types .now) (c .before .before .before .before .before .before .before .before .before .before .args .names .now) in
-    let row = c .before .before .before .before .before .before .before .before .before .before .args .row in
-    (omega arith, (c .before .before .before .before .before .before .before .before .before .before .pre .1, sym (c .before .before .is-unwrapped .ensures t row (c .before .before .before .at .ensures names)) ∙ c .before .if2 .left))
+    let names = c .before .before .before .before .before .before .before .before .before .before .before .args .names .now in
+    let t = table (c .before .before .before .before .before .before .before .before .before .before .before .args .types .now) (c .before .before .before .before .before .before .before .before .before .before .before .args .names .now) in
+    let row = c .before .before .before .before .before .before .before .before .before .before .before .args .row in
+    (omega arith, (c .before .before .before .before .before .before .before .before .before .before .before .pre .1, sym (c .before .before .before .is-unwrapped .ensures t row (c .before .before .before .before .at .ensures names)) ∙ c .before .before .if2 .left))
 
 value-same-length-3 : (t : ℕ) → value-lts.Need-same-length-3 (value-calls t) (value-at t) value.Post
 value-same-length-3 t c = search needs
@@ -1299,6 +1311,7 @@ pub +bracket+choice+list+member+object+picked+plain+sequence+value-spec : {M : T
     (member-absent-at-requires t)
     (member-literal-null-requires t)
     (member-with-requires t)
+    (member-add-gave t)
     (member-gave-requires-2 t)
     (member-returns-5 t)
     (member-type-at-requires t)
@@ -1314,6 +1327,7 @@ pub +bracket+choice+list+member+object+picked+plain+sequence+value-spec : {M : T
     (member-slice-write-tape t)
     (member-with-requires-2 t)
     (member-with-requires-3 t)
+    (member-add-gave-2 t)
     (member-gave-requires-3 t)
     (member-same-length-2 t)
     (member-returns-7 t))
