@@ -1,5 +1,5 @@
 -- Values without parts: what stands at the place reads as the leaf, and the words are its own.
-use Prim.Native.Nat.{ℕ, _+_, _%_, _^_, _<_, _≤_}
+use Prim.Native.Nat.{ℕ, _+_, _*_, _/_, _%_, _^_, _<_, _≤_}
 use mathlib.Core.Path.{_≡_, refl, sym, ap, _∙_}
 use mathlib.Core.List.{List, []}
 use mathlib.Core.Bool.{Bool, true, false, _&&_}
@@ -9,7 +9,7 @@ use lib.ListN.{length, take, drop}
 use Rattle.json.specs.Tree.{Json, jnull, jbool, jint, jstr}
 use Rattle.json.specs.Grammar as grammar
 use Rattle.json.specs.Grammar.{Value, Quoted}
-use Rattle.jer.specs.Table.{Table, kindOf, countOf, BOOLEAN, INTEGER, ENUMERATED, NULL, UTF8String}
+use Rattle.jer.specs.Table.{Table, kindOf, isBase64, countOf, BOOLEAN, INTEGER, ENUMERATED, NULL, OCTET-STRING, UTF8String}
 use Rattle.jer.specs.Value.{Leaf, lBool, lInt, lEnum, lNull, lBytes, Val, vLeaf, vInt}
 use Rattle.jer.specs.Answer.{Res, ok}
 use Rattle.jer.specs.Read.{read}
@@ -17,10 +17,12 @@ use Rattle.jer.specs.Rows.{bit, leafPool}
 use Rattle.spelled.specs.Stretch.{Stretch, Passed}
 use Rattle.spelled.specs.Leaves.{IntegerAt, StringAt}
 use Rattle.spelled.specs.Names.{PositionIs}
-use Rattle.spelled.proofs.ReadLaws.{read-null, read-bool, read-int, read-item, read-utf8}
+use Rattle.spelled.specs.Octets.{OctetsAre}
+use Rattle.jer.specs.Octets.{unhex, unbase64}
+use Rattle.spelled.proofs.ReadLaws.{read-null, read-bool, read-int, read-item, read-utf8, read-hex, read-base64}
 use Rattle.quick.specs.declared.bare.Words as declared-leaf
 use Rattle.quick.specs.Stood.{Stood}
-use Rattle.quick.specs.Tape.{Text, Words, inRow, inText}
+use Rattle.quick.specs.Tape.{Text, Words, inRow, inText, inHex, inBase64}
 use Rattle.quick.specs.Taken.{LeafTaken}
 
 -- the four numbers of an answer
@@ -82,6 +84,39 @@ plain-leaf {t} {s} {r} {p} {n} {a} {b} {c} {e′} {g} e k ea eb l f w = text-lea
 
 pub escaped-leaf : {t : Table} {s : List ℕ} {r p n a b c : ℕ} {e′ : Bool} {g : declared-leaf.Words} → kindOf t r ≡ UTF8String → StringAt s p n c e′ → a ≡ p → b ≡ c + 2147483648 → c ≤ 65536 → Answers n a b c g → LeafTaken t s r p g
 escaped-leaf {t} {s} {r} {p} {n} {a} {b} {c} {e′} {g} e k ea eb l w = text-leaf t s r p n a b c e′ g e k ea (rw eb (omega arith)) (λ h. absurd (omega arith)) w
+
+-- ---- octets
+
+octets-leaf : (t : Table) (s : List ℕ) (r p n c : ℕ) (e′ : Bool) (os : List ℕ) (g : declared-leaf.Words) (a b m : ℕ) (w : StringAt s p n c e′) → read (jstr p (w .chars)) t r ≡ ok (vLeaf (lBytes os)) → Words s t r (lBytes os) a b → m ≡ length os → m ≤ c
+    → Answers n a b m g → LeafTaken t s r p g
+octets-leaf t s r p n c e′ os g a b m w e x f l q =
+    let y = w .passed .stretch in
+    record {
+      leaf = lBytes os;
+      stood = λ d. rw (q .0) (record { tree = jstr p (w .chars); here = record { bytes = y .bytes; holds = grammar.string (y .holds); text = y .text; end = y .end }; reads = e });
+      words = rw (q .1, q .2) x;
+      pool = q .3 ∙ f;
+      ahead = omega (arith, q .0, w .passed .ahead);
+      placed = omega (arith, q .0, w .passed .inside);
+      few = omega (arith, q .0, q .3, w .few);
+    }
+
+module _ {t : Table} {s : List ℕ} {r p n c m : ℕ} {e′ : Bool} {g : declared-leaf.Words} (kd : kindOf t r ≡ OCTET-STRING) (w : StringAt s p n c e′) (pl : e′ ≡ false) {x : Bool} (bx : x ≡ isBase64 t r) where
+  pub hex-leaf : x ≡ false → (m < 4294967295 → OctetsAre unhex (take c (drop (p + 1) s)) m) → c ≡ m * 2 → c ≤ 65536 → Answers n p m m g → LeafTaken t s r p g
+  hex-leaf xf f e l q =
+      let k = f (omega arith) in
+      let y = w .plain pl in
+      octets-leaf t s r p n c e′ (k .octets) g p m m w (read-hex t r p (w .chars) (k .octets) kd (sym bx ∙ xf) (ap unhex (y .0) ∙ k .decoded))
+      (inHex kd (sym bx ∙ xf) (ap (λ (z : ℕ). unhex (take z (drop (p + 1) s))) (sym e) ∙ k .decoded) (k .size) (omega (arith, y .1, w .passed .inside))) (k .size) (omega arith) q
+
+  pub base64-leaf : {b : ℕ} → x ≡ true → (m < 4294967295 → OctetsAre unbase64 (take c (drop (p + 1) s)) m) → m ≤ c → c < 65535 → b ≡ c * 65536 + m → Answers n p b m g → LeafTaken t s r p g
+  base64-leaf {b} xt f l h eb q =
+      let k = f (omega arith) in
+      let y = w .plain pl in
+      let d : b / 65536 ≡ c = omega arith in
+      let d′ : b % 65536 ≡ m = omega arith in
+      octets-leaf t s r p n c e′ (k .octets) g p b m w (read-base64 t r p (w .chars) (k .octets) kd (sym bx ∙ xt) (ap unbase64 (y .0) ∙ k .decoded))
+      (inBase64 kd (sym bx ∙ xt) (ap (λ (z : ℕ). unbase64 (take z (drop (p + 1) s))) d ∙ k .decoded) (d′ ∙ k .size) (omega (arith, y .1, w .passed .inside))) (k .size) l q
 
 -- ---- an item
 

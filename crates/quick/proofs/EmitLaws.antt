@@ -1,24 +1,27 @@
 -- The walk over the tape: what a value of each kind is, once it stands; a leaf, a header and a choice stored.
-use Prim.Native.Nat.{ℕ, zero, suc, _+_, _*_, _%_, _^_, _<_, _≤_}
+use Prim.Native.Nat.{ℕ, zero, suc, _+_, _*_, _/_, _%_, _^_, _<_, _≤_}
 use mathlib.Core.Path.{_≡_, refl, sym, ap, _∙_}
 use mathlib.Core.List.{List, [], _∷_, _++_}
 use native.Mathlib.Nat.{add-zero, mod-eq-of-lt}
 use native.Mathlib.Numerals.{add-one}
 use native.Mathlib.Omega.{arith}
 use mathlib.Core.Bool.{Bool, true, false}
+use mathlib.Core.Option.{Option}
 use borrow.Author.Tests.{ltb-true, ltb-false}
 use lib.Dec.{ltb}
 use lib.ListN.{length, getD, take, drop}
 use lib.Seq.{sets}
-use Rattle.jer.specs.Table.{Table, table, field, kindOf, elementOf, countOf, typeAt, UTF8String, SEQUENCE, SEQUENCE-OF, CHOICE}
+use Rattle.jer.specs.Table.{Table, table, field, kindOf, isBase64, elementOf, countOf, typeAt, UTF8String, SEQUENCE, SEQUENCE-OF, CHOICE}
 use Rattle.jer.specs.Value.{Leaf, lBytes, Val, vLeaf, vSeq, vList, vChoice, Vals, Parts, countVals, countPresent}
 use Rattle.jer.specs.Rows.{ValueRow, row, leafRow, leafPool, numbers, rowsOf, itemRows, partRows, poolOf, itemPool, partPool, above}
 use Rattle.jer.proofs.WeightMeasure.{rows-length}
 use Rattle.tokens.specs.Strings.{denoted}
 use Rattle.tokens.proofs.SliceLaws.{sets-append}
 use Rattle.tokens.proofs.TieString.{quoted-read}
+use Rattle.jer.specs.Octets.{unhex, unbase64}
 use Rattle.spelled.specs.Stretch.{Stretch}
-use Rattle.quick.specs.Tape.{Text, Words, inRow, inText, Header, Stands, aLeaf, aList, aSequence, aChoice, Listed, Linked}
+use Rattle.spelled.specs.Octets.{OctetsStored}
+use Rattle.quick.specs.Tape.{Text, Words, inRow, inText, inHex, inBase64, Header, Stands, aLeaf, aList, aSequence, aChoice, Listed, Linked}
 use Rattle.quick.specs.Emit.{Room, Noted, NotedItems, NotedParts, Stores, Emits, EmitsItems, EmitsParts}
 use Rattle.quick.proofs.ListLaws.{rows-any}
 use Rattle.quick.proofs.PartLaws.{parts-any}
@@ -29,6 +32,8 @@ use Rattle.quick.proofs.TapeLaws.{stands-ahead, listed-ahead, linked-ah
 pub words-kind : {s : List ℕ} {t : Table} {r a b : ℕ} {l : Leaf} → Words s t r l a b → kindOf t r < 6
 words-kind (inRow e p f) = omega arith
 words-kind (inText e x) = omega arith
+words-kind (inHex e b h n l) = omega arith
+words-kind (inBase64 e b h n l) = omega arith
 
 pub data ByLeaf (s z : List ℕ) (t : Table) (r j k : ℕ) : Val → Type 0 where
   byLeaf : {l : Leaf} → Words s t r l (getD z j 0) (getD z (j + 1) 0) → k ≡ j + 2 → ByLeaf s z t r j k (vLeaf l)
@@ -130,16 +135,18 @@ row-stored {s} {z} {t} {r} {j} {k} {v} o i rows rows′ pool {kind} e h u w = go
     word : {l : Leaf} → Words s t r l (getD z j 0) (getD z (j + 1) 0) → Stores rows rows′ pool pool i o o (numbers (rowsOf (vLeaf l) t r o)) (poolOf (vLeaf l))
     word (inRow f p g) = (u ∙ rw (e, g o), rw p, rw p (sym (add-zero o)))
     word (inText f x) = absurd (omega arith)
+    word (inHex f b d n l) = absurd (omega arith)
+    word (inBase64 f b d n l) = absurd (omega arith)
 
     go : {x : Val} → ByLeaf s z t r j k x → Stores rows rows′ pool pool i o o (numbers (rowsOf x t r o)) (poolOf x)
     go (byLeaf x f) = word x
 
-pub text-stored : {s z : List ℕ} {t : Table} {r j k : ℕ} {v : Val} (o i q : ℕ) (rows rows′ pool pool′ : List ℕ) {kind : ℕ} → kind ≡ kindOf t r → 4 ≤ kind → kind < 6
-    → rows′ ≡ sets rows (i * 4) (kind ∷ o ∷ getD z (j + 1) 0 % 2 ^ 31 ∷ 1 ∷ []) → (getD z (j + 1) 0 < 2 ^ 31 → pool′ ≡ sets pool o (take (getD z (j + 1) 0) (drop (getD z j 0 + 1) s)))
+pub text-stored : {s z : List ℕ} {t : Table} {r j k : ℕ} {v : Val} (o i q : ℕ) (rows rows′ pool pool′ : List ℕ) → kindOf t r ≡ 5
+    → rows′ ≡ sets rows (i * 4) (5 ∷ o ∷ getD z (j + 1) 0 % 2 ^ 31 ∷ 1 ∷ []) → (getD z (j + 1) 0 < 2 ^ 31 → pool′ ≡ sets pool o (take (getD z (j + 1) 0) (drop (getD z j 0 + 1) s)))
     → (2 ^ 31 ≤ getD z (j + 1) 0 → pool′ ≡ sets pool o (denoted s (getD z j 0 + 1))) → q ≡ o + getD z (j + 1) 0 % 2 ^ 31
     → Stands s z t r v j k → Stores rows rows′ pool pool′ i o q (numbers (rowsOf v t r o)) (poolOf v)
 unfolding rowsOf poolOf numbers
-text-stored {s} {z} {t} {r} {j} {k} {v} o i q rows rows′ pool pool′ {kind} e h h′ u f g n w = go (by-leaf w (omega arith))
+text-stored {s} {z} {t} {r} {j} {k} {v} o i q rows rows′ pool pool′ e u f g n w = go (by-leaf w (omega arith))
   where
     bytes : (x : List ℕ) → Text s (getD z j 0) (getD z (j + 1) 0) x → pool′ ≡ sets pool o x
     bytes x k = split (getD z (j + 1) 0) (2 ^ 31) (λ l. f l ∙ ap (λ (y : List ℕ). sets pool o y) (sym (k .plain l)))
@@ -148,8 +155,81 @@ text-stored {s} {z} {t} {r} {j} {k} {v} o i q rows rows′ pool pool′ {kind} e
     word : {l : Leaf} → Words s t r l (getD z j 0) (getD z (j + 1) 0) → Stores rows rows′ pool pool′ i o q (numbers (rowsOf (vLeaf l) t r o)) (poolOf (vLeaf l))
     word (inRow c p d) = absurd (omega arith)
     word (inText {x = x} c y) = (u ∙ rw (e, y .size), bytes x y, n ∙ rw (y .size))
+    word (inHex c b d m l) = absurd (omega arith)
+    word (inBase64 c b d m l) = absurd (omega arith)
 
     go : {x : Val} → ByLeaf s z t r j k x → Stores rows rows′ pool pool′ i o q (numbers (rowsOf x t r o)) (poolOf x)
+    go (byLeaf x c) = word x
+
+-- ---- octets stored
+
+text-octets : (t : Table) (r : ℕ) → kindOf t r ≡ UTF8String → isBase64 t r ≡ false
+unfolding isBase64
+text-octets t r e = rw e
+
+no-both : {A : Type 0} {b : Bool} → b ≡ true → b ≡ false → A
+no-both h e = absurd (let z : _≡_ {A = ℕ} 0 1 = cc in omega arith)
+
+pub hex-stored : {s z : List ℕ} {t : Table} {r j k : ℕ} {v : Val} (o i q : ℕ) (rows rows′ pool pool′ : List ℕ) → kindOf t r ≡ 4 → isBase64 t r ≡ false → rows′ ≡ sets rows (i * 4) (4 ∷ o ∷ getD z (j + 1) 0 ∷ 1 ∷ [])
+    → OctetsStored unhex (take (getD z (j + 1) 0 * 2) (drop (getD z j 0 + 1) s)) pool′ pool o → q ≡ o + getD z (j + 1) 0 → Stands s z t r v j k → Stores rows rows′ pool pool′ i o q (numbers (rowsOf v t r o)) (poolOf v)
+unfolding rowsOf poolOf numbers
+hex-stored {s} {z} {t} {r} {j} {k} {v} o i q rows rows′ pool pool′ e nb u f n w = go (by-leaf w (omega arith))
+  where
+    word : {l : Leaf} → Words s t r l (getD z j 0) (getD z (j + 1) 0) → Stores rows rows′ pool pool′ i o q (numbers (rowsOf (vLeaf l) t r o)) (poolOf (vLeaf l))
+    word (inRow c p d) = absurd (omega arith)
+    word (inText c y) = absurd (omega arith)
+    word (inHex {x = x} c b d m l) = (u ∙ rw (e, ← m), f x d, n ∙ rw (← m))
+    word (inBase64 c b d m l) = no-both b nb
+
+    go : {x : Val} → ByLeaf s z t r j k x → Stores rows rows′ pool pool′ i o q (numbers (rowsOf x t r o)) (poolOf x)
+    go (byLeaf x c) = word x
+
+pub base64-stored : {s z : List ℕ} {t : Table} {r j k : ℕ} {v : Val} (o i q : ℕ) (rows rows′ pool pool′ : List ℕ) → isBase64 t r ≡ true → kindOf t r < 6 → rows′ ≡ sets rows (i * 4) (4 ∷ o ∷ getD z (j + 1) 0 % 65536 ∷ 1 ∷ [])
+    → OctetsStored unbase64 (take (getD z (j + 1) 0 / 65536) (drop (getD z j 0 + 1) s)) pool′ pool o → q ≡ o + getD z (j + 1) 0 % 65536 → 4 ≤ kindOf t r → Stands s z t r v j k → Stores rows rows′ pool pool′ i o q (numbers (rowsOf v t r o)) (poolOf v)
+unfolding rowsOf poolOf numbers
+base64-stored {s} {z} {t} {r} {j} {k} {v} o i q rows rows′ pool pool′ b6 less u f n more w = go (by-leaf w less)
+  where
+    word : {l : Leaf} → Words s t r l (getD z j 0) (getD z (j + 1) 0) → Stores rows rows′ pool pool′ i o q (numbers (rowsOf (vLeaf l) t r o)) (poolOf (vLeaf l))
+    word (inRow c p d) = absurd (omega arith)
+    word (inText c y) = no-both b6 (text-octets t r c)
+    word (inHex c b d m l) = no-both b6 b
+    word (inBase64 {x = x} c b d m l) = (u ∙ rw (c, m), f x d, n ∙ rw m)
+
+    go : {x : Val} → ByLeaf s z t r j k x → Stores rows rows′ pool pool′ i o q (numbers (rowsOf x t r o)) (poolOf x)
+    go (byLeaf x c) = word x
+
+pub octets-at : (f : List ℕ → Option (List ℕ)) (s after before : List ℕ) (o : ℕ) {a b x y : ℕ} → y ≡ b → x ≡ a → OctetsStored f (take y (drop (x + 1) s)) after before o → OctetsStored f (take b (drop (a + 1) s)) after before o
+octets-at f s after before o e h k = rw (← e, ← h) k
+
+pub hex-at : (f : List ℕ → Option (List ℕ)) (s after before : List ℕ) (o : ℕ) {a b x y : ℕ} → y ≡ b → x ≡ a → OctetsStored f (take (y * 2) (drop (x + 1) s)) after before o → OctetsStored f (take (b * 2) (drop (a + 1) s)) after before o
+hex-at f s after before o e h k = rw (← e, ← h) k
+
+-- where they stand, and that there is room for them
+pub hex-room : {types s z rows pool : List ℕ} {r j i o : ℕ} (n : Noted types s z rows pool r j i o) → ((ns : List ℕ) → kindOf (table types ns) r ≡ 4) → ((ns : List ℕ) → isBase64 (table types ns) r ≡ false)
+    → (getD z j 0 + 1 + getD z (j + 1) 0 * 2 ≤ length s) × (o + getD z (j + 1) 0 ≤ length pool)
+unfolding poolOf
+hex-room {types} {s} {z} {rows} {pool} {r} {j} {i} {o} n e nb = go (n .room .bytes) (by-leaf (n .stands) (omega (arith, e (n .names))))
+  where
+    word : {l : Leaf} → o + length (poolOf (vLeaf l)) ≤ length pool → Words s (table types (n .names)) r l (getD z j 0) (getD z (j + 1) 0) → (getD z j 0 + 1 + getD z (j + 1) 0 * 2 ≤ length s) × (o + getD z (j + 1) 0 ≤ length pool)
+    word h (inRow c p d) = absurd (omega (arith, e (n .names)))
+    word h (inText c y) = absurd (omega (arith, e (n .names)))
+    word h (inHex c b d m l) = (l, omega arith)
+    word h (inBase64 c b d m l) = no-both b (nb (n .names))
+
+    go : {v : Val} → o + length (poolOf v) ≤ length pool → ByLeaf s z (table types (n .names)) r j (n .end) v → (getD z j 0 + 1 + getD z (j + 1) 0 * 2 ≤ length s) × (o + getD z (j + 1) 0 ≤ length pool)
+    go h (byLeaf x c) = word h x
+
+pub base64-room : {types s z rows pool : List ℕ} {r j i o : ℕ} (n : Noted types s z rows pool r j i o) → ((ns : List ℕ) → isBase64 (table types ns) r ≡ true) → ((ns : List ℕ) → (4 ≤ kindOf (table types ns) r) × (kindOf (table types ns) r < 6))
+    → getD z j 0 + 1 + getD z (j + 1) 0 / 65536 ≤ length s
+base64-room {types} {s} {z} {rows} {pool} {r} {j} {i} {o} n b6 kd = go (by-leaf (n .stands) (kd (n .names) .1))
+  where
+    word : {l : Leaf} → Words s (table types (n .names)) r l (getD z j 0) (getD z (j + 1) 0) → getD z j 0 + 1 + getD z (j + 1) 0 / 65536 ≤ length s
+    word (inRow c p d) = absurd (omega (arith, kd (n .names)))
+    word (inText c y) = no-both (b6 (n .names)) (text-octets (table types (n .names)) r c)
+    word (inHex c b d m l) = no-both (b6 (n .names)) b
+    word (inBase64 c b d m l) = l
+
+    go : {v : Val} → ByLeaf s z (table types (n .names)) r j (n .end) v → getD z j 0 + 1 + getD z (j + 1) 0 / 65536 ≤ length s
     go (byLeaf x c) = word x
 
 -- ---- a bracket: its own row, and what follows it
@@ -235,13 +315,15 @@ noted-nodes n = (noted-two n, λ ns h. omega (arith, three-words (n .stands) h, 
 pub noted-slot : {types s z rows pool : List ℕ} {r j i o : ℕ} → Noted types s z rows pool r j i o → i * 4 + 4 ≤ length rows
 noted-slot n = omega (arith, some-rows (n .stands) 0, n .room .slots)
 
-pub noted-bytes : {types s z rows pool : List ℕ} {r j i o : ℕ} → Noted types s z rows pool r j i o → (kind : ℕ) → ((ns : List ℕ) → kind ≡ kindOf (table types ns) r) → 4 ≤ kind → kind < 6 → o + getD z (j + 1) 0 % 2 ^ 31 ≤ length pool
+pub noted-bytes : {types s z rows pool : List ℕ} {r j i o : ℕ} → Noted types s z rows pool r j i o → ((ns : List ℕ) → kindOf (table types ns) r ≡ 5) → o + getD z (j + 1) 0 % 2 ^ 31 ≤ length pool
 unfolding poolOf
-noted-bytes {types} {s} {z} {rows} {pool} {r} {j} {i} {o} n kind e h h′ = go (n .room .bytes) (by-leaf (n .stands) (omega (arith, e (n .names))))
+noted-bytes {types} {s} {z} {rows} {pool} {r} {j} {i} {o} n e = go (n .room .bytes) (by-leaf (n .stands) (omega (arith, e (n .names))))
   where
     word : {l : Leaf} → o + length (poolOf (vLeaf l)) ≤ length pool → Words s (table types (n .names)) r l (getD z j 0) (getD z (j + 1) 0) → o + getD z (j + 1) 0 % 2 ^ 31 ≤ length pool
     word m (inRow c p d) = absurd (omega (arith, e (n .names)))
     word m (inText c y) = omega (arith, y .size)
+    word m (inHex c b d h l) = absurd (omega (arith, e (n .names)))
+    word m (inBase64 c b d h l) = absurd (omega (arith, e (n .names)))
 
     go : {v : Val} → o + length (poolOf v) ≤ length pool → ByLeaf s z (table types (n .names)) r j (n .end) v → o + getD z (j + 1) 0 % 2 ^ 31 ≤ length pool
     go m (byLeaf x c) = word m x

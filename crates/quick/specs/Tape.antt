@@ -1,12 +1,15 @@
 -- What a tape stands for. A value without parts has two words: those of its row. Any other has a header of three words, and then its parts.
 -- A SEQUENCE has, before its parts, a link for each member: 0, or where the member's value stands.
-use Prim.Native.Nat.{ℕ, suc, _+_, _%_, _^_, _≤_, _<_}
+use Prim.Native.Nat.{ℕ, suc, _+_, _*_, _/_, _%_, _^_, _≤_, _<_}
 use mathlib.Core.Path.{_≡_}
 use mathlib.Core.List.{List, []}
+use mathlib.Core.Bool.{true, false}
+use mathlib.Core.Option.{some}
 use lib.ListN.{length, getD, set, take, drop}
 use Rattle.json.specs.Grammar.{Quoted}
-use Rattle.jer.specs.Table.{Table, kindOf, elementOf, countOf, typeAt, NULL, UTF8String, SEQUENCE, SEQUENCE-OF, CHOICE}
+use Rattle.jer.specs.Table.{Table, kindOf, isBase64, elementOf, countOf, typeAt, NULL, OCTET-STRING, UTF8String, SEQUENCE, SEQUENCE-OF, CHOICE}
 use Rattle.jer.specs.Value.{Leaf, lBytes, Val, vLeaf, vSeq, vList, vChoice, Vals, vnil, vcons, countVals, Parts, pnil, absent, present, countPresent}
+use Rattle.jer.specs.Octets.{unhex, unbase64}
 use Rattle.jer.specs.Rows.{row, leafRow, leafPool, rowsOf, itemRows, partRows}
 use Rattle.spelled.specs.Stretch.{Stretch}
 
@@ -29,6 +32,11 @@ pub record Text (s : List ℕ) (a b : ℕ) (x : List ℕ) : Type 0 where
 pub data Words (s : List ℕ) (t : Table) (r : ℕ) : Leaf → ℕ → ℕ → Type 0 where
   inRow : {l : Leaf} {a b : ℕ} → kindOf t r ≤ NULL → leafPool l ≡ [] → ((o : ℕ) → leafRow l (kindOf t r) o ≡ row (kindOf t r) a b 1) → Words s t r l a b
   inText : {x : List ℕ} {a b : ℕ} → kindOf t r ≡ UTF8String → Text s a b x → Words s t r (lBytes x) a b
+  -- b octets in hexadecimal, after the quotation mark at a
+  inHex : {x : List ℕ} {a b : ℕ} → kindOf t r ≡ OCTET-STRING → isBase64 t r ≡ false → unhex (take (b * 2) (drop (a + 1) s)) ≡ some x → b ≡ length x → a + 1 + b * 2 ≤ length s → Words s t r (lBytes x) a b
+  -- in Base64: 65536 times the number of characters, and the number of octets
+  inBase64 : {x : List ℕ} {a b : ℕ} → kindOf t r ≡ OCTET-STRING → isBase64 t r ≡ true → unbase64 (take (b / 65536) (drop (a + 1) s)) ≡ some x → b % 65536 ≡ length x → a + 1 + b / 65536 ≤ length s
+      → Words s t r (lBytes x) a b
 
 -- at j stands a header: the number that the row has, how many rows there are with the n of the parts, and where the parts end
 pub record Header (z : List ℕ) (j a n k : ℕ) : Type 0 where

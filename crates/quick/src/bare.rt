@@ -1,5 +1,7 @@
 // A value without parts, at a place of the text.
 use crate::name::position_of;
+use spelled::coded::base64_count;
+use spelled::coded::hex_count;
 use spelled::integer::integer;
 use spelled::string::string;
 use spelled::word::literal_false;
@@ -13,7 +15,7 @@ ghost use mathlib.Core.Path.{_≡_};
 ghost use mathlib.Core.List.{List};
 ghost use Prim.Native.Nat.{ℕ, _≤_, _<_};
 ghost use lib.ListN.{length};
-ghost use Rattle.jer.specs.Table.{Table, kindOf, BOOLEAN, INTEGER, ENUMERATED, NULL, UTF8String, table};
+ghost use Rattle.jer.specs.Table.{Table, kindOf, BOOLEAN, INTEGER, ENUMERATED, NULL, OCTET-STRING, UTF8String, table};
 ghost use Rattle.spelled.specs.Leaves.{IsFlags};
 ghost use Rattle.spelled.specs.Names.{Distinct};
 ghost use Rattle.quick.specs.Taken.{LeafTaken};
@@ -41,6 +43,7 @@ pub fn leaf(types: &[u32], names: &[u8], s: &[u8], flags: &[u8; 256], memo: &mut
         Row::INTEGER => number(s, place),
         Row::ENUMERATED => item(types, names, s, flags, memo, row, place),
         Row::NULL => taken(literal_null(s, place), 0, 0, 0),
+        Row::OCTET_STRING => octets(types, s, flags, row, place),
         Row::UTF8_STRING => text(s, flags, place),
         _ => taken(0, 0, 0, 0),
     }
@@ -95,4 +98,33 @@ fn item(types: &[u32], names: &[u8], s: &[u8], flags: &[u8; 256], memo: &mut [u8
         return taken(0, 0, 0, 0);
     }
     taken(w.next, k, 0, 0)
+}
+
+// An OCTET STRING that has no escapes: where it stands, and how many octets it has; in Base64 with its characters above.
+fn octets(types: &[u32], s: &[u8], flags: &[u8; 256], row: usize, place: usize) -> Words
+    requires { ⌜ (length (now s) ≤ 65536) × (place ≤ 65536) × IsFlags (now flags) ⌝ }
+    ensures { λ r. ⌜ (0 < r .next → (ns : List ℕ) → kindOf (table (now (types .entry)) ns) row ≡ OCTET-STRING → LeafTaken (table (now (types .entry)) ns) (now (s .entry)) row place r) ⌝ }
+{
+    let w = string(s, place, flags);
+    if w.next == 0 {
+        return taken(0, 0, 0, 0);
+    }
+    if w.escaped {
+        return taken(0, 0, 0, 0);
+    }
+    if Row::at(types, row).is_base64() {
+        let n = base64_count(s, place + 1, w.count);
+        if w.count < n {
+            return taken(0, 0, 0, 0);
+        }
+        return taken(w.next, place as u32, (w.count * 65536 + n) as u32, n);
+    }
+    let n = hex_count(s, place + 1, w.count);
+    if w.count < n {
+        return taken(0, 0, 0, 0);
+    }
+    if w.count != n * 2 {
+        return taken(0, 0, 0, 0);
+    }
+    taken(w.next, place as u32, n as u32, n)
 }

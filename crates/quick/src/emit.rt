@@ -2,6 +2,8 @@
 use crate::bare::ESCAPED;
 use crate::store::put_row;
 use crate::store::put_text;
+use spelled::put::put_base64;
+use spelled::put::put_hex;
 use types::row::Row;
 use types::row::count_of;
 use types::row::element_of;
@@ -41,6 +43,31 @@ fn node_at(types: &[u32], tape: &[u32], row: usize, top: usize) -> Node
     }
 }
 
+// A value whose bytes stand in the pool.
+fn string(types: &[u32], s: &[u8], tape: &[u32], rows: &mut [u32], pool: &mut [u8], row: usize, top: usize, slot: usize, offset: usize) -> usize
+    requires { ⌜ Noted (now types) (now s) (now tape) (now rows) (now pool) row top slot offset × Sizes (now s) (now tape) × ((ns : List ℕ) → (4 ≤ kindOf (table (now types) ns) row) × (kindOf (table (now types) ns) row < 6)) ⌝ }
+    ensures { λ r. ⌜ Emits (now (types .entry)) (now (s .entry)) (now (tape .entry)) row top slot offset (now (rows .entry)) (now (rows .exit)) (now (pool .entry)) (now (pool .exit)) r ⌝ }
+{
+    let w = Row::at(types, row);
+    let a = tape[top];
+    let b = tape[top + 1];
+    if w.is_base64() {
+        let n = b % 65536;
+        put_row(rows, slot, Row::OCTET_STRING, offset as u32, n, 1);
+        put_base64(s, wide(a) + 1, wide(b / 65536), pool, offset);
+        return offset + wide(n);
+    }
+    if kind_of(types, row) == Row::OCTET_STRING {
+        put_row(rows, slot, Row::OCTET_STRING, offset as u32, b, 1);
+        put_hex(s, wide(a) + 1, wide(b), pool, offset);
+        return offset + wide(b);
+    }
+    let n = b % ESCAPED;
+    put_row(rows, slot, Row::UTF8_STRING, offset as u32, n, 1);
+    put_text(s, pool, a, b, offset);
+    offset + wide(n)
+}
+
 // Stores the value of the type at `row` that stands from `top` on, from the slot and the offset on; the offset after it.
 pub fn emit(types: &[u32], s: &[u8], tape: &[u32], rows: &mut [u32], pool: &mut [u8], row: usize, top: usize, slot: usize, offset: usize) -> usize
     requires { ⌜ Noted (now types) (now s) (now tape) (now rows) (now pool) row top slot offset × Sizes (now s) (now tape) ⌝ }
@@ -54,10 +81,7 @@ pub fn emit(types: &[u32], s: &[u8], tape: &[u32], rows: &mut [u32], pool: &mut 
         return offset;
     }
     if kind < Row::SEQUENCE {
-        let n = b % ESCAPED;
-        put_row(rows, slot, kind, offset as u32, n, 1);
-        put_text(s, pool, a, b, offset);
-        return offset + wide(n);
+        return string(types, s, tape, rows, pool, row, top, slot, offset);
     }
     put_row(rows, slot, kind, a, 0, b);
     match kind {

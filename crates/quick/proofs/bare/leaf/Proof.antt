@@ -1,4 +1,4 @@
--- Made by tools/answers.py from answers/bare/leaf.ans: edit that. 118b7ca1f2889a8a
+-- Made by tools/answers.py from answers/bare/leaf.ans: edit that. 4ec6f48c9edac15e
 use mathlib.Core.Path.{sym, _∙_}
 use native.Mathlib.Omega.{arith}
 use Rattle.jer.specs.Table.{table}
@@ -24,6 +24,9 @@ literal-null-requires c κs = search needs
 
 taken-requires : tie.Need-taken-requires
 taken-requires c κs = search needs
+
+octets-requires : tie.Need-octets-requires
+octets-requires c κs = (c .before .before .before .before .before .pre .0, c .before .before .before .before .before .pre .1, c .before .before .before .before .before .pre .2)
 
 text-requires : tie.Need-text-requires
 text-requires c κs = (c .before .before .before .before .before .pre .0, c .before .before .before .before .before .pre .1, c .before .before .before .before .before .pre .2)
@@ -55,12 +58,17 @@ returns-4 c =
 
 returns-5 : tie.Need-returns-5
 returns-5 c =
-    let t = table (c .before .before .before .before .before .before .args .types .now) (c .before .before .before .before .before .before .args .names .now) in
     let kind = c .before .before .kind-of .ensures (c .before .before .before .before .before .before .args .names .now) in
-    λ h. c .text .ensures h t (c .before .before .before .before .before .before .args .row) (sym kind ∙ c .before .match .keys5)
+    λ h. c .octets .ensures h (c .before .before .before .before .before .before .args .names .now) (sym kind ∙ c .before .match .keys5)
 
 returns-6 : tie.Need-returns-6
-returns-6 c = λ h. absurd (omega (arith, c .taken2 .ensures .0))
+returns-6 c =
+    let t = table (c .before .before .before .before .before .before .args .types .now) (c .before .before .before .before .before .before .args .names .now) in
+    let kind = c .before .before .kind-of .ensures (c .before .before .before .before .before .before .args .names .now) in
+    λ h. c .text .ensures h t (c .before .before .before .before .before .before .args .row) (sym kind ∙ c .before .match .keys6)
+
+returns-7 : tie.Need-returns-7
+returns-7 c = λ h. absurd (omega (arith, c .taken2 .ensures .0))
 
 pub leaf-spec : {M : Type 1} → statement M
 leaf-spec =
@@ -72,6 +80,7 @@ leaf-spec =
     item-requires
     literal-null-requires
     taken-requires
+    octets-requires
     text-requires
     taken-requires-2
     returns
@@ -79,4 +88,5 @@ leaf-spec =
     returns-3
     returns-4
     returns-5
-    returns-6)
+    returns-6
+    returns-7)

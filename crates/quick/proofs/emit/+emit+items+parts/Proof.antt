@@ -1,10 +1,10 @@
--- Made by tools/answers.py from answers/emit/+emit+items+parts.ans: edit that. 88ace022fc51eb4c
+-- Made by tools/answers.py from answers/emit/+emit+items+parts.ans: edit that. ce6598ade4c6c9bc
 use Prim.Native.Nat.{ℕ, _<_, _≤_, _+_, _-_, _*_}
 use mathlib.Core.Path.{_≡_, refl, sym, ap, _∙_}
 use mathlib.Core.List.{List}
 use native.Mathlib.Omega.{arith}
 use lib.ListN.{length, getD}
-use Rattle.quick.proofs.EmitLaws.{noted-two, noted-three, noted-nodes, noted-slot, noted-bytes, row-stored, text-stored, parts-given, items-given, choice-given, list-emitted, parts-emitted, choice-emitted}
+use Rattle.quick.proofs.EmitLaws.{noted-two, noted-three, noted-nodes, noted-slot, row-stored, parts-given, items-given, choice-given, list-emitted, parts-emitted, choice-emitted}
 use Rattle.quick.proofs.PourLaws.{ItemsLoop, pouring-start, items-noted, items-step, items-again, items-end, PartsLoop, filling-start, link-inside, parts-some, parts-absent, parts-noted, parts-ahead, parts-again, parts-step, parts-end}
 use borrow.Author.Needs.{needs}
 use borrow.Fn.Kinds.{In}
@@ -19,8 +19,8 @@ use Rattle.quick.proofs.emit.parts.Reads as parts
 use Rattle.quick.proofs.emit.parts.Kinds as parts-kinds
 use Rattle.quick.proofs.emit.+emit+items+parts.Lts-parts as parts-lts
 use Rattle.quick.proofs.emit.node_at.Reads as node-at-reads
+use Rattle.quick.proofs.emit.string.Reads as string-reads
 use Rattle.quick.proofs.store.put_row.Reads as put-row-reads
-use Rattle.quick.proofs.store.put_text.Reads as put-text-reads
 use Rattle.types.proofs.row.count_of.Reads as count-of-reads
 use Rattle.types.proofs.row.element_of.Reads as element-of-reads
 use Rattle.types.proofs.row.kind_of.Reads as kind-of-reads
@@ -57,7 +57,7 @@ abbrev parts-below : ℕ → In 5 parts-kinds.ps
 parts-below t = and 5 parts-kinds.ps (falls 5 parts-kinds.ps _<_ μ-parts t) parts.Pre
 
 abbrev emit-calls : ℕ → emit-lts.Claims
-emit-calls t = (kind-of-reads.Asked, kind-of-reads.Learnt, put-row-reads.Asked, put-row-reads.Learnt, put-text-reads.Asked, put-text-reads.Learnt, wide-reads.Asked, wide-reads.Learnt, parts-below t, parts.Post, element-of-reads.Asked, element-of-reads.Learnt, items-below t, items.Post, type-at-reads.Asked, type-at-reads.Learnt, emit-below t, emit.Post)
+emit-calls t = (kind-of-reads.Asked, kind-of-reads.Learnt, put-row-reads.Asked, put-row-reads.Learnt, string-reads.Asked, string-reads.Learnt, parts-below t, parts.Post, wide-reads.Asked, wide-reads.Learnt, element-of-reads.Asked, element-of-reads.Learnt, items-below t, items.Post, type-at-reads.Asked, type-at-reads.Learnt, emit-below t, emit.Post)
 
 abbrev items-calls : ℕ → items-lts.Claims
 items-calls t = (emit-below t, emit.Post, node-at-reads.Asked, node-at-reads.Learnt)
@@ -119,24 +119,10 @@ emit-returns t c =
     let pool = c .before .before .before .before .before .before .before .before .before .before .before .before .before .args .pool .now in
     λ ns v k w. row-stored (c .before .before .before .before .before .before .before .before .before .before .before .before .before .args .offset) (c .before .before .before .before .before .before .before .before .before .before .before .before .before .args .slot) rows (c .before .before .put-row .last .0) pool (c .before .before .before .before .before .before .before .kind-of .ensures ns) (c .before .before .before .before .if1 .taken) (c .before .before .put-row .ensures) w
 
-emit-cast-put-row : (t : ℕ) → emit-lts.Need-cast-put-row (emit-calls t) (emit-at t) emit.Post
-emit-cast-put-row t c = search needs
-
-emit-put-row-requires-2 : (t : ℕ) → emit-lts.Need-put-row-requires-2 (emit-calls t) (emit-at t) emit.Post
-emit-put-row-requires-2 t c κs =
-    let here = noted-slot (c .before .before .before .before .before .before .before .before .before .before .before .pre .1 .0) in
-    omega (arith, here)
-
-emit-put-text-requires : (t : ℕ) → emit-lts.Need-put-text-requires (emit-calls t) (emit-at t) emit.Post
-emit-put-text-requires t c κs =
-    let noted = c .before .before .before .before .before .before .before .before .before .before .before .before .before .before .before .pre .1 .0 in
-    (c .before .before .before .before .before .before .before .before .before .before .before .before .before .before .before .pre .1 .1 .0, noted-bytes noted (c .before .before .before .before .before .before .before .before .before .kind-of .result) (c .before .before .before .before .before .before .before .before .before .kind-of .ensures) (c .before .before .before .before .before .before .if1 .left) (c .before .before .before .before .before .if2 .taken), omega (arith, noted .room .small))
-
-emit-wide-requires : (t : ℕ) → emit-lts.Need-wide-requires (emit-calls t) (emit-at t) emit.Post
-emit-wide-requires t c κs = search needs
-
-emit-add-result : (t : ℕ) → emit-lts.Need-add-result (emit-calls t) (emit-at t) emit.Post
-emit-add-result t c = search needs
+emit-string-requires : (t : ℕ) → emit-lts.Need-string-requires (emit-calls t) (emit-at t) emit.Post
+emit-string-requires t c κs =
+    let noted = c .before .before .before .before .before .before .before .before .before .before .before .before .pre .1 .0 in
+    (noted, c .before .before .before .before .before .before .before .before .before .before .before .before .pre .1 .1, λ ns. (omega (arith, c .before .before .before .if1 .left, c .before .before .before .before .before .before .kind-of .ensures ns), omega (arith, c .before .before .if2 .taken, c .before .before .before .before .before .before .kind-of .ensures ns)))
 
 emit-same-length-2 : (t : ℕ) → emit-lts.Need-same-length-2 (emit-calls t) (emit-at t) emit.Post
 emit-same-length-2 t c = search needs
@@ -145,13 +131,10 @@ emit-same-length-3 : (t : ℕ) → emit-lts.Need-same-length-3 (emit-calls t) (e
 emit-same-length-3 t c = search needs
 
 emit-returns-2 : (t : ℕ) → emit-lts.Need-returns-2 (emit-calls t) (emit-at t) emit.Post
-emit-returns-2 t c =
-    let rows = c .before .before .before .before .before .before .before .before .before .before .before .before .before .before .before .before .before .before .before .args .rows .now in
-    let pool = c .before .before .before .before .before .before .before .before .before .before .before .before .before .before .before .before .before .before .before .args .pool .now in
-    λ ns v k w. text-stored (c .before .before .before .before .before .before .before .before .before .before .before .before .before .before .before .before .before .before .before .args .offset) (c .before .before .before .before .before .before .before .before .before .before .before .before .before .before .before .before .before .before .before .args .slot) _ rows (c .before .before .before .before .before .before .before .put-row2 .last .0) pool (c .before .before .before .put-text .last .1 .0) (c .before .before .before .before .before .before .before .before .before .before .before .before .before .kind-of .ensures ns) (c .before .before .before .before .before .before .before .before .before .before .if1 .left) (c .before .before .before .before .before .before .before .before .before .if2 .taken) (c .before .before .before .before .before .before .before .put-row2 .ensures) (c .before .before .before .put-text .ensures .0) (c .before .before .before .put-text .ensures .1) (ap (λ (x : ℕ). c .before .before .before .before .before .before .before .before .before .before .before .before .before .before .before .before .before .before .before .args .offset + x) (c .wide .ensures .0)) w
+emit-returns-2 t c = c .before .before .before .before .string .ensures
 
-emit-put-row-requires-3 : (t : ℕ) → emit-lts.Need-put-row-requires-3 (emit-calls t) (emit-at t) emit.Post
-emit-put-row-requires-3 t c κs =
+emit-put-row-requires-2 : (t : ℕ) → emit-lts.Need-put-row-requires-2 (emit-calls t) (emit-at t) emit.Post
+emit-put-row-requires-2 t c κs =
     let here = noted-slot (c .before .before .before .before .before .before .before .before .before .before .before .pre .1 .0) in
     omega (arith, here)
 
@@ -167,7 +150,7 @@ emit-parts-requires : (t : ℕ) → emit-lts.Need-parts-requires (emit-calls t) 
 emit-parts-requires t c κs =
     let noted = c .before .before .before .before .before .before .before .before .before .before .before .before .before .before .before .before .before .pre .1 .0 in
     let three = noted-three (c .before .before .before .before .before .before .before .before .before .before .before .before .before .before .before .before .before .pre .1 .0) (c .before .before .before .before .before .before .before .before .before .before .before .kind-of .result) (c .before .before .before .before .before .before .before .before .before .before .before .kind-of .ensures) (c .before .before .before .before .before .before .before .if2 .left) in
-    (omega (arith, three, c .before .before .before .before .before .before .before .before .before .before .before .before .before .before .before .before .before .pre .1 .1 .1), (parts-given noted (c .before .before .before .before .before .put-row3 .last .0) (c .before .before .before .before .before .put-row3 .kept .0) (c .before .before .before .before .before .before .before .before .before .before .before .kind-of .result) (c .before .before .before .before .before .before .before .before .before .before .before .kind-of .ensures) (c .before .before .match .keys1), c .before .before .before .before .before .before .before .before .before .before .before .before .before .before .before .before .before .pre .1 .1, omega arith))
+    (omega (arith, three, c .before .before .before .before .before .before .before .before .before .before .before .before .before .before .before .before .before .pre .1 .1 .1), (parts-given noted (c .before .before .before .before .before .put-row2 .last .0) (c .before .before .before .before .before .put-row2 .kept .0) (c .before .before .before .before .before .before .before .before .before .before .before .kind-of .result) (c .before .before .before .before .before .before .before .before .before .before .before .kind-of .ensures) (c .before .before .match .keys1), c .before .before .before .before .before .before .before .before .before .before .before .before .before .before .before .before .before .pre .1 .1, omega arith))
 
 emit-add-wide : (t : ℕ) → emit-lts.Need-add-wide (emit-calls t) (emit-at t) emit.Post
 emit-add-wide t c =
@@ -184,8 +167,8 @@ emit-shared-slice-read-wide t c =
     let three = noted-three (c .before .before .before .before .before .before .before .before .before .before .before .before .before .before .before .before .pre .1 .0) (c .before .before .before .before .before .before .before .before .before .before .kind-of .result) (c .before .before .before .before .before .before .before .before .before .before .kind-of .ensures) (c .before .before .before .before .before .before .if2 .left) in
     omega (arith, three)
 
-emit-wide-requires-2 : (t : ℕ) → emit-lts.Need-wide-requires-2 (emit-calls t) (emit-at t) emit.Post
-emit-wide-requires-2 t c κs = search needs
+emit-wide-requires : (t : ℕ) → emit-lts.Need-wide-requires (emit-calls t) (emit-at t) emit.Post
+emit-wide-requires t c κs = search needs
 
 emit-element-of-requires : (t : ℕ) → emit-lts.Need-element-of-requires (emit-calls t) (emit-at t) emit.Post
 emit-element-of-requires t c κs = search needs
@@ -202,7 +185,7 @@ emit-items-requires : (t : ℕ) → emit-lts.Need-items-requires (emit-calls t) 
 emit-items-requires t c κs =
     let noted = c .before .before .before .before .before .before .before .before .before .before .before .before .before .before .before .before .before .before .before .before .pre .1 .0 in
     let three = noted-three (c .before .before .before .before .before .before .before .before .before .before .before .before .before .before .before .before .before .before .before .before .pre .1 .0) (c .before .before .before .before .before .before .before .before .before .before .before .before .before .before .kind-of .result) (c .before .before .before .before .before .before .before .before .before .before .before .before .before .before .kind-of .ensures) (c .before .before .before .before .before .before .before .before .before .before .if2 .left) in
-    (omega (arith, three, c .before .before .before .before .before .before .before .before .before .before .before .before .before .before .before .before .before .before .before .before .pre .1 .1 .1), (items-given noted (c .before .before .before .before .before .before .before .before .put-row3 .last .0) (c .before .before .before .before .before .before .before .before .put-row3 .kept .0) (c .before .before .before .before .before .before .before .before .before .before .before .before .before .before .kind-of .result) (c .before .before .before .before .before .before .before .before .before .before .before .before .before .before .kind-of .ensures) (c .before .before .before .before .before .match .keys2) (c .element-of .result) (c .before .before .before .wide2 .result) (c .element-of .ensures) (c .before .before .before .wide2 .ensures .0), c .before .before .before .before .before .before .before .before .before .before .before .before .before .before .before .before .before .before .before .before .pre .1 .1))
+    (omega (arith, three, c .before .before .before .before .before .before .before .before .before .before .before .before .before .before .before .before .before .before .before .before .pre .1 .1 .1), (items-given noted (c .before .before .before .before .before .before .before .before .put-row2 .last .0) (c .before .before .before .before .before .before .before .before .put-row2 .kept .0) (c .before .before .before .before .before .before .before .before .before .before .before .before .before .before .kind-of .result) (c .before .before .before .before .before .before .before .before .before .before .before .before .before .before .kind-of .ensures) (c .before .before .before .before .before .match .keys2) (c .element-of .result) (c .before .before .before .wide .result) (c .element-of .ensures) (c .before .before .before .wide .ensures .0), c .before .before .before .before .before .before .before .before .before .before .before .before .before .before .before .before .before .before .before .before .pre .1 .1))
 
 emit-type-at-requires : (t : ℕ) → emit-lts.Need-type-at-requires (emit-calls t) (emit-at t) emit.Post
 emit-type-at-requires t c κs = search needs
@@ -220,7 +203,7 @@ emit-emit-requires t c κs =
     let noted = c .before .before .before .before .before .before .before .before .before .before .before .before .before .before .before .before .before .before .pre .1 .0 in
     let three = noted-three (c .before .before .before .before .before .before .before .before .before .before .before .before .before .before .before .before .before .before .pre .1 .0) (c .before .before .before .before .before .before .before .before .before .before .before .before .kind-of .result) (c .before .before .before .before .before .before .before .before .before .before .before .before .kind-of .ensures) (c .before .before .before .before .before .before .before .before .if2 .left) in
     let others = c .before .before .before .match .rest in
-    (omega (arith, three, c .before .before .before .before .before .before .before .before .before .before .before .before .before .before .before .before .before .before .pre .1 .1 .1), (choice-given noted (c .before .before .before .before .before .before .put-row3 .last .0) (c .before .before .before .before .before .before .put-row3 .kept .0) (c .before .before .before .before .before .before .before .before .before .before .before .before .kind-of .result) (c .before .before .before .before .before .before .before .before .before .before .before .before .kind-of .ensures) (c .before .before .before .before .before .before .before .before .if2 .left) (others .0 .1) (others .1) (c .type-at .result) (c .type-at .ensures), c .before .before .before .before .before .before .before .before .before .before .before .before .before .before .before .before .before .before .pre .1 .1))
+    (omega (arith, three, c .before .before .before .before .before .before .before .before .before .before .before .before .before .before .before .before .before .before .pre .1 .1 .1), (choice-given noted (c .before .before .before .before .before .before .put-row2 .last .0) (c .before .before .before .before .before .before .put-row2 .kept .0) (c .before .before .before .before .before .before .before .before .before .before .before .before .kind-of .result) (c .before .before .before .before .before .before .before .before .before .before .before .before .kind-of .ensures) (c .before .before .before .before .before .before .before .before .if2 .left) (others .0 .1) (others .1) (c .type-at .result) (c .type-at .ensures), c .before .before .before .before .before .before .before .before .before .before .before .before .before .before .before .before .before .before .pre .1 .1))
 
 emit-same-length-4 : (t : ℕ) → emit-lts.Need-same-length-4 (emit-calls t) (emit-at t) emit.Post
 emit-same-length-4 t c = search needs
@@ -237,7 +220,7 @@ emit-returns-3 t c =
     let top = c .before .before .before .before .before .before .before .before .before .before .before .before .before .before .before .before .before .before .before .before .before .before .args .top in
     let rows = c .before .before .before .before .before .before .before .before .before .before .before .before .before .before .before .before .before .before .before .before .before .before .args .rows .now in
     let pool = c .before .before .before .before .before .before .before .before .before .before .before .before .before .before .before .before .before .before .before .before .before .before .args .pool .now in
-    parts-emitted types s z rows (c .before .before .before .before .before .before .before .before .before .before .put-row3 .last .0) (c .before .before .before .before .parts .last .1 .1 .1 .0) pool (c .before .before .before .before .parts .last .1 .1 .1 .1 .0) row top (c .before .before .before .before .before .before .before .before .before .before .before .before .before .before .before .before .before .before .before .before .before .before .args .slot) (c .before .before .before .before .before .before .before .before .before .before .before .before .before .before .before .before .before .before .before .before .before .before .args .offset) (c .before .before .before .before .parts .result) (c .before .before .before .before .before .before .before .before .before .before .before .before .before .before .before .before .kind-of .result) (c .before .before .before .before .before .before .before .before .before .before .before .before .before .before .before .before .kind-of .ensures) (c .before .before .before .before .before .before .before .before .before .before .put-row3 .ensures) (c .before .before .before .before .before .before .before .match .keys1) (c .before .before .before .before .parts .ensures)
+    parts-emitted types s z rows (c .before .before .before .before .before .before .before .before .before .before .put-row2 .last .0) (c .before .before .before .before .parts .last .1 .1 .1 .0) pool (c .before .before .before .before .parts .last .1 .1 .1 .1 .0) row top (c .before .before .before .before .before .before .before .before .before .before .before .before .before .before .before .before .before .before .before .before .before .before .args .slot) (c .before .before .before .before .before .before .before .before .before .before .before .before .before .before .before .before .before .before .before .before .before .before .args .offset) (c .before .before .before .before .parts .result) (c .before .before .before .before .before .before .before .before .before .before .before .before .before .before .before .before .kind-of .result) (c .before .before .before .before .before .before .before .before .before .before .before .before .before .before .before .before .kind-of .ensures) (c .before .before .before .before .before .before .before .before .before .before .put-row2 .ensures) (c .before .before .before .before .before .before .before .match .keys1) (c .before .before .before .before .parts .ensures)
 
 emit-same-length-6 : (t : ℕ) → emit-lts.Need-same-length-6 (emit-calls t) (emit-at t) emit.Post
 emit-same-length-6 t c = search needs
@@ -254,7 +237,7 @@ emit-returns-4 t c =
     let top = c .before .before .before .before .before .before .before .before .before .before .before .before .before .before .before .before .before .before .before .before .before .before .before .before .before .args .top in
     let rows = c .before .before .before .before .before .before .before .before .before .before .before .before .before .before .before .before .before .before .before .before .before .before .before .before .before .args .rows .now in
     let pool = c .before .before .before .before .before .before .before .before .before .before .before .before .before .before .before .before .before .before .before .before .before .before .before .before .before .args .pool .now in
-    list-emitted types s z rows (c .before .before .before .before .before .before .before .before .before .before .before .before .before .put-row3 .last .0) (c .before .before .before .before .items .last .1 .1 .1 .0) pool (c .before .before .before .before .items .last .1 .1 .1 .1 .0) row top (c .before .before .before .before .before .before .before .before .before .before .before .before .before .before .before .before .before .before .before .before .before .before .before .before .before .args .slot) (c .before .before .before .before .before .before .before .before .before .before .before .before .before .before .before .before .before .before .before .before .before .before .before .before .before .args .offset) (c .before .before .before .before .items .result) (c .before .before .before .before .before .before .before .before .before .before .before .before .before .before .before .before .before .before .before .kind-of .result) (c .before .before .before .before .before .before .before .before .before .before .before .before .before .before .before .before .before .before .before .kind-of .ensures) (c .before .before .before .before .before .before .before .before .before .before .before .before .before .put-row3 .ensures) (c .before .before .before .before .before .before .before .before .before .before .match .keys2) (c .before .before .before .before .before .element-of .result) (c .before .before .before .before .before .before .before .before .wide2 .result) (c .before .before .before .before .before .element-of .ensures) (c .before .before .before .before .before .before .before .before .wide2 .ensures .0) (c .before .before .before .before .items .ensures)
+    list-emitted types s z rows (c .before .before .before .before .before .before .before .before .before .before .before .before .before .put-row2 .last .0) (c .before .before .before .before .items .last .1 .1 .1 .0) pool (c .before .before .before .before .items .last .1 .1 .1 .1 .0) row top (c .before .before .before .before .before .before .before .before .before .before .before .before .before .before .before .before .before .before .before .before .before .before .before .before .before .args .slot) (c .before .before .before .before .before .before .before .before .before .before .before .before .before .before .before .before .before .before .before .before .before .before .before .before .before .args .offset) (c .before .before .before .before .items .result) (c .before .before .before .before .before .before .before .before .before .before .before .before .before .before .before .before .before .before .before .kind-of .result) (c .before .before .before .before .before .before .before .before .before .before .before .before .before .before .before .before .before .before .before .kind-of .ensures) (c .before .before .before .before .before .before .before .before .before .before .before .before .before .put-row2 .ensures) (c .before .before .before .before .before .before .before .before .before .before .match .keys2) (c .before .before .before .before .before .element-of .result) (c .before .before .before .before .before .before .before .before .wide .result) (c .before .before .before .before .before .element-of .ensures) (c .before .before .before .before .before .before .before .before .wide .ensures .0) (c .before .before .before .before .items .ensures)
 
 emit-same-length-8 : (t : ℕ) → emit-lts.Need-same-length-8 (emit-calls t) (emit-at t) emit.Post
 emit-same-length-8 t c = search needs
@@ -272,7 +255,7 @@ emit-returns-5 t c =
     let rows = c .before .before .before .before .before .before .before .before .before .before .before .before .before .before .before .before .before .before .before .before .before .before .before .args .rows .now in
     let pool = c .before .before .before .before .before .before .before .before .before .before .before .before .before .before .before .before .before .before .before .before .before .before .before .args .pool .now in
     let others = c .before .before .before .before .before .before .before .before .match .rest in
-    choice-emitted types s z rows (c .before .before .before .before .before .before .before .before .before .before .before .put-row3 .last .0) (c .before .before .before .before .emit .last .1 .1 .1 .0) pool (c .before .before .before .before .emit .last .1 .1 .1 .1 .0) row top (c .before .before .before .before .before .before .before .before .before .before .before .before .before .before .before .before .before .before .before .before .before .before .before .args .slot) (c .before .before .before .before .before .before .before .before .before .before .before .before .before .before .before .before .before .before .before .before .before .before .before .args .offset) (c .before .before .before .before .emit .result) (c .before .before .before .before .before .before .before .before .before .before .before .before .before .before .before .before .before .kind-of .result) (c .before .before .before .before .before .before .before .before .before .before .before .before .before .before .before .before .before .kind-of .ensures) (c .before .before .before .before .before .before .before .before .before .before .before .put-row3 .ensures) (c .before .before .before .before .before .before .before .before .before .before .before .before .before .if2 .left) (others .0 .1) (others .1) (c .before .before .before .before .before .type-at .result) (c .before .before .before .before .before .type-at .ensures) (c .before .before .before .before .emit .ensures)
+    choice-emitted types s z rows (c .before .before .before .before .before .before .before .before .before .before .before .put-row2 .last .0) (c .before .before .before .before .emit .last .1 .1 .1 .0) pool (c .before .before .before .before .emit .last .1 .1 .1 .1 .0) row top (c .before .before .before .before .before .before .before .before .before .before .before .before .before .before .before .before .before .before .before .before .before .before .before .args .slot) (c .before .before .before .before .before .before .before .before .before .before .before .before .before .before .before .before .before .before .before .before .before .before .before .args .offset) (c .before .before .before .before .emit .result) (c .before .before .before .before .before .before .before .before .before .before .before .before .before .before .before .before .before .kind-of .result) (c .before .before .before .before .before .before .before .before .before .before .before .before .before .before .before .before .before .kind-of .ensures) (c .before .before .before .before .before .before .before .before .before .before .before .put-row2 .ensures) (c .before .before .before .before .before .before .before .before .before .before .before .before .before .if2 .left) (others .0 .1) (others .1) (c .before .before .before .before .before .type-at .result) (c .before .before .before .before .before .type-at .ensures) (c .before .before .before .before .emit .ensures)
 
 items-loop-holds : (t : ℕ) → items-lts.Need-loop-holds (items-calls t) (items-at t) items.Post items-Inv-loop items-μ-loop
 items-loop-holds t c =
@@ -540,22 +523,18 @@ pub +emit+items+parts-spec : {M : Type 1} → statement M
     (emit-put-row-requires t)
     (emit-same-length t)
     (emit-returns t)
-    (emit-cast-put-row t)
-    (emit-put-row-requires-2 t)
-    (emit-put-text-requires t)
-    (emit-wide-requires t)
-    (emit-add-result t)
+    (emit-string-requires t)
     (emit-same-length-2 t)
     (emit-same-length-3 t)
     (emit-returns-2 t)
-    (emit-put-row-requires-3 t)
+    (emit-put-row-requires-2 t)
     (emit-add-parts t)
     (emit-add-parts-2 t)
     (emit-parts-requires t)
     (emit-add-wide t)
     (emit-mul-wide t)
     (emit-shared-slice-read-wide t)
-    (emit-wide-requires-2 t)
+    (emit-wide-requires t)
     (emit-element-of-requires t)
     (emit-add-items t)
     (emit-add-items-2 t)
