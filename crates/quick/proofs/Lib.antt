@@ -10,6 +10,8 @@ pub mod PartedLaws
 pub mod ObjectingLaws
 pub mod StepLaws
 pub mod ChoiceLaws
+pub mod ArrayLaws
+pub mod ArrayingLaws
 pub mod TextLaws
 pub mod EmitLaws
 pub mod StoreLaws

@@ -93,3 +93,9 @@ absent-no t s r i p b e h = rw (← e, ne-eqb b 0x6E h)
 
 pub absent-yes : (t : Table) (s : List ℕ) (r i p b : ℕ) (c : Bool) → b ≡ byteAt s p → b ≡ 0x6E → c ≡ nullAbsent t r i → c ≡ (eqb (byteAt s p) 0x6E && nullAbsent t r i)
 absent-yes t s r i p b c e h f = rw (← e, eq-eqb b 0x6E h) f
+
+pub missing-no : (t : Table) (s : List ℕ) (r i p b : ℕ) → b ≡ byteAt s p → (b ≡ 0x6E → ⊥) → false ≡ (eqb (byteAt s p) 0x6E && mayMiss t r i)
+missing-no t s r i p b e h = rw (← e, ne-eqb b 0x6E h)
+
+pub missing-yes : (t : Table) (s : List ℕ) (r i p b : ℕ) (c : Bool) → b ≡ byteAt s p → b ≡ 0x6E → c ≡ mayMiss t r i → c ≡ (eqb (byteAt s p) 0x6E && mayMiss t r i)
+missing-yes t s r i p b c e h f = rw (← e, eq-eqb b 0x6E h) f

@@ -27,11 +27,11 @@ use Rattle.quick.proofs.WalkLaws.{alike-same, alike-then, mark-inside, 
 use Rattle.quick.proofs.ObjectLaws.{Member, member-here, Members-so-far, members-none, members-more, Takes, knows, skips, Object, members-last, object-stood, empty-object-stood}
 use Rattle.quick.proofs.PartedLaws.{Parted, parted-none, parted-nulled, parted-valued, parted-along, parted-few, unmet-name}
 
-seq-rows : (ps : Parts) (t : Table) (r : ℕ) → length (rowsOf (vSeq ps) t r 0) ≡ suc (length (partRows ps t r 0 0))
+pub seq-rows : (ps : Parts) (t : Table) (r : ℕ) → length (rowsOf (vSeq ps) t r 0) ≡ suc (length (partRows ps t r 0 0))
 unfolding rowsOf above
 seq-rows ps t r = refl
 
-seq-pool : (ps : Parts) → length (poolOf (vSeq ps)) ≡ length (partPool ps)
+pub seq-pool : (ps : Parts) → length (poolOf (vSeq ps)) ≡ length (partPool ps)
 unfolding poolOf
 seq-pool ps = refl
 

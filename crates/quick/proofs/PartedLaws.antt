@@ -62,22 +62,22 @@ unfolding noParts lookup
 agrees-none t r i zero e = let g : i ≡ countOf t r = omega arith in noPart g
 agrees-none t r i (suc n) e = let g : i < countOf t r = omega arith in unmet g refl (agrees-none t r (suc i) n (omega arith))
 
-none-count : (n : ℕ) → countPresent (noParts n) ≡ 0
+pub none-count : (n : ℕ) → countPresent (noParts n) ≡ 0
 unfolding noParts countPresent
 none-count zero = refl
 none-count (suc n) = none-count n
 
-none-rows : (t : Table) (r k n : ℕ) → length (partRows (noParts n) t r k 0) ≡ n
+pub none-rows : (t : Table) (r k n : ℕ) → length (partRows (noParts n) t r k 0) ≡ n
 unfolding noParts rowsOf
 none-rows t r k zero = refl
 none-rows t r k (suc n) = ap suc (none-rows t r (suc k) n)
 
-none-pool : (n : ℕ) → length (partPool (noParts n)) ≡ 0
+pub none-pool : (n : ℕ) → length (partPool (noParts n)) ≡ 0
 unfolding noParts poolOf
 none-pool zero = refl
 none-pool (suc n) = none-pool n
 
-ones-zero : ones 0 ≡ 0
+pub ones-zero : ones 0 ≡ 0
 unfolding ones
 ones-zero = refl
 

@@ -8,7 +8,7 @@ use lib.Dec.{eqb}
 use lib.ListN.{length, getD, set, length-set}
 use Rattle.json.specs.Tree.{Json, jnull}
 use Rattle.json.specs.Grammar.{Value}
-use Rattle.jer.specs.Table.{Table, isType, countOf, typeAt, extensible}
+use Rattle.jer.specs.Table.{Table, isType, countOf, typeAt, extensible, mayMiss}
 use Rattle.jer.specs.Read.{nullAbsent, null?}
 use Rattle.jer.specs.Sane.{Sane}
 use Rattle.tokens.specs.Places.{byteAt}
@@ -19,7 +19,8 @@ use Rattle.quick.specs.declared.step.Step as declared-step
 use Rattle.spelled.specs.Stretch.{Stretch, Passed, ValueAt}
 use Rattle.quick.specs.Stood.{Spaces, TreeAt}
 use Rattle.quick.specs.Tape.{Alike, Stands}
-use Rattle.quick.specs.Taken.{Given, Taken, Walked, NameTaken, MemberAt, Met, valued, nulled, passed, Stepped}
+use Rattle.quick.specs.Taken as taken
+use Rattle.quick.specs.Taken.{Given, Taken, Walked, NameTaken, MemberAt, Met, valued, nulled, passed, Stepped, Reached}
 use Rattle.quick.proofs.TapeLaws.{alike-part}
 use Rattle.quick.proofs.WalkLaws.{alike-then, alike-set}
 use Rattle.quick.proofs.MemberLaws.{null-at}
@@ -36,6 +37,10 @@ no-null p = refl
 pub member-given : {t : Table} {s z f : List ℕ} {r p j at k m : ℕ} → Given t s z f r p j → k < countOf t r → m ≡ typeAt t r k → at ≤ length s → Given t s z f m at j
 member-given {r = r} {k = k} g l e a =
     record { sane = g .sane; typed = rw e (g .sane .member r k (g .typed) l); short = g .short; room = g .room; here = omega (arith, g .short); start = g .start; flags = g .flags }
+
+pub member-here-given : {t : Table} {s z f : List ℕ} {r p j k m : ℕ} → Given t s z f r p j → k < countOf t r → m ≡ typeAt t r k → Given t s z f m p j
+member-here-given {r = r} {k = k} g l e =
+    record { sane = g .sane; typed = rw e (g .sane .member r k (g .typed) l); short = g .short; room = g .room; here = g .here; start = g .start; flags = g .flags }
 
 member-at : {t : Table} {s : List ℕ} {r p at : ℕ} {nm : declared-name.Name} (nt : NameTaken t s r p nm) → Spaces s (nm .next) at → (d q : ℕ) (tree : Json) → TreeAt s d at q tree → MemberAt s d p q (nt .name) tree
 member-at {at = at} {nm = nm} nt sp d q tree k = record { colon = nm .next; named = nt .stood; from = at; gap = sp; value = k }
@@ -107,3 +112,49 @@ links-at b w c n e f = omega arith
 
 pub cleared-below : (z : List ℕ) (b c n : ℕ) → ((i : ℕ) → i < c → getD z (b + i) 0 ≡ 0) → c ≡ n → (i : ℕ) → i < n → getD z (b + i) 0 ≡ 0
 cleared-below z b c n f e i l = f i (omega arith)
+
+-- ---- an element of an ARRAY
+
+missing-is : (t : Table) (s : List ℕ) (d r at k q : ℕ) (tree : Json) {b : Bool} → b ≡ (eqb (byteAt s at) 0x6E && mayMiss t r k) → TreeAt s d at q tree → (null? tree && mayMiss t r k) ≡ b
+missing-is t s d r at k q tree ab w = ap (λ (x : Bool). x && mayMiss t r k) (sym (null-at s d at q tree w)) ∙ sym ab
+
+module _ {t : Table} {s z : List ℕ} {d r p top end met has k : ℕ} {g : declared-step.Step} where
+  pub element-surplus : countOf t r ≤ k → {b : Bool} → b ≡ extensible t r → b ≡ true → (n : ℕ) → (0 < n → ValueAt d s p n) → Gave n end 0 0 met has g → end ≤ length z → 0 < g .next → Reached t s z z d r p top end k met has g
+  element-surplus l e h n f w i o =
+      let x = f (omega (arith, w .0)) in
+      record {
+        how = taken.surplus (tree-to (x .tree) (w .0) (x .passed .stretch)) l (sym e ∙ h) refl (w .1) (w .2) (w .3) (w .4) (w .5);
+        ahead = omega (arith, w .0, x .passed .ahead);
+        placed = omega (arith, w .0, x .passed .inside);
+        words = omega (arith, w .1, w .2);
+        inside = omega (arith, w .1);
+        few = omega (arith, w .0, w .3, x .passed .ahead);
+      }
+
+  module _ (l : k < countOf t r) {b : Bool} (ab : b ≡ (eqb (byteAt s p) 0x6E && mayMiss t r k)) where
+    pub element-null : b ≡ true → (n : ℕ) → (0 < n → (d : ℕ) → Passed (Value d p (jnull p)) s p n) → {mt : ℕ} → mt ≡ withBit met k → Gave n end 0 0 mt has g → end ≤ length z → 0 < g .next → Reached t s z z d r p top end k met has g
+    element-null h n f em w i o =
+        let x = f (omega (arith, w .0)) in
+        let y = tree-to (jnull p) (w .0) (x d .stretch) in
+        record {
+          how = taken.nothing y l (missing-is t s d r p k (g .next) (jnull p) ab y ∙ h) refl (w .1) (w .2) (w .3) (w .4 ∙ em) (w .5);
+          ahead = omega (arith, w .0, x d .ahead);
+          placed = omega (arith, w .0, x d .inside);
+          words = omega (arith, w .1, w .2);
+          inside = omega (arith, w .1);
+          few = omega (arith, w .0, w .3, x d .ahead);
+        }
+
+    pub element-value : b ≡ false → (m c : ℕ) (v : Got) (y : List ℕ) → m ≡ typeAt t r k → c ≡ k → Walked t s z y d m p end v → (v .next ≡ 0 → ⊥) → {mt hs : ℕ} → mt ≡ withBit met k → hs ≡ withBit has k
+        → Gave (v .next) (v .tape) (v .rows) (v .pool) mt hs g → Reached t s z (set y (top + 3 + c) end) d r p top end k met has g
+    element-value h m c v y em ec w′ nz e₁ e₂ w =
+        let x : Taken t s y d (typeAt t r k) p end v = rw (← em) (w′ .taken (omega (arith, nz))) in
+        let q = tree-to (x .stood .tree) (w .0) (x .stood .here) in
+        record {
+          how = taken.there {z = y} q l (missing-is t s d r p k (g .next) (x .stood .tree) ab q ∙ h) (x .stood .reads) (w′ .kept) (rw (w .1) (x .stands)) (ap (λ (n : ℕ). set y (top + 3 + n) end) ec) (w .2 ∙ x .rows) (w .3 ∙ x .pool) (w .4 ∙ e₁) (w .5 ∙ e₂);
+          ahead = omega (arith, w .0, x .ahead);
+          placed = omega (arith, w .0, x .placed);
+          words = omega (arith, w .1, w .2, x .words);
+          inside = omega (arith, w .1, x .inside, length-set y (top + 3 + c) end);
+          few = omega (arith, w .0, w .3, x .few);
+        }

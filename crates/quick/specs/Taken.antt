@@ -124,3 +124,24 @@ pub record Stepped (t : Table) (s z₀ z₁ : List ℕ) (d r p top end met prese
   pub words : end + g .rows ≤ g .tape
   pub inside : g .tape ≤ length z₁
   pub few : p + g .pool ≤ g .next
+
+-- ---- an element of an ARRAY
+
+-- the element for the member at k: a value noted from `end` on, to which its link leads; a null that means its absence; or a surplus one, passed over
+pub data Element (t : Table) (s z₀ z₁ : List ℕ) (d r p top end k met present : ℕ) (g : declared-step.Step) : Type 0 where
+  there : {tree : Json} {v : Val} {z : List ℕ} → TreeAt s d p (g .next) tree → k < countOf t r → (null? tree && mayMiss t r k) ≡ false → read tree t (typeAt t r k) ≡ ok v → Alike z₀ z 0 end
+      → Stands s z t (typeAt t r k) v end (g .tape) → z₁ ≡ set z (top + 3 + k) end → g .rows ≡ length (rowsOf v t (typeAt t r k) 0) → g .pool ≡ length (poolOf v) → g .met ≡ withBit met k → g .present ≡ withBit present k
+      → Element t s z₀ z₁ d r p top end k met present g
+  nothing : {tree : Json} → TreeAt s d p (g .next) tree → k < countOf t r → (null? tree && mayMiss t r k) ≡ true → z₁ ≡ z₀ → g .tape ≡ end → g .rows ≡ 0 → g .pool ≡ 0 → g .met ≡ withBit met k → g .present ≡ present
+      → Element t s z₀ z₁ d r p top end k met present g
+  surplus : {tree : Json} → TreeAt s d p (g .next) tree → countOf t r ≤ k → extensible t r ≡ true → z₁ ≡ z₀ → g .tape ≡ end → g .rows ≡ 0 → g .pool ≡ 0 → g .met ≡ met → g .present ≡ present
+      → Element t s z₀ z₁ d r p top end k met present g
+
+-- what reading an element does
+pub record Reached (t : Table) (s z₀ z₁ : List ℕ) (d r p top end k met present : ℕ) (g : declared-step.Step) : Type 0 where
+  pub how : Element t s z₀ z₁ d r p top end k met present g
+  pub ahead : p < g .next
+  pub placed : g .next ≤ length s
+  pub words : end + g .rows ≤ g .tape
+  pub inside : g .tape ≤ length z₁
+  pub few : p + g .pool ≤ g .next

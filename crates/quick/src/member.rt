@@ -36,6 +36,16 @@ pub fn absent_at(types: &[u32], s: &[u8], row: usize, k: u32, place: usize) -> b
     null_absent(types, row, k)
 }
 
+// The element at the place is null, for the absence of the member at k of an ARRAY.
+pub fn missing_at(types: &[u32], s: &[u8], row: usize, k: u32, place: usize) -> bool
+    ensures { λ b. ⌜ ((ns : List ℕ) → b ≡ (eqb (byteAt (now (s .entry)) place) 0x6E && mayMiss (table (now (types .entry)) ns) row k)) ⌝ }
+{
+    if byte_at(s, place) != 0x6E {
+        return false;
+    }
+    may_miss(types, row, k)
+}
+
 // The member at k was met, or may be missing.
 fn lacks(types: &[u32], row: usize, met: u64, k: u32) -> bool
     requires { ⌜ k < 64 ⌝ }

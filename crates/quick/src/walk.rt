@@ -1,6 +1,7 @@
 // The walk over the text, which notes the value on the tape. `depth` brackets may be open in a value.
 use crate::Got;
 use crate::member::absent_at;
+use crate::member::missing_at;
 use crate::name::name_at;
 use crate::note::clear;
 use crate::note::head;
@@ -31,7 +32,7 @@ ghost use lib.ListN.{length};
 ghost use mathlib.Core.Bool.{true, false};
 ghost use Rattle.jer.specs.Table.{kindOf, isArray, isUnwrapped, countOf, SEQUENCE, SEQUENCE-OF, CHOICE, table};
 ghost use Rattle.quick.specs.Tape.{Alike};
-ghost use Rattle.quick.specs.Taken.{Given, Walked, Stepped};
+ghost use Rattle.quick.specs.Taken.{Given, Walked, Stepped, Reached};
 
 // The value of the type at `row` from the place on, noted on the tape from `top` on.
 pub fn value(types: &[u32], names: &[u8], s: &[u8], tape: &mut [u32], flags: &[u8; 256], memo: &mut [u8; 1024], row: usize, place: usize, top: usize, depth: u32) -> Got
@@ -147,7 +148,7 @@ fn sequence(types: &[u32], names: &[u8], s: &[u8], tape: &mut [u32], flags: &[u8
     ensures { λ r. ⌜ Walked (table (now (types .entry)) (now (names .entry))) (now (s .entry)) (now (tape .entry)) (now (tape .exit)) (depth + 1) row place top r ⌝ }
 {
     if Row::at(types, row).is_array() {
-        return other();
+        return array(types, names, s, tape, flags, memo, row, place, top, depth);
     }
     object(types, names, s, tape, flags, memo, row, place, top, depth)
 }
@@ -259,4 +260,75 @@ fn choice(types: &[u32], names: &[u8], s: &[u8], tape: &mut [u32], flags: &[u8; 
         return other();
     }
     head(tape, top, k, g.rows, g.pool, g.tape, c + 1)
+}
+
+// SEQUENCE as an array; `depth` brackets may be open in an element.
+fn array(types: &[u32], names: &[u8], s: &[u8], tape: &mut [u32], flags: &[u8; 256], memo: &mut [u8; 1024], row: usize, place: usize, top: usize, depth: u32) -> Got
+    requires { ⌜ Given (table (now types) (now names)) (now s) (now tape) (now flags) row place top ⌝ }
+    requires { ⌜ (kindOf (table (now types) (now names)) row ≡ SEQUENCE) × (isArray (table (now types) (now names)) row ≡ true) ⌝ }
+    ensures { λ r. ⌜ Walked (table (now (types .entry)) (now (names .entry))) (now (s .entry)) (now (tape .entry)) (now (tape .exit)) (depth + 1) row place top r ⌝ }
+{
+    if byte_at(s, place) != 0x5B {
+        return other();
+    }
+    let count = count_of(types, row);
+    let mut end = top + 3 + wide(count);
+    if tape.len() < end {
+        return other();
+    }
+    clear(tape, top + 3, count);
+    let mut at = space(s, place + 1);
+    if byte_at(s, at) == 0x5D {
+        return shut(types, tape, row, top, 0, 0, 0, 0, end, at + 1);
+    }
+    let mut k: u32 = 0;
+    let mut met: u64 = 0;
+    let mut present: u64 = 0;
+    let mut n: usize = 0;
+    let mut m: usize = 0;
+    loop {
+        let g = element(types, names, s, tape, flags, memo, row, at, top, end, k, met, present, depth);
+        if g.next == 0 {
+            return other();
+        }
+        let c = space(s, g.next);
+        let b = byte_at(s, c);
+        if b == 0x5D {
+            return shut(types, tape, row, top, g.met, g.present, n + g.rows, m + g.pool, g.tape, c + 1);
+        }
+        if b != 0x2C {
+            return other();
+        }
+        at = space(s, c + 1);
+        end = g.tape;
+        k += 1;
+        met = g.met;
+        present = g.present;
+        n += g.rows;
+        m += g.pool;
+    }
+}
+
+// The element at the place, for the member at k of the ARRAY whose header is at `top`: its value is noted from `end` on, and linked.
+fn element(types: &[u32], names: &[u8], s: &[u8], tape: &mut [u32], flags: &[u8; 256], memo: &mut [u8; 1024], row: usize, place: usize, top: usize, end: usize, k: u32, met: u64, present: u64, depth: u32) -> Step
+    requires { ⌜ Given (table (now types) (now names)) (now s) (now tape) (now flags) row place end ⌝ }
+    requires { ⌜ (top + 3 + countOf (table (now types) (now names)) row ≤ end) × (end ≤ length (now tape)) ⌝ }
+    ensures { λ r. ⌜ Alike (now (tape .entry)) (now (tape .exit)) 0 (top + 3) ⌝ }
+    ensures { λ r. ⌜ (0 < r .next → Reached (table (now (types .entry)) (now (names .entry))) (now (s .entry)) (now (tape .entry)) (now (tape .exit)) depth row place top end k met present r) ⌝ }
+{
+    if count_of(types, row) <= k {
+        if !Row::at(types, row).extensible() {
+            return no_step();
+        }
+        return gave(skip(s, place, flags, depth), end, 0, 0, met, present, 0);
+    }
+    if missing_at(types, s, row, k, place) {
+        return gave(literal_null(s, place), end, 0, 0, with(met, k), present, 0);
+    }
+    let g = value(types, names, s, tape, flags, memo, type_at(types, row, k), place, end, depth);
+    if g.next == 0 {
+        return no_step();
+    }
+    tape[top + 3 + wide(k)] = end as u32;
+    gave(g.next, g.tape, g.rows, g.pool, with(met, k), with(present, k), 0)
 }

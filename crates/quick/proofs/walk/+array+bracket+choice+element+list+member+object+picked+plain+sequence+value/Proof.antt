@@ -1,4 +1,4 @@
--- Made by tools/answers.py from answers/walk/+bracket+choice+list+member+object+picked+plain+sequence+value.ans: edit that. 97e841c6d4906cda
+-- Made by tools/answers.py from answers/walk/+array+bracket+choice+element+list+member+object+picked+plain+sequence+value.ans: edit that. 7154fe7710baa976
 use Prim.Native.Nat.{ℕ, _<_, _≤_, _+_, _-_, _*_}
 use mathlib.Core.Path.{_≡_, refl, sym, ap, _∙_}
 use native.Mathlib.Omega.{arith}
@@ -11,40 +11,48 @@ use Rattle.quick.proofs.TapeLaws.{alike-part}
 use Rattle.quick.proofs.WalkLaws.{alike-same, alike-then, not-taken, not-here, at-depth, mark-inside, given-part, given-on, given-at, given-distinct, walked-from, walked-if, spaced, within-at}
 use Rattle.places.specs.ByPlaces.{tokenAt}
 use Rattle.quick.proofs.ChoiceLaws.{choice-here, picked-given, picked-plain, picked-here}
-use Rattle.quick.proofs.StepLaws.{member-given, step-null, step-value, step-passed, link-kept, known-at, links-at, cleared-below}
+use Rattle.quick.proofs.StepLaws.{member-given, member-here-given, step-null, step-value, step-passed, element-surplus, element-null, element-value, link-kept, known-at, links-at, cleared-below}
+use Rattle.quick.proofs.ArrayingLaws.{Arraying, arraying-start, arraying-more, arraying-last, arraying-behind, shuts-behind, array-none}
 use Rattle.quick.proofs.ObjectingLaws.{Objecting, objecting-start, objecting-more, objecting-last, objecting-after, shuts-any, shuts-none, shuts-after, object-none}
 use Rattle.quick.proofs.ListingLaws.{Listing, listing-start, listing-bounds, listing-kept, listing-more, listing-last, list-none}
 use borrow.Author.Needs.{needs}
 use borrow.Fn.Kinds.{In}
 use borrow.Fn.PlainCycle.{Measures, is, falls, and}
+use Rattle.quick.proofs.walk.array.Reads as array
+use Rattle.quick.proofs.walk.array.Kinds as array-kinds
+use Rattle.quick.proofs.walk.+array+bracket+choice+element+list+member+object+picked+plain+sequence+value.Lts-array as array-lts
 use Rattle.quick.proofs.walk.bracket.Reads as bracket
 use Rattle.quick.proofs.walk.bracket.Kinds as bracket-kinds
-use Rattle.quick.proofs.walk.+bracket+choice+list+member+object+picked+plain+sequence+value.Lts-bracket as bracket-lts
+use Rattle.quick.proofs.walk.+array+bracket+choice+element+list+member+object+picked+plain+sequence+value.Lts-bracket as bracket-lts
 use Rattle.quick.proofs.walk.choice.Reads as choice
 use Rattle.quick.proofs.walk.choice.Kinds as choice-kinds
-use Rattle.quick.proofs.walk.+bracket+choice+list+member+object+picked+plain+sequence+value.Lts-choice as choice-lts
+use Rattle.quick.proofs.walk.+array+bracket+choice+element+list+member+object+picked+plain+sequence+value.Lts-choice as choice-lts
+use Rattle.quick.proofs.walk.element.Reads as element
+use Rattle.quick.proofs.walk.element.Kinds as element-kinds
+use Rattle.quick.proofs.walk.+array+bracket+choice+element+list+member+object+picked+plain+sequence+value.Lts-element as element-lts
 use Rattle.quick.proofs.walk.list.Reads as list
 use Rattle.quick.proofs.walk.list.Kinds as list-kinds
-use Rattle.quick.proofs.walk.+bracket+choice+list+member+object+picked+plain+sequence+value.Lts-list as list-lts
+use Rattle.quick.proofs.walk.+array+bracket+choice+element+list+member+object+picked+plain+sequence+value.Lts-list as list-lts
 use Rattle.quick.proofs.walk.member.Reads as member
 use Rattle.quick.proofs.walk.member.Kinds as member-kinds
-use Rattle.quick.proofs.walk.+bracket+choice+list+member+object+picked+plain+sequence+value.Lts-member as member-lts
+use Rattle.quick.proofs.walk.+array+bracket+choice+element+list+member+object+picked+plain+sequence+value.Lts-member as member-lts
 use Rattle.quick.proofs.walk.object.Reads as object
 use Rattle.quick.proofs.walk.object.Kinds as object-kinds
-use Rattle.quick.proofs.walk.+bracket+choice+list+member+object+picked+plain+sequence+value.Lts-object as object-lts
+use Rattle.quick.proofs.walk.+array+bracket+choice+element+list+member+object+picked+plain+sequence+value.Lts-object as object-lts
 use Rattle.quick.proofs.walk.picked.Reads as picked
 use Rattle.quick.proofs.walk.picked.Kinds as picked-kinds
-use Rattle.quick.proofs.walk.+bracket+choice+list+member+object+picked+plain+sequence+value.Lts-picked as picked-lts
+use Rattle.quick.proofs.walk.+array+bracket+choice+element+list+member+object+picked+plain+sequence+value.Lts-picked as picked-lts
 use Rattle.quick.proofs.walk.plain.Reads as plain
 use Rattle.quick.proofs.walk.plain.Kinds as plain-kinds
-use Rattle.quick.proofs.walk.+bracket+choice+list+member+object+picked+plain+sequence+value.Lts-plain as plain-lts
+use Rattle.quick.proofs.walk.+array+bracket+choice+element+list+member+object+picked+plain+sequence+value.Lts-plain as plain-lts
 use Rattle.quick.proofs.walk.sequence.Reads as sequence
 use Rattle.quick.proofs.walk.sequence.Kinds as sequence-kinds
-use Rattle.quick.proofs.walk.+bracket+choice+list+member+object+picked+plain+sequence+value.Lts-sequence as sequence-lts
+use Rattle.quick.proofs.walk.+array+bracket+choice+element+list+member+object+picked+plain+sequence+value.Lts-sequence as sequence-lts
 use Rattle.quick.proofs.walk.value.Reads as value
 use Rattle.quick.proofs.walk.value.Kinds as value-kinds
-use Rattle.quick.proofs.walk.+bracket+choice+list+member+object+picked+plain+sequence+value.Lts-value as value-lts
+use Rattle.quick.proofs.walk.+array+bracket+choice+element+list+member+object+picked+plain+sequence+value.Lts-value as value-lts
 use Rattle.quick.proofs.member.absent_at.Reads as absent-at-reads
+use Rattle.quick.proofs.member.missing_at.Reads as missing-at-reads
 use Rattle.quick.proofs.name.name_at.Reads as name-at-reads
 use Rattle.quick.proofs.note.clear.Reads as clear-reads
 use Rattle.quick.proofs.note.head.Reads as head-reads
@@ -70,14 +78,20 @@ use Rattle.types.proofs.row.kind_of.Reads as kind-of-reads
 use Rattle.types.proofs.row.type_at.Reads as type-at-reads
 use Rattle.types.proofs.row.wide.Reads as wide-reads
 use Rattle.types.proofs.token.alternative.Reads as alternative-reads
-use Rattle.quick.proofs.walk.+bracket+choice+list+member+object+picked+plain+sequence+value.{statement}
-use Rattle.quick.proofs.walk.+bracket+choice+list+member+object+picked+plain+sequence+value.Tie.{close}
+use Rattle.quick.proofs.walk.+array+bracket+choice+element+list+member+object+picked+plain+sequence+value.{statement}
+use Rattle.quick.proofs.walk.+array+bracket+choice+element+list+member+object+picked+plain+sequence+value.Tie.{close}
+
+abbrev μ-array : Measures 6 array-kinds.ps ℕ
+μ-array κs a = a .1 .1 .1 .1 .1 .1 .1 .1 .1 .0 * 8 + 7
 
 abbrev μ-bracket : Measures 6 bracket-kinds.ps ℕ
 μ-bracket κs a = a .1 .1 .1 .1 .1 .1 .1 .1 .1 .0 * 8 + 2
 
 abbrev μ-choice : Measures 6 choice-kinds.ps ℕ
 μ-choice κs a = a .1 .1 .1 .1 .1 .1 .1 .1 .1 .0 * 8 + 7
+
+abbrev μ-element : Measures 6 element-kinds.ps ℕ
+μ-element κs a = a .1 .1 .1 .1 .1 .1 .1 .1 .1 .1 .1 .1 .1 .0 * 8 + 6
 
 abbrev μ-list : Measures 6 list-kinds.ps ℕ
 μ-list κs a = a .1 .1 .1 .1 .1 .1 .1 .1 .1 .0 * 8 + 7
@@ -100,6 +114,12 @@ abbrev μ-sequence : Measures 6 sequence-kinds.ps ℕ
 abbrev μ-value : Measures 6 value-kinds.ps ℕ
 μ-value κs a = a .1 .1 .1 .1 .1 .1 .1 .1 .1 .0 * 8 + 5
 
+abbrev array-at : ℕ → In 6 array-kinds.ps
+array-at t = and 6 array-kinds.ps (is 6 array-kinds.ps μ-array t) array.Pre
+
+abbrev array-below : ℕ → In 6 array-kinds.ps
+array-below t = and 6 array-kinds.ps (falls 6 array-kinds.ps _<_ μ-array t) array.Pre
+
 abbrev bracket-at : ℕ → In 6 bracket-kinds.ps
 bracket-at t = and 6 bracket-kinds.ps (is 6 bracket-kinds.ps μ-bracket t) bracket.Pre
 
@@ -111,6 +131,12 @@ choice-at t = and 6 choice-kinds.ps (is 6 choice-kinds.ps μ-choice t) choice.Pr
 
 abbrev choice-below : ℕ → In 6 choice-kinds.ps
 choice-below t = and 6 choice-kinds.ps (falls 6 choice-kinds.ps _<_ μ-choice t) choice.Pre
+
+abbrev element-at : ℕ → In 6 element-kinds.ps
+element-at t = and 6 element-kinds.ps (is 6 element-kinds.ps μ-element t) element.Pre
+
+abbrev element-below : ℕ → In 6 element-kinds.ps
+element-below t = and 6 element-kinds.ps (falls 6 element-kinds.ps _<_ μ-element t) element.Pre
 
 abbrev list-at : ℕ → In 6 list-kinds.ps
 list-at t = and 6 list-kinds.ps (is 6 list-kinds.ps μ-list t) list.Pre
@@ -154,11 +180,17 @@ value-at t = and 6 value-kinds.ps (is 6 value-kinds.ps μ-value t) value.Pre
 abbrev value-below : ℕ → In 6 value-kinds.ps
 value-below t = and 6 value-kinds.ps (falls 6 value-kinds.ps _<_ μ-value t) value.Pre
 
+abbrev array-calls : ℕ → array-lts.Claims
+array-calls t = (byte-at-reads.Asked, byte-at-reads.Learnt, other-reads.Asked, other-reads.Learnt, count-of-reads.Asked, count-of-reads.Learnt, wide-reads.Asked, wide-reads.Learnt, clear-reads.Asked, clear-reads.Learnt, space-reads.Asked, space-reads.Learnt, shut-reads.Asked, shut-reads.Learnt, element-below t, element.Post)
+
 abbrev bracket-calls : ℕ → bracket-lts.Claims
 bracket-calls t = (other-reads.Asked, other-reads.Learnt, kind-of-reads.Asked, kind-of-reads.Learnt, sequence-below t, sequence.Post, list-below t, list.Post, choice-below t, choice.Post)
 
 abbrev choice-calls : ℕ → choice-lts.Claims
 choice-calls t = (byte-at-reads.Asked, byte-at-reads.Learnt, other-reads.Asked, other-reads.Learnt, space-reads.Asked, space-reads.Learnt, name-at-reads.Asked, name-at-reads.Learnt, count-of-reads.Asked, count-of-reads.Learnt, type-at-reads.Asked, type-at-reads.Learnt, value-below t, value.Post, head-reads.Asked, head-reads.Learnt)
+
+abbrev element-calls : ℕ → element-lts.Claims
+element-calls t = (count-of-reads.Asked, count-of-reads.Learnt, at-reads.Asked, at-reads.Learnt, extensible-reads.Asked, extensible-reads.Learnt, no-step-reads.Asked, no-step-reads.Learnt, skip-reads.Asked, skip-reads.Learnt, gave-reads.Asked, gave-reads.Learnt, missing-at-reads.Asked, missing-at-reads.Learnt, literal-null-reads.Asked, literal-null-reads.Learnt, with-reads.Asked, with-reads.Learnt, type-at-reads.Asked, type-at-reads.Learnt, value-below t, value.Post, wide-reads.Asked, wide-reads.Learnt)
 
 abbrev list-calls : ℕ → list-lts.Claims
 list-calls t = (byte-at-reads.Asked, byte-at-reads.Learnt, other-reads.Asked, other-reads.Learnt, element-of-reads.Asked, element-of-reads.Learnt, space-reads.Asked, space-reads.Learnt, head-reads.Asked, head-reads.Learnt, value-below t, value.Post)
@@ -176,10 +208,231 @@ abbrev plain-calls : ℕ → plain-lts.Claims
 plain-calls t = (kind-of-reads.Asked, kind-of-reads.Learnt, note-reads.Asked, note-reads.Learnt, bracket-below t, bracket.Post)
 
 abbrev sequence-calls : ℕ → sequence-lts.Claims
-sequence-calls t = (at-reads.Asked, at-reads.Learnt, is-array-reads.Asked, is-array-reads.Learnt, other-reads.Asked, other-reads.Learnt, object-below t, object.Post)
+sequence-calls t = (at-reads.Asked, at-reads.Learnt, is-array-reads.Asked, is-array-reads.Learnt, array-below t, array.Post, object-below t, object.Post)
 
 abbrev value-calls : ℕ → value-lts.Claims
 value-calls t = (kind-of-reads.Asked, kind-of-reads.Learnt, note-reads.Asked, note-reads.Learnt, at-reads.Asked, at-reads.Learnt, is-unwrapped-reads.Asked, is-unwrapped-reads.Learnt, picked-below t, picked.Post, bracket-below t, bracket.Post)
+
+abbrev array-Inv-loop : array-lts.InvT-loop
+array-Inv-loop types names s tape₀ flags memo₀ row place top depth count end₀ at₀ k₀ met₀ present₀ n₀ m₀ tape memo end at k met present n m = Arraying (table types names) s tape₀ tape depth row place top at end k met present n m
+
+abbrev array-μ-loop : array-lts.MeasureT-loop
+array-μ-loop types names s tape₀ flags memo₀ row place top depth count end₀ at₀ k₀ met₀ present₀ n₀ m₀ tape memo end at k met present n m = 65537 - at
+
+array-byte-at-requires : (t : ℕ) → array-lts.Need-byte-at-requires (array-calls t) (array-at t) array.Post array-Inv-loop array-μ-loop
+array-byte-at-requires t c κs = search needs
+
+array-other-requires : (t : ℕ) → array-lts.Need-other-requires (array-calls t) (array-at t) array.Post array-Inv-loop array-μ-loop
+array-other-requires t c κs = search needs
+
+array-returns : (t : ℕ) → array-lts.Need-returns (array-calls t) (array-at t) array.Post array-Inv-loop array-μ-loop
+array-returns t c =
+    let t = table (c .before .before .before .before .before .before .before .args .types .now) (c .before .before .before .before .before .before .before .args .names .now) in
+    let s = c .before .before .before .before .before .before .before .args .s .now in
+    let row = c .before .before .before .before .before .before .before .args .row in
+    let place = c .before .before .before .before .before .before .before .args .place in
+    let top = c .before .before .before .before .before .before .before .args .top in
+    not-here t s (c .before .before .before .before .before .before .before .args .tape .now) (c .before .before .before .before .before .before .before .args .depth + 1) row place top _ (c .other .ensures)
+
+array-count-of-requires : (t : ℕ) → array-lts.Need-count-of-requires (array-calls t) (array-at t) array.Post array-Inv-loop array-μ-loop
+array-count-of-requires t c κs = search needs
+
+array-add-end : (t : ℕ) → array-lts.Need-add-end (array-calls t) (array-at t) array.Post array-Inv-loop array-μ-loop
+array-add-end t c =
+    let given = c .before .before .before .before .before .before .before .pre .1 .0 in
+    omega (arith, given .start)
+
+array-wide-requires : (t : ℕ) → array-lts.Need-wide-requires (array-calls t) (array-at t) array.Post array-Inv-loop array-μ-loop
+array-wide-requires t c κs = search needs
+
+array-add-end-2 : (t : ℕ) → array-lts.Need-add-end-2 (array-calls t) (array-at t) array.Post array-Inv-loop array-μ-loop
+array-add-end-2 t c =
+    let names = c .before .before .before .before .before .before .before .before .args .names .now in
+    let row = c .before .before .before .before .before .before .before .before .args .row in
+    let given = c .before .before .before .before .before .before .before .before .pre .1 .0 in
+    let links = links-at (c .before .before .before .before .before .before .before .before .args .top + 3) _ _ _ (c .wide .ensures .0) (c .before .count-of .ensures names) in
+    omega (arith, given .start, links, given .sane .few row (given .typed))
+
+array-other-requires-2 : (t : ℕ) → array-lts.Need-other-requires-2 (array-calls t) (array-at t) array.Post array-Inv-loop array-μ-loop
+array-other-requires-2 t c κs = search needs
+
+array-returns-2 : (t : ℕ) → array-lts.Need-returns-2 (array-calls t) (array-at t) array.Post array-Inv-loop array-μ-loop
+array-returns-2 t c =
+    let t = table (c .before .before .before .before .before .before .before .before .before .before .args .types .now) (c .before .before .before .before .before .before .before .before .before .before .args .names .now) in
+    let s = c .before .before .before .before .before .before .before .before .before .before .args .s .now in
+    let row = c .before .before .before .before .before .before .before .before .before .before .args .row in
+    let place = c .before .before .before .before .before .before .before .before .before .before .args .place in
+    let top = c .before .before .before .before .before .before .before .before .before .before .args .top in
+    not-here t s (c .before .before .before .before .before .before .before .before .before .before .args .tape .now) (c .before .before .before .before .before .before .before .before .before .before .args .depth + 1) row place top _ (c .other2 .ensures)
+
+array-add-clear : (t : ℕ) → array-lts.Need-add-clear (array-calls t) (array-at t) array.Post array-Inv-loop array-μ-loop
+array-add-clear t c = search needs
+
+array-clear-requires : (t : ℕ) → array-lts.Need-clear-requires (array-calls t) (array-at t) array.Post array-Inv-loop array-μ-loop
+array-clear-requires t c κs = omega (arith, c .before .if2 .left, c .before .before .wide .ensures .0)
+
+array-add-space : (t : ℕ) → array-lts.Need-add-space (array-calls t) (array-at t) array.Post array-Inv-loop array-μ-loop
+array-add-space t c = search needs
+
+array-space-requires : (t : ℕ) → array-lts.Need-space-requires (array-calls t) (array-at t) array.Post array-Inv-loop array-μ-loop
+array-space-requires t c κs = search needs
+
+array-byte-at-requires-2 : (t : ℕ) → array-lts.Need-byte-at-requires-2 (array-calls t) (array-at t) array.Post array-Inv-loop array-μ-loop
+array-byte-at-requires-2 t c κs = search needs
+
+array-add-shut : (t : ℕ) → array-lts.Need-add-shut (array-calls t) (array-at t) array.Post array-Inv-loop array-μ-loop
+array-add-shut t c =
+    let mark = mark-inside (c .before .before .before .before .before .before .before .before .before .before .before .before .before .before .before .before .before .args .s .now) (c .before .before .before .space .result) (c .before .before .byte-at2 .result) 0x5D (c .before .before .byte-at2 .ensures .0) (c .before .if3 .taken) (omega arith) in
+    let given = c .before .before .before .before .before .before .before .before .before .before .before .before .before .before .before .before .before .pre .1 .0 in
+    omega (arith, mark, given .short)
+
+array-shut-requires : (t : ℕ) → array-lts.Need-shut-requires (array-calls t) (array-at t) array.Post array-Inv-loop array-μ-loop
+array-shut-requires t c κs =
+    let names = c .before .before .before .before .before .before .before .before .before .before .before .before .before .before .before .before .before .args .names .now in
+    let t = table (c .before .before .before .before .before .before .before .before .before .before .before .before .before .before .before .before .before .args .types .now) (c .before .before .before .before .before .before .before .before .before .before .before .before .before .before .before .before .before .args .names .now) in
+    let row = c .before .before .before .before .before .before .before .before .before .before .before .before .before .before .before .before .before .args .row in
+    let given = c .before .before .before .before .before .before .before .before .before .before .before .before .before .before .before .before .before .pre .1 .0 in
+    (shuts-any (c .before .before .before .before .before .before .before .before .before .before .before .before .before .before .before .before .before .args .types .now) names row 0 0 (shuts-none t row (given .sane) (given .typed)), omega (arith, c .before .before .before .before .before .before .before .before .if2 .left, c .before .before .before .before .before .before .clear .kept .0), omega (arith, c .before .before .before .before .before .before .before .before .if2 .left, given .room))
+
+array-same-length : (t : ℕ) → array-lts.Need-same-length (array-calls t) (array-at t) array.Post array-Inv-loop array-μ-loop
+array-same-length t c = search needs
+
+array-returns-3 : (t : ℕ) → array-lts.Need-returns-3 (array-calls t) (array-at t) array.Post array-Inv-loop array-μ-loop
+array-returns-3 t c =
+    let names = c .before .before .before .before .before .before .before .before .before .before .before .before .before .before .before .before .before .before .before .before .args .names .now in
+    let top = c .before .before .before .before .before .before .before .before .before .before .before .before .before .before .before .before .before .before .before .before .args .top in
+    let links = links-at (c .before .before .before .before .before .before .before .before .before .before .before .before .before .before .before .before .before .before .before .before .args .top + 3) _ _ _ (c .before .before .before .before .before .before .before .before .before .before .before .before .wide .ensures .0) (c .before .before .before .before .before .before .before .before .before .before .before .before .before .count-of .ensures names) in
+    let cleared = cleared-below (c .before .before .before .before .before .before .before .before .before .clear .last .0) (c .before .before .before .before .before .before .before .before .before .before .before .before .before .before .before .before .before .before .before .before .args .top + 3) _ _ (c .before .before .before .before .before .before .before .before .before .clear .ensures .1) (c .before .before .before .before .before .before .before .before .before .before .before .before .before .count-of .ensures names) in
+    walked-if (alike-then _ _ _ 0 top (alike-part 0 top (c .before .before .before .before .before .before .before .before .before .clear .ensures .0) (omega arith) (omega arith)) (c .before .before .shut .ensures .0)) (λ h. array-none (c .before .before .before .before .before .before .before .before .before .before .before .before .before .before .before .before .before .before .before .before .args .depth) (c .before .before .before .before .before .before .space .ensures .0) (c .before .before .before .before .before .before .space .ensures .1 .0) (c .before .before .before .before .before .before .before .before .before .clear .ensures .0) cleared links (omega (arith, c .before .before .before .before .before .before .before .before .before .before .before .if2 .left, c .before .before .before .before .before .before .before .before .before .clear .kept .0)) (c .before .before .before .before .before .before .before .before .before .before .before .before .before .before .before .before .before .before .before .before .pre .1 .1 .0) (c .before .before .before .before .before .before .before .before .before .before .before .before .before .before .before .before .before .before .before .before .pre .1 .1 .1) (c .before .before .before .before .before .before .before .before .before .before .before .before .before .before .before .byte-at .ensures .0) (c .before .before .before .before .before .before .before .before .before .before .before .before .before .before .if1 .left) (c .before .before .before .before .before .byte-at2 .ensures .0) (c .before .before .before .before .if3 .taken) (c .before .before .shut .ensures .1 h names))
+
+array-loop-holds : (t : ℕ) → array-lts.Need-loop-holds (array-calls t) (array-at t) array.Post array-Inv-loop array-μ-loop
+array-loop-holds t c =
+    let names = c .before .before .before .before .before .before .before .before .before .before .before .before .before .before .before .before .args .names .now in
+    let t = table (c .before .before .before .before .before .before .before .before .before .before .before .before .before .before .before .before .args .types .now) (c .before .before .before .before .before .before .before .before .before .before .before .before .before .before .before .before .args .names .now) in
+    let s = c .before .before .before .before .before .before .before .before .before .before .before .before .before .before .before .before .args .s .now in
+    let row = c .before .before .before .before .before .before .before .before .before .before .before .before .before .before .before .before .args .row in
+    let place = c .before .before .before .before .before .before .before .before .before .before .before .before .before .before .before .before .args .place in
+    let top = c .before .before .before .before .before .before .before .before .before .before .before .before .before .before .before .before .args .top in
+    let links = links-at (c .before .before .before .before .before .before .before .before .before .before .before .before .before .before .before .before .args .top + 3) _ _ _ (c .before .before .before .before .before .before .before .before .wide .ensures .0) (c .before .before .before .before .before .before .before .before .before .count-of .ensures names) in
+    let cleared = cleared-below (c .before .before .before .before .before .clear .last .0) (c .before .before .before .before .before .before .before .before .before .before .before .before .before .before .before .before .args .top + 3) _ _ (c .before .before .before .before .before .clear .ensures .1) (c .before .before .before .before .before .before .before .before .before .count-of .ensures names) in
+    arraying-start t s _ _ (c .before .before .before .before .before .before .before .before .before .before .before .before .before .before .before .before .args .depth) row place top (c .before .before .space .result) (c .before .before .space .ensures .0) (c .before .before .space .ensures .1 .0) (within-at (c .before .before .before .before .before .before .before .before .before .before .before .before .before .before .before .before .args .s .now) (c .before .before .space .ensures .1) (omega (arith, mark-inside s place (c .before .before .before .before .before .before .before .before .before .before .before .byte-at .result) 0x5B (c .before .before .before .before .before .before .before .before .before .before .before .byte-at .ensures .0) (c .before .before .before .before .before .before .before .before .before .before .if1 .left) (omega arith)))) (alike-same _ _ _) cleared refl (top + 3 + c .before .before .before .before .before .before .before .before .wide .result) links (omega (arith, c .before .before .before .before .before .before .before .if2 .left, c .before .before .before .before .before .clear .kept .0))
+
+array-element-requires : (t : ℕ) → array-lts.Need-element-requires (array-calls t) (array-at t) array.Post array-Inv-loop array-μ-loop
+array-element-requires t c κs =
+    let given = c .before .before .before .before .before .before .before .before .before .before .before .before .before .before .before .before .before .before .before .pre .1 .0 in
+    (omega arith, (given-on given (c .before .before .loop .inv .same ∙ c .before .before .before .before .before .before .before .before .clear .kept .0) (c .before .before .loop .inv .here) (c .before .before .loop .inv .inside), (c .before .before .loop .inv .start, c .before .before .loop .inv .inside)))
+
+array-other-requires-3 : (t : ℕ) → array-lts.Need-other-requires-3 (array-calls t) (array-at t) array.Post array-Inv-loop array-μ-loop
+array-other-requires-3 t c κs = search needs
+
+array-same-length-2 : (t : ℕ) → array-lts.Need-same-length-2 (array-calls t) (array-at t) array.Post array-Inv-loop array-μ-loop
+array-same-length-2 t c = search needs
+
+array-returns-4 : (t : ℕ) → array-lts.Need-returns-4 (array-calls t) (array-at t) array.Post array-Inv-loop array-μ-loop
+array-returns-4 t c =
+    let t = table (c .before .before .before .before .before .before .before .before .before .before .before .before .before .before .before .before .before .before .before .before .before .before .before .before .before .args .types .now) (c .before .before .before .before .before .before .before .before .before .before .before .before .before .before .before .before .before .before .before .before .before .before .before .before .before .args .names .now) in
+    let s = c .before .before .before .before .before .before .before .before .before .before .before .before .before .before .before .before .before .before .before .before .before .before .before .before .before .args .s .now in
+    let row = c .before .before .before .before .before .before .before .before .before .before .before .before .before .before .before .before .before .before .before .before .before .before .before .before .before .args .row in
+    let place = c .before .before .before .before .before .before .before .before .before .before .before .before .before .before .before .before .before .before .before .before .before .before .before .before .before .args .place in
+    let top = c .before .before .before .before .before .before .before .before .before .before .before .before .before .before .before .before .before .before .before .before .before .before .before .before .before .args .top in
+    not-taken t s (c .before .before .before .before .before .before .before .before .before .before .before .before .before .before .before .before .before .before .before .before .before .before .before .before .before .args .tape .now) _ (c .before .before .before .before .before .before .before .before .before .before .before .before .before .before .before .before .before .before .before .before .before .before .before .before .before .args .depth + 1) row place top _ (alike-then _ _ _ 0 top (alike-part 0 top (c .before .before .before .before .before .before .before .before .before .before .before .before .before .before .clear .ensures .0) (omega arith) (omega arith)) (alike-then _ _ _ 0 top (c .before .before .before .before .before .before .before .before .loop .inv .kept) (alike-part 0 top (c .before .before .before .before .before .element .ensures .0) (omega arith) (omega arith)))) (c .other3 .ensures)
+
+array-space-requires-2 : (t : ℕ) → array-lts.Need-space-requires-2 (array-calls t) (array-at t) array.Post array-Inv-loop array-μ-loop
+array-space-requires-2 t c κs = search needs
+
+array-byte-at-requires-3 : (t : ℕ) → array-lts.Need-byte-at-requires-3 (array-calls t) (array-at t) array.Post array-Inv-loop array-μ-loop
+array-byte-at-requires-3 t c κs = search needs
+
+array-add-shut-2 : (t : ℕ) → array-lts.Need-add-shut-2 (array-calls t) (array-at t) array.Post array-Inv-loop array-μ-loop
+array-add-shut-2 t c =
+    let given = c .before .before .before .before .before .before .before .before .before .before .before .before .before .before .before .before .before .before .before .before .before .before .before .before .before .before .before .before .before .pre .1 .0 in
+    let reached = c .before .before .before .before .before .before .before .before .before .element .ensures .1 (omega (arith, c .before .before .before .before .before .if4 .left)) in
+    omega (arith, reached .words, reached .inside, c .before .before .before .before .before .before .before .before .before .element .kept .1 .1 .1 .0, c .before .before .before .before .before .before .before .before .before .before .before .before .loop .inv .same, c .before .before .before .before .before .before .before .before .before .before .before .before .before .before .before .before .before .before .clear .kept .0, c .before .before .before .before .before .before .before .before .before .before .before .before .loop .inv .words, given .room)
+
+array-add-shut-3 : (t : ℕ) → array-lts.Need-add-shut-3 (array-calls t) (array-at t) array.Post array-Inv-loop array-μ-loop
+array-add-shut-3 t c =
+    let given = c .before .before .before .before .before .before .before .before .before .before .before .before .before .before .before .before .before .before .before .before .before .before .before .before .before .before .before .before .before .before .pre .1 .0 in
+    let reached = c .before .before .before .before .before .before .before .before .before .before .element .ensures .1 (omega (arith, c .before .before .before .before .before .before .if4 .left)) in
+    omega (arith, reached .few, reached .placed, c .before .before .before .before .before .before .before .before .before .before .before .before .before .loop .inv .few, given .short)
+
+array-add-shut-4 : (t : ℕ) → array-lts.Need-add-shut-4 (array-calls t) (array-at t) array.Post array-Inv-loop array-μ-loop
+array-add-shut-4 t c =
+    let mark = mark-inside (c .before .before .before .before .before .before .before .before .before .before .before .before .before .before .before .before .before .before .before .before .before .before .before .before .before .before .before .before .before .before .args .s .now) (c .before .before .before .before .before .space2 .result) (c .before .before .before .before .byte-at3 .result) 0x5D (c .before .before .before .before .byte-at3 .ensures .0) (c .before .before .before .if5 .taken) (omega arith) in
+    let given = c .before .before .before .before .before .before .before .before .before .before .before .before .before .before .before .before .before .before .before .before .before .before .before .before .before .before .before .before .before .before .pre .1 .0 in
+    omega (arith, mark, given .short)
+
+array-shut-requires-2 : (t : ℕ) → array-lts.Need-shut-requires-2 (array-calls t) (array-at t) array.Post array-Inv-loop array-μ-loop
+array-shut-requires-2 t c κs =
+    let names = c .before .before .before .before .before .before .before .before .before .before .before .before .before .before .before .before .before .before .before .before .before .before .before .before .before .before .before .before .before .before .args .names .now in
+    let row = c .before .before .before .before .before .before .before .before .before .before .before .before .before .before .before .before .before .before .before .before .before .before .before .before .before .before .before .before .before .before .args .row in
+    let given = c .before .before .before .before .before .before .before .before .before .before .before .before .before .before .before .before .before .before .before .before .before .before .before .before .before .before .before .before .before .before .pre .1 .0 in
+    let reached = c .before .before .before .before .before .before .before .before .before .before .element .ensures .1 (omega (arith, c .before .before .before .before .before .before .if4 .left)) in
+    (shuts-any (c .before .before .before .before .before .before .before .before .before .before .before .before .before .before .before .before .before .before .before .before .before .before .before .before .before .before .before .before .before .before .args .types .now) names row _ _ (shuts-behind (arraying-behind (c .before .before .before .before .before .before .before .before .before .before .before .before .before .loop .inv) reached (c .before .before .before .before .before .before .before .before .before .before .element .kept .1 .1 .1 .0) (c .before .before .before .before .before .before .before .before .before .before .element .ensures .0) (c .before .before .before .before .before .space2 .ensures .0)) (given .sane) (given .typed) (omega (arith, reached .words, reached .inside, c .before .before .before .before .before .before .before .before .before .before .element .kept .1 .1 .1 .0, c .before .before .before .before .before .before .before .before .before .before .before .before .before .loop .inv .same, c .before .before .before .before .before .before .before .before .before .before .before .before .before .before .before .before .before .before .before .clear .kept .0, c .before .before .before .before .before .before .before .before .before .before .before .before .before .loop .inv .words, given .room))), omega (arith, c .before .before .before .before .before .before .before .before .before .before .element .kept .1 .1 .1 .0, c .before .before .before .before .before .before .before .before .before .before .before .before .before .loop .inv .start, c .before .before .before .before .before .before .before .before .before .before .before .before .before .loop .inv .inside), omega (arith, reached .inside, c .before .before .before .before .before .before .before .before .before .before .element .kept .1 .1 .1 .0, c .before .before .before .before .before .before .before .before .before .before .before .before .before .loop .inv .same, c .before .before .before .before .before .before .before .before .before .before .before .before .before .before .before .before .before .before .before .clear .kept .0, given .room))
+
+array-same-length-3 : (t : ℕ) → array-lts.Need-same-length-3 (array-calls t) (array-at t) array.Post array-Inv-loop array-μ-loop
+array-same-length-3 t c = c .before .before .shut2 .kept .1 .0 ∙ c .before .before .before .before .before .before .before .before .before .before .before .before .before .element .kept .1 .1 .1 .0 ∙ c .before .before .before .before .before .before .before .before .before .before .before .before .before .before .before .before .loop .inv .same ∙ c .before .before .before .before .before .before .before .before .before .before .before .before .before .before .before .before .before .before .before .before .before .before .clear .kept .0
+
+array-returns-5 : (t : ℕ) → array-lts.Need-returns-5 (array-calls t) (array-at t) array.Post array-Inv-loop array-μ-loop
+array-returns-5 t c =
+    let names = c .before .before .before .before .before .before .before .before .before .before .before .before .before .before .before .before .before .before .before .before .before .before .before .before .before .before .before .before .before .before .before .before .before .args .names .now in
+    let top = c .before .before .before .before .before .before .before .before .before .before .before .before .before .before .before .before .before .before .before .before .before .before .before .before .before .before .before .before .before .before .before .before .before .args .top in
+    let step = c .before .before .before .before .before .before .before .before .before .before .before .before .before .element .ensures .1 (omega (arith, c .before .before .before .before .before .before .before .before .before .if4 .left)) in
+    let before = alike-part 0 top (c .before .before .before .before .before .before .before .before .before .before .before .before .before .before .before .before .before .before .before .before .before .before .clear .ensures .0) (omega arith) (omega arith) in
+    walked-from before (walked-if (alike-then _ _ _ 0 top (alike-then _ _ _ 0 top (c .before .before .before .before .before .before .before .before .before .before .before .before .before .before .before .before .loop .inv .kept) (alike-part 0 top (c .before .before .before .before .before .before .before .before .before .before .before .before .before .element .ensures .0) (omega arith) (omega arith))) (c .before .before .shut2 .ensures .0))
+    (λ h. arraying-last (c .before .before .before .before .before .before .before .before .before .before .before .before .before .before .before .before .loop .inv) step (c .before .before .before .before .before .before .before .before .before .before .before .before .before .element .kept .1 .1 .1 .0) (c .before .before .before .before .before .before .before .before .before .before .before .before .before .element .ensures .0) (c .before .before .before .before .before .before .before .before .space2 .ensures .0) (c .before .before .before .before .before .before .before .before .before .before .before .before .before .before .before .before .before .before .before .before .before .before .before .before .before .before .before .before .before .before .before .before .before .pre .1 .1 .0) (c .before .before .before .before .before .before .before .before .before .before .before .before .before .before .before .before .before .before .before .before .before .before .before .before .before .before .before .before .before .before .before .before .before .pre .1 .1 .1) (c .before .before .before .before .before .before .before .before .before .before .before .before .before .before .before .before .before .before .before .before .before .before .before .before .before .before .before .before .byte-at .ensures .0) (c .before .before .before .before .before .before .before .before .before .before .before .before .before .before .before .before .before .before .before .before .before .before .before .before .before .before .before .if1 .left) (c .before .before .before .before .before .before .before .byte-at3 .ensures .0) (c .before .before .before .before .before .before .if5 .taken) (c .before .before .before .before .before .before .before .before .space2 .ensures .1 .0) (c .before .before .shut2 .ensures .1 h names)))
+
+array-other-requires-4 : (t : ℕ) → array-lts.Need-other-requires-4 (array-calls t) (array-at t) array.Post array-Inv-loop array-μ-loop
+array-other-requires-4 t c κs = search needs
+
+array-same-length-4 : (t : ℕ) → array-lts.Need-same-length-4 (array-calls t) (array-at t) array.Post array-Inv-loop array-μ-loop
+array-same-length-4 t c = c .before .before .before .before .before .before .before .before .before .element .kept .1 .1 .1 .0 ∙ c .before .before .before .before .before .before .before .before .before .before .before .before .loop .inv .same ∙ c .before .before .before .before .before .before .before .before .before .before .before .before .before .before .before .before .before .before .clear .kept .0
+
+array-returns-6 : (t : ℕ) → array-lts.Need-returns-6 (array-calls t) (array-at t) array.Post array-Inv-loop array-μ-loop
+array-returns-6 t c =
+    let t = table (c .before .before .before .before .before .before .before .before .before .before .before .before .before .before .before .before .before .before .before .before .before .before .before .before .before .before .before .before .before .args .types .now) (c .before .before .before .before .before .before .before .before .before .before .before .before .before .before .before .before .before .before .before .before .before .before .before .before .before .before .before .before .before .args .names .now) in
+    let s = c .before .before .before .before .before .before .before .before .before .before .before .before .before .before .before .before .before .before .before .before .before .before .before .before .before .before .before .before .before .args .s .now in
+    let row = c .before .before .before .before .before .before .before .before .before .before .before .before .before .before .before .before .before .before .before .before .before .before .before .before .before .before .before .before .before .args .row in
+    let place = c .before .before .before .before .before .before .before .before .before .before .before .before .before .before .before .before .before .before .before .before .before .before .before .before .before .before .before .before .before .args .place in
+    let top = c .before .before .before .before .before .before .before .before .before .before .before .before .before .before .before .before .before .before .before .before .before .before .before .before .before .before .before .before .before .args .top in
+    not-taken t s (c .before .before .before .before .before .before .before .before .before .before .before .before .before .before .before .before .before .before .before .before .before .before .before .before .before .before .before .before .before .args .tape .now) _ (c .before .before .before .before .before .before .before .before .before .before .before .before .before .before .before .before .before .before .before .before .before .before .before .before .before .before .before .before .before .args .depth + 1) row place top _ (alike-then _ _ _ 0 top (alike-part 0 top (c .before .before .before .before .before .before .before .before .before .before .before .before .before .before .before .before .before .before .clear .ensures .0) (omega arith) (omega arith)) (alike-then _ _ _ 0 top (c .before .before .before .before .before .before .before .before .before .before .before .before .loop .inv .kept) (alike-part 0 top (c .before .before .before .before .before .before .before .before .before .element .ensures .0) (omega arith) (omega arith)))) (c .other4 .ensures)
+
+array-add-space-2 : (t : ℕ) → array-lts.Need-add-space-2 (array-calls t) (array-at t) array.Post array-Inv-loop array-μ-loop
+array-add-space-2 t c =
+    let comma = mark-inside (c .before .before .before .before .before .before .before .before .before .before .before .before .before .before .before .before .before .before .before .before .before .before .before .before .before .before .before .before .args .s .now) (c .before .before .before .space2 .result) (c .before .before .byte-at3 .result) 0x2C (c .before .before .byte-at3 .ensures .0) (c .if6 .left) (omega arith) in
+    let given = c .before .before .before .before .before .before .before .before .before .before .before .before .before .before .before .before .before .before .before .before .before .before .before .before .before .before .before .before .pre .1 .0 in
+    omega (arith, comma, given .short)
+
+array-space-requires-3 : (t : ℕ) → array-lts.Need-space-requires-3 (array-calls t) (array-at t) array.Post array-Inv-loop array-μ-loop
+array-space-requires-3 t c κs = search needs
+
+array-add-k : (t : ℕ) → array-lts.Need-add-k (array-calls t) (array-at t) array.Post array-Inv-loop array-μ-loop
+array-add-k t c =
+    let given = c .before .before .before .before .before .before .before .before .before .before .before .before .before .before .before .before .before .before .before .before .before .before .before .before .before .before .before .before .before .pre .1 .0 in
+    omega (arith, c .before .before .before .before .before .before .before .before .before .before .before .before .loop .inv .many, c .before .before .before .before .before .before .before .before .before .before .before .before .loop .inv .here, given .short)
+
+array-add-n : (t : ℕ) → array-lts.Need-add-n (array-calls t) (array-at t) array.Post array-Inv-loop array-μ-loop
+array-add-n t c =
+    let given = c .before .before .before .before .before .before .before .before .before .before .before .before .before .before .before .before .before .before .before .before .before .before .before .before .before .before .before .before .before .before .pre .1 .0 in
+    let reached = c .before .before .before .before .before .before .before .before .before .before .element .ensures .1 (omega (arith, c .before .before .before .before .before .before .if4 .left)) in
+    omega (arith, reached .words, reached .inside, c .before .before .before .before .before .before .before .before .before .before .element .kept .1 .1 .1 .0, c .before .before .before .before .before .before .before .before .before .before .before .before .before .loop .inv .same, c .before .before .before .before .before .before .before .before .before .before .before .before .before .before .before .before .before .before .before .clear .kept .0, c .before .before .before .before .before .before .before .before .before .before .before .before .before .loop .inv .words, given .room)
+
+array-add-m : (t : ℕ) → array-lts.Need-add-m (array-calls t) (array-at t) array.Post array-Inv-loop array-μ-loop
+array-add-m t c =
+    let given = c .before .before .before .before .before .before .before .before .before .before .before .before .before .before .before .before .before .before .before .before .before .before .before .before .before .before .before .before .before .before .before .pre .1 .0 in
+    let reached = c .before .before .before .before .before .before .before .before .before .before .before .element .ensures .1 (omega (arith, c .before .before .before .before .before .before .before .if4 .left)) in
+    omega (arith, reached .few, reached .placed, c .before .before .before .before .before .before .before .before .before .before .before .before .before .before .loop .inv .few, given .short)
+
+array-loop-less : (t : ℕ) → array-lts.Need-loop-less (array-calls t) (array-at t) array.Post array-Inv-loop array-μ-loop
+array-loop-less t c =
+    let given = c .before .before .before .before .before .before .before .before .before .before .before .before .before .before .before .before .before .before .before .before .before .before .before .before .before .before .before .before .before .before .before .pre .1 .0 in
+    let reached = c .before .before .before .before .before .before .before .before .before .before .before .element .ensures .1 (omega (arith, c .before .before .before .before .before .before .before .if4 .left)) in
+    omega (arith, reached .ahead, c .before .before .before .before .before .before .space2 .ensures .1 .0, c .before .before .space3 .ensures .1 .0, c .before .before .before .before .before .before .before .before .before .before .before .before .before .before .loop .inv .here, given .short)
+
+array-loop-again : (t : ℕ) → array-lts.Need-loop-again (array-calls t) (array-at t) array.Post array-Inv-loop array-μ-loop
+array-loop-again t c =
+    let s = c .before .before .before .before .before .before .before .before .before .before .before .before .before .before .before .before .before .before .before .before .before .before .before .before .before .before .before .before .before .before .before .args .s .now in
+    let reached = c .before .before .before .before .before .before .before .before .before .before .before .element .ensures .1 (omega (arith, c .before .before .before .before .before .before .before .if4 .left)) in
+    arraying-more (c .before .before .before .before .before .before .before .before .before .before .before .before .before .before .loop .inv) reached (c .before .before .before .before .before .before .before .before .before .before .before .element .kept .1 .1 .1 .0) (c .before .before .before .before .before .before .before .before .before .before .before .element .ensures .0) (c .before .before .before .before .before .before .space2 .ensures .0) (c .before .before .before .before .before .byte-at3 .ensures .0) (c .before .before .before .if6 .left) (c .before .before .before .before .before .before .space2 .ensures .1 .0) (c .before .before .space3 .ensures .0) (c .before .before .space3 .ensures .1 .0) (within-at (c .before .before .before .before .before .before .before .before .before .before .before .before .before .before .before .before .before .before .before .before .before .before .before .before .before .before .before .before .before .before .before .args .s .now) (c .before .before .space3 .ensures .1) (omega (arith, mark-inside s (c .before .before .before .before .before .before .space2 .result) (c .before .before .before .before .before .byte-at3 .result) 0x2C (c .before .before .before .before .before .byte-at3 .ensures .0) (c .before .before .before .if6 .left) (omega arith))))
 
 bracket-other-requires : (t : ℕ) → bracket-lts.Need-other-requires (bracket-calls t) (bracket-at t) bracket.Post
 bracket-other-requires t c κs = search needs
@@ -415,6 +668,139 @@ choice-returns-6 : (t : ℕ) → choice-lts.Need-returns-6 (choice-calls t) (cho
 choice-returns-6 t c =
     let names = c .before .before .before .before .before .before .before .before .before .before .before .before .before .before .before .before .before .before .before .before .before .before .before .before .before .before .before .before .before .args .names .now in
     choice-here (c .before .before .before .before .before .before .before .before .before .before .before .before .before .before .before .before .before .before .before .before .before .before .before .before .before .before .before .before .before .pre .1 .1 .1) (c .before .before .before .before .before .before .before .before .before .before .before .before .before .before .before .before .before .before .before .before .before .before .before .before .before .before .before .before .before .pre .1 .1 .2) (c .before .before .before .before .before .before .before .before .before .before .before .before .before .before .before .before .before .before .before .before .before .before .before .before .byte-at .ensures .0) (c .before .before .before .before .before .before .before .before .before .before .before .before .before .before .before .before .before .before .before .before .before .before .before .if1 .left) (c .before .before .before .before .before .before .before .before .before .before .before .before .before .before .before .before .before .before .before .before .before .space .ensures .0) (c .before .before .before .before .before .before .before .before .before .before .before .before .before .before .before .before .before .before .before .before .before .space .ensures .1 .0) (c .before .before .before .before .before .before .before .before .before .before .before .before .before .before .before .before .before .before .before .before .name-at .ensures (omega (arith, c .before .before .before .before .before .before .before .before .before .before .before .before .before .before .before .before .before .before .if2 .left))) (known-at (c .before .before .before .before .before .before .before .before .before .before .before .before .before .before .before .before .if3 .left) (c .before .before .before .before .before .before .before .before .before .before .before .before .before .before .before .before .before .count-of .ensures names)) (c .before .before .before .before .before .before .before .before .before .before .before .before .before .before .before .space2 .ensures .0) (c .before .before .before .before .before .before .before .before .before .before .before .before .before .before .before .space2 .ensures .1 .0) (c .before .before .before .before .before .before .before .before .before .before .before .before .type-at .ensures names) (c .before .before .before .before .before .before .before .before .before .before .before .value .ensures) (c .before .before .before .before .before .before .before .if4 .left) (c .before .before .before .before .before .before .space3 .ensures .0) (c .before .before .before .before .before .before .space3 .ensures .1 .0) (c .before .before .before .before .before .byte-at2 .ensures .0) (c .before .before .before .before .if5 .left) (c .before .before .head .ensures .0) (c .before .before .head .ensures .1)
+
+element-count-of-requires : (t : ℕ) → element-lts.Need-count-of-requires (element-calls t) (element-at t) element.Post
+element-count-of-requires t c κs = search needs
+
+element-at-requires : (t : ℕ) → element-lts.Need-at-requires (element-calls t) (element-at t) element.Post
+element-at-requires t c κs = search needs
+
+element-extensible-requires : (t : ℕ) → element-lts.Need-extensible-requires (element-calls t) (element-at t) element.Post
+element-extensible-requires t c κs = search needs
+
+element-no-step-requires : (t : ℕ) → element-lts.Need-no-step-requires (element-calls t) (element-at t) element.Post
+element-no-step-requires t c κs = search needs
+
+element-returns : (t : ℕ) → element-lts.Need-returns (element-calls t) (element-at t) element.Post
+element-returns t c = (alike-same _ _ _, λ h. absurd (omega (arith, c .no-step .ensures)))
+
+element-skip-requires : (t : ℕ) → element-lts.Need-skip-requires (element-calls t) (element-at t) element.Post
+element-skip-requires t c κs =
+    let given = c .before .before .before .before .before .before .before .before .before .pre .1 .0 in
+    given .flags
+
+element-gave-requires : (t : ℕ) → element-lts.Need-gave-requires (element-calls t) (element-at t) element.Post
+element-gave-requires t c κs = search needs
+
+element-returns-2 : (t : ℕ) → element-lts.Need-returns-2 (element-calls t) (element-at t) element.Post
+element-returns-2 t c =
+    let names = c .before .before .before .before .before .before .before .before .before .before .before .args .names .now in
+    let t = table (c .before .before .before .before .before .before .before .before .before .before .before .args .types .now) (c .before .before .before .before .before .before .before .before .before .before .before .args .names .now) in
+    let row = c .before .before .before .before .before .before .before .before .before .before .before .args .row in
+    (alike-same _ _ _, element-surplus (omega (arith, c .before .before .before .before .before .if1 .taken, c .before .before .before .before .before .before .count-of .ensures names)) (c .before .before .before .extensible .ensures t row (c .before .before .before .before .at .ensures names)) (not-false _ (c .before .before .if2 .left)) (c .before .skip .result) (c .before .skip .ensures) (c .gave .ensures) (c .before .before .before .before .before .before .before .before .before .before .before .pre .1 .1 .1))
+
+element-missing-at-requires : (t : ℕ) → element-lts.Need-missing-at-requires (element-calls t) (element-at t) element.Post
+element-missing-at-requires t c κs = search needs
+
+element-literal-null-requires : (t : ℕ) → element-lts.Need-literal-null-requires (element-calls t) (element-at t) element.Post
+element-literal-null-requires t c κs = search needs
+
+element-with-requires : (t : ℕ) → element-lts.Need-with-requires (element-calls t) (element-at t) element.Post
+element-with-requires t c κs =
+    let names = c .before .before .before .before .before .before .before .before .before .args .names .now in
+    let row = c .before .before .before .before .before .before .before .before .before .args .row in
+    let given = c .before .before .before .before .before .before .before .before .before .pre .1 .0 in
+    let below = known-at (c .before .before .before .if1 .left) (c .before .before .before .before .count-of .ensures names) in
+    omega (arith, below, given .sane .few row (given .typed))
+
+element-gave-requires-2 : (t : ℕ) → element-lts.Need-gave-requires-2 (element-calls t) (element-at t) element.Post
+element-gave-requires-2 t c κs = search needs
+
+element-returns-3 : (t : ℕ) → element-lts.Need-returns-3 (element-calls t) (element-at t) element.Post
+element-returns-3 t c =
+    let names = c .before .before .before .before .before .before .before .before .before .before .before .args .names .now in
+    let below = known-at (c .before .before .before .before .before .if1 .left) (c .before .before .before .before .before .before .count-of .ensures names) in
+    (alike-same _ _ _, element-null below (c .before .before .before .before .missing-at .ensures names) (c .before .before .before .if3 .taken) (c .before .before .literal-null .result) (c .before .before .literal-null .ensures) (c .before .with .ensures) (c .gave2 .ensures) (c .before .before .before .before .before .before .before .before .before .before .before .pre .1 .1 .1))
+
+element-type-at-requires : (t : ℕ) → element-lts.Need-type-at-requires (element-calls t) (element-at t) element.Post
+element-type-at-requires t c κs = search needs
+
+element-value-requires : (t : ℕ) → element-lts.Need-value-requires (element-calls t) (element-at t) element.Post
+element-value-requires t c κs =
+    let names = c .before .before .before .before .before .before .before .before .before .before .before .args .names .now in
+    let given = c .before .before .before .before .before .before .before .before .before .before .before .pre .1 .0 in
+    let below = known-at (c .before .before .before .before .before .if1 .left) (c .before .before .before .before .before .before .count-of .ensures names) in
+    (omega arith, member-here-given given below (c .type-at .ensures names))
+
+element-no-step-requires-2 : (t : ℕ) → element-lts.Need-no-step-requires-2 (element-calls t) (element-at t) element.Post
+element-no-step-requires-2 t c κs = search needs
+
+element-same-length : (t : ℕ) → element-lts.Need-same-length (element-calls t) (element-at t) element.Post
+element-same-length t c = search needs
+
+element-returns-4 : (t : ℕ) → element-lts.Need-returns-4 (element-calls t) (element-at t) element.Post
+element-returns-4 t c = (alike-part 0 (c .before .before .before .before .before .before .before .before .before .before .before .before .before .before .before .before .before .args .top + 3) (c .before .before .before .before .before .value .ensures .kept) (omega arith) (omega (arith, c .before .before .before .before .before .before .before .before .before .before .before .before .before .before .before .before .before .pre .1 .1 .0)), λ h. absurd (omega (arith, c .no-step2 .ensures)))
+
+element-cast-tape : (t : ℕ) → element-lts.Need-cast-tape (element-calls t) (element-at t) element.Post
+element-cast-tape t c =
+    let given = c .before .before .before .before .before .before .before .before .before .before .before .before .before .before .before .before .pre .1 .0 in
+    omega (arith, given .start)
+
+element-add-tape : (t : ℕ) → element-lts.Need-add-tape (element-calls t) (element-at t) element.Post
+element-add-tape t c =
+    let given = c .before .before .before .before .before .before .before .before .before .before .before .before .before .before .before .before .pre .1 .0 in
+    omega (arith, given .start, c .before .before .before .before .before .before .before .before .before .before .before .before .before .before .before .before .pre .1 .1 .0)
+
+element-wide-requires : (t : ℕ) → element-lts.Need-wide-requires (element-calls t) (element-at t) element.Post
+element-wide-requires t c κs = search needs
+
+element-add-tape-2 : (t : ℕ) → element-lts.Need-add-tape-2 (element-calls t) (element-at t) element.Post
+element-add-tape-2 t c =
+    let names = c .before .before .before .before .before .before .before .before .before .before .before .before .before .before .before .before .before .args .names .now in
+    let given = c .before .before .before .before .before .before .before .before .before .before .before .before .before .before .before .before .before .pre .1 .0 in
+    let below = known-at (c .before .before .before .before .before .before .before .before .before .before .before .if1 .left) (c .before .before .before .before .before .before .before .before .before .before .before .before .count-of .ensures names) in
+    omega (arith, given .start, c .before .before .before .before .before .before .before .before .before .before .before .before .before .before .before .before .before .pre .1 .1 .0, below, c .wide .ensures .0)
+
+element-mul-tape : (t : ℕ) → element-lts.Need-mul-tape (element-calls t) (element-at t) element.Post
+element-mul-tape t c =
+    let names = c .before .before .before .before .before .before .before .before .before .before .before .before .before .before .before .before .before .args .names .now in
+    let given = c .before .before .before .before .before .before .before .before .before .before .before .before .before .before .before .before .before .pre .1 .0 in
+    let below = known-at (c .before .before .before .before .before .before .before .before .before .before .before .if1 .left) (c .before .before .before .before .before .before .before .before .before .before .before .before .count-of .ensures names) in
+    omega (arith, given .start, c .before .before .before .before .before .before .before .before .before .before .before .before .before .before .before .before .before .pre .1 .1 .0, below, c .wide .ensures .0)
+
+element-slice-write-tape : (t : ℕ) → element-lts.Need-slice-write-tape (element-calls t) (element-at t) element.Post
+element-slice-write-tape t c =
+    let names = c .before .before .before .before .before .before .before .before .before .before .before .before .before .before .before .before .before .args .names .now in
+    let below = known-at (c .before .before .before .before .before .before .before .before .before .before .before .if1 .left) (c .before .before .before .before .before .before .before .before .before .before .before .before .count-of .ensures names) in
+    omega (arith, c .before .before .before .before .before .before .before .before .before .before .before .before .before .before .before .before .before .pre .1 .1 .0, c .before .before .before .before .before .before .before .before .before .before .before .before .before .before .before .before .before .pre .1 .1 .1, below, c .wide .ensures .0, c .before .before .before .before .before .value .kept .1 .1 .1 .0)
+
+element-with-requires-2 : (t : ℕ) → element-lts.Need-with-requires-2 (element-calls t) (element-at t) element.Post
+element-with-requires-2 t c κs =
+    let names = c .before .before .before .before .before .before .before .before .before .before .before .before .before .before .before .before .before .args .names .now in
+    let row = c .before .before .before .before .before .before .before .before .before .before .before .before .before .before .before .before .before .args .row in
+    let given = c .before .before .before .before .before .before .before .before .before .before .before .before .before .before .before .before .before .pre .1 .0 in
+    let below = known-at (c .before .before .before .before .before .before .before .before .before .before .before .if1 .left) (c .before .before .before .before .before .before .before .before .before .before .before .before .count-of .ensures names) in
+    omega (arith, below, given .sane .few row (given .typed))
+
+element-with-requires-3 : (t : ℕ) → element-lts.Need-with-requires-3 (element-calls t) (element-at t) element.Post
+element-with-requires-3 t c κs =
+    let names = c .before .before .before .before .before .before .before .before .before .before .before .before .before .before .before .before .before .before .args .names .now in
+    let row = c .before .before .before .before .before .before .before .before .before .before .before .before .before .before .before .before .before .before .args .row in
+    let given = c .before .before .before .before .before .before .before .before .before .before .before .before .before .before .before .before .before .before .pre .1 .0 in
+    let below = known-at (c .before .before .before .before .before .before .before .before .before .before .before .before .if1 .left) (c .before .before .before .before .before .before .before .before .before .before .before .before .before .count-of .ensures names) in
+    omega (arith, below, given .sane .few row (given .typed))
+
+element-gave-requires-3 : (t : ℕ) → element-lts.Need-gave-requires-3 (element-calls t) (element-at t) element.Post
+element-gave-requires-3 t c κs = search needs
+
+element-same-length-2 : (t : ℕ) → element-lts.Need-same-length-2 (element-calls t) (element-at t) element.Post
+element-same-length-2 t c = search needs
+
+element-returns-5 : (t : ℕ) → element-lts.Need-returns-5 (element-calls t) (element-at t) element.Post
+element-returns-5 t c =
+    let names = c .before .before .before .before .before .before .before .before .before .before .before .before .before .before .before .before .before .before .before .before .args .names .now in
+    let below = known-at (c .before .before .before .before .before .before .before .before .before .before .before .before .before .before .if1 .left) (c .before .before .before .before .before .before .before .before .before .before .before .before .before .before .before .count-of .ensures names) in
+    (link-kept (c .before .before .before .before .before .before .before .before .before .before .before .before .before .before .before .before .before .before .before .before .args .top + 3) (c .before .before .before .wide .result) (c .before .before .before .before .before .before .before .before .value .ensures) (omega (arith, c .before .before .before .before .before .before .before .before .before .before .before .before .before .before .before .before .before .before .before .before .pre .1 .1 .0)), λ _. element-value below (c .before .before .before .before .before .before .before .before .before .before .before .before .before .missing-at .ensures names) (c .before .before .before .before .before .before .before .before .before .before .before .before .if3 .left) (c .before .before .before .before .before .before .before .before .before .type-at .result) (c .before .before .before .wide .result) (c .before .before .before .before .before .before .before .before .value .result) (c .before .before .before .before .before .before .before .before .value .last .1 .1 .1 .0) (c .before .before .before .before .before .before .before .before .before .type-at .ensures names) (c .before .before .before .wide .ensures .0) (c .before .before .before .before .before .before .before .before .value .ensures) (c .before .before .before .before .if4 .left) (c .before .before .with2 .ensures) (c .before .with3 .ensures) (c .gave3 .ensures))
 
 abbrev list-Inv-loop : list-lts.InvT-loop
 list-Inv-loop types names s tape₀ flags memo₀ row place top depth element at₀ end₀ count₀ n₀ m₀ tape memo at end count n m = Listing (table types names) s tape₀ tape depth row place top at end count n m
@@ -1127,17 +1513,19 @@ sequence-at-requires t c κs = search needs
 sequence-is-array-requires : (t : ℕ) → sequence-lts.Need-is-array-requires (sequence-calls t) (sequence-at t) sequence.Post
 sequence-is-array-requires t c κs = search needs
 
-sequence-other-requires : (t : ℕ) → sequence-lts.Need-other-requires (sequence-calls t) (sequence-at t) sequence.Post
-sequence-other-requires t c κs = search needs
+sequence-array-requires : (t : ℕ) → sequence-lts.Need-array-requires (sequence-calls t) (sequence-at t) sequence.Post
+sequence-array-requires t c κs =
+    let names = c .before .before .before .before .before .before .before .before .before .args .names .now in
+    let t = table (c .before .before .before .before .before .before .before .before .before .args .types .now) (c .before .before .before .before .before .before .before .before .before .args .names .now) in
+    let row = c .before .before .before .before .before .before .before .before .before .args .row in
+    let given = c .before .before .before .before .before .before .before .before .before .pre .1 .0 in
+    (omega arith, (given, (c .before .before .before .before .before .before .before .before .before .pre .1 .1, sym (c .before .before .before .is-array .ensures t row (c .before .before .before .before .at .ensures names)) ∙ c .before .before .if1 .taken)))
+
+sequence-same-length : (t : ℕ) → sequence-lts.Need-same-length (sequence-calls t) (sequence-at t) sequence.Post
+sequence-same-length t c = search needs
 
 sequence-returns : (t : ℕ) → sequence-lts.Need-returns (sequence-calls t) (sequence-at t) sequence.Post
-sequence-returns t c =
-    let t = table (c .before .before .before .before .before .before .before .before .args .types .now) (c .before .before .before .before .before .before .before .before .args .names .now) in
-    let s = c .before .before .before .before .before .before .before .before .args .s .now in
-    let row = c .before .before .before .before .before .before .before .before .args .row in
-    let place = c .before .before .before .before .before .before .before .before .args .place in
-    let top = c .before .before .before .before .before .before .before .before .args .top in
-    not-here t s (c .before .before .before .before .before .before .before .before .args .tape .now) (c .before .before .before .before .before .before .before .before .args .depth + 1) row place top _ (c .other .ensures)
+sequence-returns t c = search needs
 
 sequence-object-requires : (t : ℕ) → sequence-lts.Need-object-requires (sequence-calls t) (sequence-at t) sequence.Post
 sequence-object-requires t c κs =
@@ -1147,8 +1535,8 @@ sequence-object-requires t c κs =
     let given = c .before .before .before .before .before .before .before .before .before .pre .1 .0 in
     (omega arith, (given, (c .before .before .before .before .before .before .before .before .before .pre .1 .1, sym (c .before .before .before .is-array .ensures t row (c .before .before .before .before .at .ensures names)) ∙ c .before .before .if1 .left)))
 
-sequence-same-length : (t : ℕ) → sequence-lts.Need-same-length (sequence-calls t) (sequence-at t) sequence.Post
-sequence-same-length t c = search needs
+sequence-same-length-2 : (t : ℕ) → sequence-lts.Need-same-length-2 (sequence-calls t) (sequence-at t) sequence.Post
+sequence-same-length-2 t c = search needs
 
 sequence-returns-2 : (t : ℕ) → sequence-lts.Need-returns-2 (sequence-calls t) (sequence-at t) sequence.Post
 sequence-returns-2 t c = search needs
@@ -1197,9 +1585,53 @@ value-same-length-3 t c = search needs
 value-returns-3 : (t : ℕ) → value-lts.Need-returns-3 (value-calls t) (value-at t) value.Post
 value-returns-3 t c = search needs
 
-pub +bracket+choice+list+member+object+picked+plain+sequence+value-spec : {M : Type 1} → statement M
-+bracket+choice+list+member+object+picked+plain+sequence+value-spec =
-    close μ-bracket μ-choice μ-list μ-member μ-object μ-picked μ-plain μ-sequence μ-value
+pub +array+bracket+choice+element+list+member+object+picked+plain+sequence+value-spec : {M : Type 1} → statement M
++array+bracket+choice+element+list+member+object+picked+plain+sequence+value-spec =
+    close μ-array μ-bracket μ-choice μ-element μ-list μ-member μ-object μ-picked μ-plain μ-sequence μ-value
+    (λ t. array-lts.spec (array-calls t) (array-at t) array.Post
+    array-Inv-loop
+    array-μ-loop
+    (array-byte-at-requires t)
+    (array-other-requires t)
+    (array-returns t)
+    (array-count-of-requires t)
+    (array-add-end t)
+    (array-wide-requires t)
+    (array-add-end-2 t)
+    (array-other-requires-2 t)
+    (array-returns-2 t)
+    (array-add-clear t)
+    (array-clear-requires t)
+    (array-add-space t)
+    (array-space-requires t)
+    (array-byte-at-requires-2 t)
+    (array-add-shut t)
+    (array-shut-requires t)
+    (array-same-length t)
+    (array-returns-3 t)
+    (array-loop-holds t)
+    (array-element-requires t)
+    (array-other-requires-3 t)
+    (array-same-length-2 t)
+    (array-returns-4 t)
+    (array-space-requires-2 t)
+    (array-byte-at-requires-3 t)
+    (array-add-shut-2 t)
+    (array-add-shut-3 t)
+    (array-add-shut-4 t)
+    (array-shut-requires-2 t)
+    (array-same-length-3 t)
+    (array-returns-5 t)
+    (array-other-requires-4 t)
+    (array-same-length-4 t)
+    (array-returns-6 t)
+    (array-add-space-2 t)
+    (array-space-requires-3 t)
+    (array-add-k t)
+    (array-add-n t)
+    (array-add-m t)
+    (array-loop-less t)
+    (array-loop-again t))
     (λ t. bracket-lts.spec (bracket-calls t) (bracket-at t) bracket.Post
     (bracket-other-requires t)
     (bracket-returns t)
@@ -1249,6 +1681,36 @@ pub +bracket+choice+list+member+object+picked+plain+sequence+value-spec : {M : T
     (choice-head-requires t)
     (choice-same-length-3 t)
     (choice-returns-6 t))
+    (λ t. element-lts.spec (element-calls t) (element-at t) element.Post
+    (element-count-of-requires t)
+    (element-at-requires t)
+    (element-extensible-requires t)
+    (element-no-step-requires t)
+    (element-returns t)
+    (element-skip-requires t)
+    (element-gave-requires t)
+    (element-returns-2 t)
+    (element-missing-at-requires t)
+    (element-literal-null-requires t)
+    (element-with-requires t)
+    (element-gave-requires-2 t)
+    (element-returns-3 t)
+    (element-type-at-requires t)
+    (element-value-requires t)
+    (element-no-step-requires-2 t)
+    (element-same-length t)
+    (element-returns-4 t)
+    (element-cast-tape t)
+    (element-add-tape t)
+    (element-wide-requires t)
+    (element-add-tape-2 t)
+    (element-mul-tape t)
+    (element-slice-write-tape t)
+    (element-with-requires-2 t)
+    (element-with-requires-3 t)
+    (element-gave-requires-3 t)
+    (element-same-length-2 t)
+    (element-returns-5 t))
     (λ t. list-lts.spec (list-calls t) (list-at t) list.Post
     list-Inv-loop
     list-μ-loop
@@ -1404,10 +1866,11 @@ pub +bracket+choice+list+member+object+picked+plain+sequence+value-spec : {M : T
     (λ t. sequence-lts.spec (sequence-calls t) (sequence-at t) sequence.Post
     (sequence-at-requires t)
     (sequence-is-array-requires t)
-    (sequence-other-requires t)
+    (sequence-array-requires t)
+    (sequence-same-length t)
     (sequence-returns t)
     (sequence-object-requires t)
-    (sequence-same-length t)
+    (sequence-same-length-2 t)
     (sequence-returns-2 t))
     λ t. value-lts.spec (value-calls t) (value-at t) value.Post
     (value-kind-of-requires t)
