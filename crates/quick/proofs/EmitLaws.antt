@@ -16,7 +16,7 @@ use Rattle.jer.specs.Value.{Leaf, lBytes, Val, vLeaf, vSeq, vList, vChoice, Val
 use Rattle.jer.specs.Rows.{ValueRow, row, leafRow, leafPool, numbers, rowsOf, itemRows, partRows, poolOf, itemPool, partPool, above}
 use Rattle.jer.proofs.WeightMeasure.{rows-length}
 use Rattle.tokens.specs.Strings.{denoted}
-use Rattle.tokens.proofs.SliceLaws.{sets-append}
+use Rattle.slices.proofs.PartLaws.{sets-append}
 use Rattle.tokens.proofs.TieString.{quoted-read}
 use Rattle.jer.specs.Octets.{unhex, unbase64}
 use Rattle.spelled.specs.Stretch.{Stretch}

@@ -10,7 +10,7 @@ use lib.Seq.{sets}
 use Rattle.jer.specs.Table.{Table, table, field, kindOf, elementOf, countOf, typeAt}
 use Rattle.jer.specs.Value.{Val, vSeq, vList, vChoice, Vals, vnil, vcons, countVals, Parts, pnil, absent, present, countPresent}
 use Rattle.jer.specs.Rows.{numbers, rowsOf, itemRows, partRows, poolOf, itemPool, partPool, above, absentRow}
-use Rattle.tokens.proofs.SliceLaws.{sets-append}
+use Rattle.slices.proofs.PartLaws.{sets-append}
 use Rattle.leaf.proofs.StoreLaws.{numbers-length, numbers-append}
 use Rattle.quick.specs.Tape.{Header, Stands, Listed, noItem, item, Linked, noLink, noValue, aValue}
 use Rattle.quick.specs.Emit.{Room, Noted, NotedItems, NotedParts, Stores, Emits, EmitsItems, EmitsParts}

@@ -7,7 +7,7 @@ use spelled::string::string;
 use spelled::word::literal_false;
 use spelled::word::literal_null;
 use spelled::word::literal_true;
-use tokens::cursor::byte_at;
+use slices::byte_at;
 use types::row::Row;
 use types::row::count_of;
 use types::row::kind_of;

@@ -1,6 +1,6 @@
 // Members of a sequence: those that are null for their absence, and those that may be missing.
 use scan::met::bit;
-use tokens::cursor::byte_at;
+use slices::byte_at;
 use types::row::count_of;
 use types::row::may_miss;
 use types::row::member_at;

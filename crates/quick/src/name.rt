@@ -3,7 +3,7 @@ use scan::names::position;
 use spelled::names::find;
 use spelled::space::space;
 use spelled::string::string;
-use tokens::cursor::byte_at;
+use slices::byte_at;
 use types::row::count_of;
 use types::row::first_of;
 use types::token::Found;

@@ -1,6 +1,6 @@
 // Stores into lent room that is known to be enough.
 use crate::bare::ESCAPED;
-use tokens::slices::part;
+use slices::part;
 use tokens::strings::copy;
 use types::row::wide;
 ghost use mathlib.Core.Path.{_≡_};

@@ -17,7 +17,7 @@ use scan::parts::token_at;
 use spelled::skip::skip;
 use spelled::space::space;
 use spelled::word::literal_null;
-use tokens::cursor::byte_at;
+use slices::byte_at;
 use types::row::Row;
 use types::row::count_of;
 use types::row::element_of;

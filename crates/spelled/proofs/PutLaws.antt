@@ -14,7 +14,7 @@ use mathlib.Core.Bool.{Bool, true, false}
 use native.Mathlib.Nat.{mod-eq-of-lt}
 use Rattle.jer.specs.Octets.{also, onlyIf, hexValue, unhex, base64Value, lastGroup, fullGroup, unbase64}
 use Rattle.jer.proofs.WeightGot.{Finds, finds}
-use Rattle.tokens.proofs.SliceLaws.{sets-one, sets-done, sets-append}
+use Rattle.slices.proofs.PartLaws.{sets-one, sets-done, sets-append}
 use Rattle.spelled.specs.Octets.{Digit, tripled, GroupStored, LastStored}
 use Rattle.spelled.proofs.OctetLaws.{part-length, part-at}
 

@@ -1,6 +1,6 @@
 // One character of a string: escaped, or of more than one byte.
 use crate::bytes::byte;
-use tokens::cursor::byte_at;
+use slices::byte_at;
 ghost use mathlib.Core.Path.{_≡_};
 ghost use mathlib.Core.Bool.{true};
 ghost use mathlib.Core.List.{[], _∷_};

@@ -11,12 +11,7 @@ const NONE: usize = 4294967295;
 pub fn nibble(b: u8) -> u8
     ensures { λ r. ⌜ Digit hexValue 16 b r ⌝ }
 {
-    match b {
-        0x30..=0x39 => b - 0x30,
-        0x41..=0x46 => b - 0x37,
-        0x61..=0x66 => b - 0x57,
-        _ => 16,
-    }
+    slices::digit(b as u32) as u8
 }
 
 // How many octets the n characters at p are in hexadecimal.

@@ -1,5 +1,5 @@
 // INTEGER, if it has few digits. What follows a number is for the caller to see.
-use tokens::cursor::byte_at;
+use slices::byte_at;
 ghost use Prim.Native.Nat.{_^_, _≤_, _<_};
 ghost use Rattle.json.specs.Grammar.{Onward, Whole};
 ghost use Rattle.spelled.specs.Stretch.{Stretch, Passed, Within};

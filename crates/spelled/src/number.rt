@@ -1,5 +1,5 @@
 // Any number: its value is of no account.
-use tokens::cursor::byte_at;
+use slices::byte_at;
 ghost use Prim.Native.Nat.{ℕ, _<_};
 ghost use Rattle.json.specs.Grammar.{Digits};
 ghost use Rattle.spelled.specs.Stretch.{Stretch, Passed, Within, ValueAt};

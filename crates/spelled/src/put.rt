@@ -1,7 +1,7 @@
 // Bytes and octets of a plain string, stored in the pool.
 use crate::coded::digit;
 use crate::coded::nibble;
-use tokens::slices::put;
+use slices::put;
 ghost use mathlib.Core.Path.{_≡_};
 ghost use Prim.Native.Nat.{_+_, _*_, _≤_, _<_};
 ghost use lib.ListN.{length, take, drop};

@@ -5,7 +5,7 @@ use crate::string::string;
 use crate::word::literal_false;
 use crate::word::literal_null;
 use crate::word::literal_true;
-use tokens::cursor::byte_at;
+use slices::byte_at;
 ghost use mathlib.Core.Path.{_≡_};
 ghost use Prim.Native.Nat.{ℕ, _<_, _≤_};
 ghost use lib.ListN.{length};

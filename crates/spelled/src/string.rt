@@ -2,7 +2,7 @@
 use crate::character::escape;
 use crate::character::wide;
 use crate::plain;
-use tokens::cursor::byte_at;
+use slices::byte_at;
 ghost use mathlib.Core.Path.{_≡_};
 ghost use Prim.Native.Nat.{_<_};
 ghost use Rattle.tokens.specs.Places.{byteAt};

@@ -1,47 +1,23 @@
--- Made by tools/answers.py from answers/coded/nibble.ans: edit that. 814d9891c61ec883
+-- Made by tools/answers.py from answers/coded/nibble.ans: edit that. 62d4b97189d49573
+use mathlib.Core.Path.{sym, ap, _∙_}
+use mathlib.Core.Option.{some}
 use native.Mathlib.Omega.{arith}
-use Rattle.octets.proofs.DigitLaws.{hex-decimal, hex-upper, hex-lower, hex-other}
+use Rattle.slices.proofs.DigitLaws.{digit-some, digit-none}
 use borrow.Author.Needs.{needs}
 use Rattle.spelled.proofs.coded.nibble.Statement.{statement}
 use Rattle.spelled.proofs.coded.nibble.Tie as tie
 
-sub-result : tie.Need-sub-result
-sub-result c = search needs
+digit-requires : tie.Need-digit-requires
+digit-requires c κs = search needs
 
-sub-result-2 : tie.Need-sub-result-2
-sub-result-2 c = search needs
+cast-result : tie.Need-cast-result
+cast-result c = search needs
 
 returns : tie.Need-returns
-returns c = record { few = omega arith; is = λ h. hex-decimal (omega arith); none-is = λ h. absurd (omega arith) }
-
-returns-2 : tie.Need-returns-2
-returns-2 c = record { few = omega arith; is = λ h. hex-upper (omega arith); none-is = λ h. absurd (omega arith) }
-
-returns-3 : tie.Need-returns-3
-returns-3 c = record { few = omega arith; is = λ h. hex-lower (omega arith); none-is = λ h. absurd (omega arith) }
-
-returns-4 : tie.Need-returns-4
-returns-4 c = record { few = omega arith; is = λ h. absurd (omega arith); none-is = λ h. hex-other (λ i. omega arith) (λ i. omega arith) (λ i. omega arith) }
-
-returns-5 : tie.Need-returns-5
-returns-5 c = record { few = omega arith; is = λ h. absurd (omega arith); none-is = λ h. hex-other (λ i. omega arith) (λ i. omega arith) (λ i. omega arith) }
-
-returns-6 : tie.Need-returns-6
-returns-6 c = record { few = omega arith; is = λ h. absurd (omega arith); none-is = λ h. hex-other (λ i. omega arith) (λ i. omega arith) (λ i. omega arith) }
-
-returns-7 : tie.Need-returns-7
-returns-7 c = record { few = omega arith; is = λ h. absurd (omega arith); none-is = λ h. hex-other (λ i. omega arith) (λ i. omega arith) (λ i. omega arith) }
+returns c =
+    let e = c .digit .ensures .0 in
+    let few = c .digit .ensures .1 in
+    record { few = omega arith; is = λ h. digit-some _ (λ q. omega arith) ∙ ap some (sym e); none-is = λ h. digit-none _ (omega arith) }
 
 pub nibble-spec : {M : Type 1} → statement M
-nibble-spec =
-    tie.close
-    (tie.spec
-    sub-result
-    sub-result-2
-    returns
-    returns-2
-    returns-3
-    returns-4
-    returns-5
-    returns-6
-    returns-7)
+nibble-spec = tie.close (tie.spec digit-requires cast-result returns)

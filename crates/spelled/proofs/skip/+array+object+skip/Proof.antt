@@ -1,4 +1,4 @@
--- Made by tools/answers.py from answers/skip/+array+object+skip.ans: edit that. 45787079813fb773
+-- Made by tools/answers.py from answers/skip/+array+object+skip.ans: edit that. 95716fb7158cb198
 use Prim.Native.Nat.{ℕ, _<_, _+_, _-_, _≤_}
 use mathlib.Core.Path.{sym, _∙_}
 use native.Mathlib.Omega.{arith}
@@ -17,6 +17,7 @@ use Rattle.spelled.proofs.skip.+array+object+skip.Lts-object as object-
 use Rattle.spelled.proofs.skip.skip.Reads as skip
 use Rattle.spelled.proofs.skip.skip.Kinds as skip-kinds
 use Rattle.spelled.proofs.skip.+array+object+skip.Lts-skip as skip-lts
+use Rattle.slices.proofs.byte_at.Reads as byte-at-reads
 use Rattle.spelled.proofs.number.number.Reads as number-reads
 use Rattle.spelled.proofs.skip.name.Reads as name-reads
 use Rattle.spelled.proofs.space.space.Reads as space-reads
@@ -24,7 +25,6 @@ use Rattle.spelled.proofs.string.string.Reads as string-reads
 use Rattle.spelled.proofs.word.literal_false.Reads as literal-false-reads
 use Rattle.spelled.proofs.word.literal_null.Reads as literal-null-reads
 use Rattle.spelled.proofs.word.literal_true.Reads as literal-true-reads
-use Rattle.tokens.proofs.cursor.byte_at.Reads as byte-at-reads
 use Rattle.spelled.proofs.skip.+array+object+skip.{statement}
 use Rattle.spelled.proofs.skip.+array+object+skip.Tie.{close}
 
