@@ -11,7 +11,8 @@ use borrow.Author.Tests.{ltb-true, ltb-false}
 use lib.Dec.{ltb}
 use lib.ListN.{length, getD, take, drop}
 use lib.Seq.{sets}
-use Rattle.jer.specs.Table.{Table, table, field, kindOf, isBase64, elementOf, countOf, typeAt, UTF8String, SEQUENCE, SEQUENCE-OF, CHOICE}
+use Rattle.jer.specs.Table.{Table, table, field, tagOf, kindOf, isBase64, elementOf, countOf, typeAt, UTF8String, SEQUENCE, SEQUENCE-OF, CHOICE}
+use Rattle.jer.proofs.Forms.{kind-tag}
 use Rattle.jer.specs.Value.{Leaf, lBytes, Val, vLeaf, vSeq, vList, vChoice, Vals, Parts, countVals, countPresent}
 use Rattle.jer.specs.Rows.{ValueRow, row, leafRow, leafPool, numbers, rowsOf, itemRows, partRows, poolOf, itemPool, partPool, above}
 use Rattle.jer.proofs.WeightMeasure.{rows-length}
@@ -133,7 +134,7 @@ unfolding rowsOf poolOf numbers
 row-stored {s} {z} {t} {r} {j} {k} {v} o i rows rows′ pool {kind} e h u w = go (by-leaf w (omega arith))
   where
     word : {l : Leaf} → Words s t r l (getD z j 0) (getD z (j + 1) 0) → Stores rows rows′ pool pool i o o (numbers (rowsOf (vLeaf l) t r o)) (poolOf (vLeaf l))
-    word (inRow f p g) = (u ∙ rw (e, g o), rw p, rw p (sym (add-zero o)))
+    word (inRow f p g) = (u ∙ rw (← kind-tag t r, g o, e), rw p, rw p (sym (add-zero o)))
     word (inText f x) = absurd (omega arith)
     word (inHex f b d n l) = absurd (omega arith)
     word (inBase64 f b d n l) = absurd (omega arith)
@@ -154,7 +155,7 @@ text-stored {s} {z} {t} {r} {j} {k} {v} o i q rows rows′ pool pool′ e u f g 
 
     word : {l : Leaf} → Words s t r l (getD z j 0) (getD z (j + 1) 0) → Stores rows rows′ pool pool′ i o q (numbers (rowsOf (vLeaf l) t r o)) (poolOf (vLeaf l))
     word (inRow c p d) = absurd (omega arith)
-    word (inText {x = x} c y) = (u ∙ rw (e, y .size), bytes x y, n ∙ rw (y .size))
+    word (inText {x = x} c y) = (u ∙ rw (← kind-tag t r, e, y .size), bytes x y, n ∙ rw (y .size))
     word (inHex c b d m l) = absurd (omega arith)
     word (inBase64 c b d m l) = absurd (omega arith)
 
@@ -178,7 +179,7 @@ hex-stored {s} {z} {t} {r} {j} {k} {v} o i q rows rows′ pool pool′ e nb u f 
     word : {l : Leaf} → Words s t r l (getD z j 0) (getD z (j + 1) 0) → Stores rows rows′ pool pool′ i o q (numbers (rowsOf (vLeaf l) t r o)) (poolOf (vLeaf l))
     word (inRow c p d) = absurd (omega arith)
     word (inText c y) = absurd (omega arith)
-    word (inHex {x = x} c b d m l) = (u ∙ rw (e, ← m), f x d, n ∙ rw (← m))
+    word (inHex {x = x} c b d m l) = (u ∙ rw (← kind-tag t r, e, ← m), f x d, n ∙ rw (← m))
     word (inBase64 c b d m l) = no-both b nb
 
     go : {x : Val} → ByLeaf s z t r j k x → Stores rows rows′ pool pool′ i o q (numbers (rowsOf x t r o)) (poolOf x)
@@ -193,7 +194,7 @@ base64-stored {s} {z} {t} {r} {j} {k} {v} o i q rows rows′ pool pool′ b6 les
     word (inRow c p d) = absurd (omega arith)
     word (inText c y) = no-both b6 (text-octets t r c)
     word (inHex c b d m l) = no-both b6 b
-    word (inBase64 {x = x} c b d m l) = (u ∙ rw (c, m), f x d, n ∙ rw m)
+    word (inBase64 {x = x} c b d m l) = (u ∙ rw (← kind-tag t r, c, m), f x d, n ∙ rw m)
 
     go : {x : Val} → ByLeaf s z t r j k x → Stores rows rows′ pool pool′ i o q (numbers (rowsOf x t r o)) (poolOf x)
     go (byLeaf x c) = word x
@@ -241,15 +242,15 @@ above-stored rows i k a n ns =
 
 list-numbers : (vs : Vals) (t : Table) (r o : ℕ) → numbers (rowsOf (vList vs) t r o) ≡ kindOf t r ∷ countVals vs ∷ 0 ∷ suc (length (itemRows vs t (elementOf t r) o)) ∷ numbers (itemRows vs t (elementOf t r) o)
 unfolding rowsOf above numbers
-list-numbers vs t r o = refl
+list-numbers vs t r o = rw (kind-tag t r)
 
 seq-numbers : (ps : Parts) (t : Table) (r o : ℕ) → numbers (rowsOf (vSeq ps) t r o) ≡ kindOf t r ∷ countPresent ps ∷ 0 ∷ suc (length (partRows ps t r 0 o)) ∷ numbers (partRows ps t r 0 o)
 unfolding rowsOf above numbers
-seq-numbers ps t r o = refl
+seq-numbers ps t r o = rw (kind-tag t r)
 
 choice-numbers : (v : Val) (t : Table) (r i o : ℕ) → numbers (rowsOf (vChoice i v) t r o) ≡ kindOf t r ∷ i ∷ 0 ∷ suc (length (rowsOf v t (typeAt t r i) o)) ∷ numbers (rowsOf v t (typeAt t r i) o)
 unfolding rowsOf above numbers
-choice-numbers v t r i o = refl
+choice-numbers v t r i o = rw (kind-tag t r)
 
 list-bytes : (vs : Vals) → poolOf (vList vs) ≡ itemPool vs
 unfolding poolOf
@@ -309,7 +310,7 @@ noted-three n kind e h = omega (arith, three-words (n .stands) (omega (arith, e 
 
 -- whichever table it is
 pub noted-nodes : {types s z rows pool : List ℕ} {r j i o : ℕ} → Noted types s z rows pool r j i o → (j + 2 ≤ length z) × ((ns : List ℕ) → 6 ≤ kindOf (table types ns) r → j + 3 ≤ length z)
-unfolding kindOf field
+unfolding kindOf tagOf field
 noted-nodes n = (noted-two n, λ ns h. omega (arith, three-words (n .stands) h, n .inside))
 
 pub noted-slot : {types s z rows pool : List ℕ} {r j i o : ℕ} → Noted types s z rows pool r j i o → i * 4 + 4 ≤ length rows

@@ -71,7 +71,7 @@ module _ {t : Table} {s z : List ℕ} {d r p top end met has at k : ℕ} {nm : d
       let q : TreeAt s d at (g .next) (x .stood .tree) = rw (w .0) (x .stood .here) in
       record {
         how = valued {i = k} {z = y} (member-at nt (sp .0) d (g .next) (x .stood .tree) q) (rw e (nt .known (omega arith))) un (absent-is t s d r at k (g .next) (x .stood .tree) ab q ∙ h) (x .stood .reads) (w′ .kept) (rw (w .1) (x .stands)) (ap (λ (n : ℕ). set y (top + 3 + n) end) ec)
-          (w .2 ∙ x .rows) (w .3 ∙ x .pool) (w .4 ∙ e₁) (w .5 ∙ e₂);
+            (w .2 ∙ x .rows) (w .3 ∙ x .pool) (w .4 ∙ e₁) (w .5 ∙ e₂);
         ahead = omega (arith, w .0, sp .1, nt .ahead, x .ahead);
         placed = omega (arith, w .0, x .placed);
         words = omega (arith, w .1, w .2, x .words);

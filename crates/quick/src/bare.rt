@@ -1,5 +1,6 @@
 // A value without parts, at a place of the text.
 use crate::name::position_of;
+use slices::byte_at;
 use spelled::coded::base64_count;
 use spelled::coded::hex_count;
 use spelled::integer::integer;
@@ -7,7 +8,6 @@ use spelled::string::string;
 use spelled::word::literal_false;
 use spelled::word::literal_null;
 use spelled::word::literal_true;
-use slices::byte_at;
 use types::row::Row;
 use types::row::count_of;
 use types::row::kind_of;
@@ -34,7 +34,15 @@ fn taken(next: usize, a: u32, b: u32, pool: usize) -> Words
     Words { next, a, b, pool }
 }
 
-pub fn leaf(types: &[u32], names: &[u8], s: &[u8], flags: &[u8; 256], memo: &mut [u8; 1024], row: usize, place: usize) -> Words
+pub fn leaf(
+    types: &[u32],
+    names: &[u8],
+    s: &[u8],
+    flags: &[u8; 256],
+    memo: &mut [u8; 1024],
+    row: usize,
+    place: usize,
+) -> Words
     requires { ⌜ (length (now s) ≤ 65536) × (place ≤ 65536) × IsFlags (now flags) × Distinct (table (now types) (now names)) row ⌝ }
     ensures { λ r. ⌜ (0 < r .next → LeafTaken (table (now (types .entry)) (now (names .entry))) (now (s .entry)) row place r) ⌝ }
 {
@@ -85,7 +93,15 @@ fn text(s: &[u8], flags: &[u8; 256], place: usize) -> Words
 }
 
 // An ENUMERATED: the item's position.
-fn item(types: &[u32], names: &[u8], s: &[u8], flags: &[u8; 256], memo: &mut [u8; 1024], row: usize, place: usize) -> Words
+fn item(
+    types: &[u32],
+    names: &[u8],
+    s: &[u8],
+    flags: &[u8; 256],
+    memo: &mut [u8; 1024],
+    row: usize,
+    place: usize,
+) -> Words
     requires { ⌜ (length (now s) ≤ 65536) × (place ≤ 65536) × IsFlags (now flags) × Distinct (table (now types) (now names)) row ⌝ }
     ensures { λ r. ⌜ (0 < r .next → kindOf (table (now (types .entry)) (now (names .entry))) row ≡ ENUMERATED → LeafTaken (table (now (types .entry)) (now (names .entry))) (now (s .entry)) row place r) ⌝ }
 {

@@ -44,7 +44,17 @@ fn node_at(types: &[u32], tape: &[u32], row: usize, top: usize) -> Node
 }
 
 // A value whose bytes stand in the pool.
-fn string(types: &[u32], s: &[u8], tape: &[u32], rows: &mut [u32], pool: &mut [u8], row: usize, top: usize, slot: usize, offset: usize) -> usize
+fn string(
+    types: &[u32],
+    s: &[u8],
+    tape: &[u32],
+    rows: &mut [u32],
+    pool: &mut [u8],
+    row: usize,
+    top: usize,
+    slot: usize,
+    offset: usize,
+) -> usize
     requires { ⌜ Noted (now types) (now s) (now tape) (now rows) (now pool) row top slot offset × Sizes (now s) (now tape) × ((ns : List ℕ) → (4 ≤ kindOf (table (now types) ns) row) × (kindOf (table (now types) ns) row < 6)) ⌝ }
     ensures { λ r. ⌜ Emits (now (types .entry)) (now (s .entry)) (now (tape .entry)) row top slot offset (now (rows .entry)) (now (rows .exit)) (now (pool .entry)) (now (pool .exit)) r ⌝ }
 {
@@ -69,7 +79,17 @@ fn string(types: &[u32], s: &[u8], tape: &[u32], rows: &mut [u32], pool: &mut [u
 }
 
 // Stores the value of the type at `row` that stands from `top` on, from the slot and the offset on; the offset after it.
-pub fn emit(types: &[u32], s: &[u8], tape: &[u32], rows: &mut [u32], pool: &mut [u8], row: usize, top: usize, slot: usize, offset: usize) -> usize
+pub fn emit(
+    types: &[u32],
+    s: &[u8],
+    tape: &[u32],
+    rows: &mut [u32],
+    pool: &mut [u8],
+    row: usize,
+    top: usize,
+    slot: usize,
+    offset: usize,
+) -> usize
     requires { ⌜ Noted (now types) (now s) (now tape) (now rows) (now pool) row top slot offset × Sizes (now s) (now tape) ⌝ }
     ensures { λ r. ⌜ Emits (now (types .entry)) (now (s .entry)) (now (tape .entry)) row top slot offset (now (rows .entry)) (now (rows .exit)) (now (pool .entry)) (now (pool .exit)) r ⌝ }
 {
@@ -88,14 +108,46 @@ pub fn emit(types: &[u32], s: &[u8], tape: &[u32], rows: &mut [u32], pool: &mut 
         Row::SEQUENCE => parts(types, s, tape, rows, pool, row, top + 3, slot + 1, offset),
         Row::SEQUENCE_OF => {
             let end = wide(tape[top + 2]);
-            items(types, s, tape, rows, pool, element_of(types, row), top + 3, end, slot + 1, offset)
+            items(
+                types,
+                s,
+                tape,
+                rows,
+                pool,
+                element_of(types, row),
+                top + 3,
+                end,
+                slot + 1,
+                offset,
+            )
         }
-        _ => emit(types, s, tape, rows, pool, type_at(types, row, a), top + 3, slot + 1, offset),
+        _ => emit(
+            types,
+            s,
+            tape,
+            rows,
+            pool,
+            type_at(types, row, a),
+            top + 3,
+            slot + 1,
+            offset,
+        ),
     }
 }
 
 // The items from `from` up to `end`.
-fn items(types: &[u32], s: &[u8], tape: &[u32], rows: &mut [u32], pool: &mut [u8], row: usize, from: usize, end: usize, slot: usize, offset: usize) -> usize
+fn items(
+    types: &[u32],
+    s: &[u8],
+    tape: &[u32],
+    rows: &mut [u32],
+    pool: &mut [u8],
+    row: usize,
+    from: usize,
+    end: usize,
+    slot: usize,
+    offset: usize,
+) -> usize
     requires { ⌜ NotedItems (now types) (now s) (now tape) (now rows) (now pool) row from end slot offset × Sizes (now s) (now tape) ⌝ }
     ensures { λ r. ⌜ EmitsItems (now (types .entry)) (now (s .entry)) (now (tape .entry)) row from end slot offset (now (rows .entry)) (now (rows .exit)) (now (pool .entry)) (now (pool .exit)) r ⌝ }
 {
@@ -115,7 +167,17 @@ fn items(types: &[u32], s: &[u8], tape: &[u32], rows: &mut [u32], pool: &mut [u8
 const ABSENT: u32 = 15;
 
 // The members of a SEQUENCE in table order, by the links from `from` on.
-fn parts(types: &[u32], s: &[u8], tape: &[u32], rows: &mut [u32], pool: &mut [u8], row: usize, from: usize, slot: usize, offset: usize) -> usize
+fn parts(
+    types: &[u32],
+    s: &[u8],
+    tape: &[u32],
+    rows: &mut [u32],
+    pool: &mut [u8],
+    row: usize,
+    from: usize,
+    slot: usize,
+    offset: usize,
+) -> usize
     requires { ⌜ NotedParts (now types) (now s) (now tape) (now rows) (now pool) row from slot offset × Sizes (now s) (now tape) × (0 < from) ⌝ }
     ensures { λ r. ⌜ EmitsParts (now (types .entry)) (now (s .entry)) (now (tape .entry)) row from slot offset (now (rows .entry)) (now (rows .exit)) (now (pool .entry)) (now (pool .exit)) r ⌝ }
 {

@@ -1,11 +1,11 @@
--- Made by tools/answers.py from answers/store/copy_all.ans: edit that. 520a17cd5a203c20
+-- Made by tools/answers.py from answers/store/copy_all.ans: edit that. 42c423c55cf4cd93
 use Prim.Native.Nat.{ℕ, _+_, _-_, _<_, _≤_}
 use mathlib.Core.Path.{_≡_, refl, sym, _∙_}
 use native.Mathlib.Nat.{add-zero}
 use native.Mathlib.Omega.{arith}
 use lib.ListN.{length, getD, drop, length-set}
 use lib.Seq.{sets}
-use Rattle.tokens.proofs.SliceLaws.{sets-one, sets-done}
+use Rattle.slices.proofs.PartLaws.{sets-one, sets-done}
 use Rattle.quick.proofs.StoreLaws.{copy-start}
 use borrow.Author.Needs.{needs}
 use Rattle.quick.proofs.store.copy_all.Statement.{statement}

@@ -1,4 +1,4 @@
--- Made by tools/answers.py from answers/walk/+array+bracket+choice+element+list+member+object+picked+plain+sequence+value.ans: edit that. 7154fe7710baa976
+-- Made by tools/answers.py from answers/walk/+array+bracket+choice+element+list+member+object+picked+plain+sequence+value.ans: edit that. 5d2a3b9a51d9454b
 use Prim.Native.Nat.{ℕ, _<_, _≤_, _+_, _-_, _*_}
 use mathlib.Core.Path.{_≡_, refl, sym, ap, _∙_}
 use native.Mathlib.Omega.{arith}
@@ -64,10 +64,10 @@ use Rattle.quick.proofs.step.no_step.Reads as no-step-reads
 use Rattle.scan.proofs.met.bit.Reads as bit-reads
 use Rattle.scan.proofs.met.with.Reads as with-reads
 use Rattle.scan.proofs.parts.token_at.Reads as token-at-reads
+use Rattle.slices.proofs.byte_at.Reads as byte-at-reads
 use Rattle.spelled.proofs.skip.skip.Reads as skip-reads
 use Rattle.spelled.proofs.space.space.Reads as space-reads
 use Rattle.spelled.proofs.word.literal_null.Reads as literal-null-reads
-use Rattle.tokens.proofs.cursor.byte_at.Reads as byte-at-reads
 use Rattle.types.proofs.row.Row.at.Reads as at-reads
 use Rattle.types.proofs.row.Row.extensible.Reads as extensible-reads
 use Rattle.types.proofs.row.Row.is_array.Reads as is-array-reads
