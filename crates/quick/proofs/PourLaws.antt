@@ -13,15 +13,11 @@ use Rattle.jer.specs.Rows.{numbers, rowsOf, itemRows, partRows, poolOf, itemPoo
 use Rattle.tokens.proofs.SliceLaws.{sets-append}
 use Rattle.leaf.proofs.StoreLaws.{numbers-length, numbers-append}
 use Rattle.quick.specs.Tape.{Header, Stands, Listed, noItem, item, Linked, noLink, noValue, aValue}
-use Rattle.quick.specs.Emit.{Room, Noted, NotedItems, NotedParts, Stores, Emits, EmitsItems, EmitsParts}
+use Rattle.quick.specs.Emit.{Room, Noted, NotedItems, NotedParts, Stores, Emits, Pours, EmitsParts, Passes}
 use Rattle.quick.proofs.ListLaws.{rows-any, cons-rows, nil-rows, cons-pool, nil-pool}
 use Rattle.quick.proofs.PartLaws.{parts-any, absent-rows, present-rows, absent-pool, present-pool}
 use Rattle.quick.proofs.TapeLaws.{stands-ahead, listed-ahead, linked-ahead}
 use Rattle.quick.proofs.EmitLaws.{some-rows, noted-row}
-
--- what passing a node says
-abbrev pub Passes : List ℕ → List ℕ → ℕ → ℕ → ℕ → ℕ → Type 0
-Passes types z e at at′ n = (s ns : List ℕ) (v : Val) (k : ℕ) → Stands s z (table types ns) e v at k → (at′ ≡ k) × (n ≡ length (rowsOf v (table types ns) e 0))
 
 -- ---- items
 
@@ -133,11 +129,14 @@ module _ (types s z rows₀ rows pool₀ pool : List ℕ) (e from end i o₀ at 
 
   pub items-again : (rows′ pool′ : List ℕ) (at′ n o′ : ℕ) → length rows′ ≡ length rows → length pool′ ≡ length pool → Emits types s z e at q o rows rows′ pool pool′ o′ → Passes types z e at at′ n
       → ItemsLoop types s z rows₀ rows′ pool₀ pool′ e from end i o₀ at′ (q + n) o′
-  items-again rows′ pool′ at′ n o′ kr kp f g =
-      (omega (arith, kr, k .0), omega (arith, kp, k .1), omega (arith, k .2, items-step at′ n g .0),
-      λ ns vs w. pouring-more (k .3 ns vs w) rows′ pool′ at′ n o′ l (f ns) (g s ns))
+  items-again rows′ pool′ at′ n o′ kr kp f g = (
+    omega (arith, kr, k .0),
+    omega (arith, kp, k .1),
+    omega (arith, k .2, items-step at′ n g .0),
+    λ ns vs w. pouring-more (k .3 ns vs w) rows′ pool′ at′ n o′ l (f ns) (g s ns),
+  )
 
-pub items-end : (types s z rows₀ rows pool₀ pool : List ℕ) (e from end i o₀ at q o : ℕ) → ItemsLoop types s z rows₀ rows pool₀ pool e from end i o₀ at q o → end ≤ at → EmitsItems types s z e from end i o₀ rows₀ rows pool₀ pool o
+pub items-end : (types s z rows₀ rows pool₀ pool : List ℕ) (e from end i o₀ at q o : ℕ) → ItemsLoop types s z rows₀ rows pool₀ pool e from end i o₀ at q o → end ≤ at → Pours types s z e from end i o₀ rows₀ rows pool₀ pool o
 items-end types s z rows₀ rows pool₀ pool e from end i o₀ at q o k l ns vs w = pouring-end (k .3 ns vs w) l
 
 -- ---- members
@@ -317,8 +316,11 @@ module _ (types s z rows₀ pool₀ : List ℕ) (r b i o₀ : ℕ) (noted : Note
         pub parts-again : (rows′ pool′ : List ℕ) (end′ n o′ : ℕ) → length rows′ ≡ length rows → length pool′ ≡ length pool → Emits types s z m w q o rows rows′ pool pool′ o′ → Passes types z m w end′ n
             → PartsLoop types s z rows₀ rows′ pool₀ pool′ r b i o₀ (k + 1) (q + n) o′
         parts-again rows′ pool′ end′ n o′ kr kp g p =
-            rw (add-one k) (omega (arith, kr, f .0), omega (arith, kp, f .1),
-            λ ns ps end x. filling-value (f .2 ns ps end x) rows′ pool′ w n o′ (below ns) (sym h) nz (λ v l y. rw (em ns) at (g ns v l (rw (em ns) y))) (λ v l y. rw (em ns) at (p s ns v l (rw (em ns) y) .1)))
+            rw (add-one k) (
+              omega (arith, kr, f .0),
+              omega (arith, kp, f .1),
+              λ ns ps end x. filling-value (f .2 ns ps end x) rows′ pool′ w n o′ (below ns) (sym h) nz (λ v l y. rw (em ns) at (g ns v l (rw (em ns) y))) (λ v l y. rw (em ns) at (p s ns v l (rw (em ns) y) .1)),
+            )
 
         pub parts-step : (end′ n : ℕ) → Passes types z m w end′ n → q * 4 + n * 4 ≤ length rows
         parts-step end′ n p = let x = parts-noted in omega (arith, p s (x .names) (x .value) (x .end) (x .stands) .1, x .room .slots)

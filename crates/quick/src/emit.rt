@@ -10,15 +10,11 @@ use types::row::element_of;
 use types::row::kind_of;
 use types::row::type_at;
 use types::row::wide;
-ghost use mathlib.Core.Path.{_≡_};
 ghost use mathlib.Core.List.{List};
 ghost use Prim.Native.Nat.{ℕ, _+_, _≤_, _<_};
 ghost use lib.ListN.{length};
 ghost use Rattle.jer.specs.Table.{kindOf, table};
-ghost use Rattle.jer.specs.Value.{Val};
-ghost use Rattle.jer.specs.Rows.{rowsOf};
-ghost use Rattle.quick.specs.Tape.{Stands};
-ghost use Rattle.quick.specs.Emit.{Sizes, Noted, NotedItems, NotedParts, Emits, EmitsItems, EmitsParts};
+ghost use Rattle.quick.specs.Emit.{Sizes, Noted, NotedItems, NotedParts, Emits, Pours, EmitsParts, Passes, InPool};
 
 // Where a value ends on the tape, and how many rows it has.
 pub struct Node {
@@ -29,7 +25,7 @@ pub struct Node {
 // The value of the type at `row` that stands from `top` on.
 fn node_at(types: &[u32], tape: &[u32], row: usize, top: usize) -> Node
     requires { ⌜ (top + 2 ≤ length (now tape)) × ((ns : List ℕ) → 6 ≤ kindOf (table (now types) ns) row → top + 3 ≤ length (now tape)) ⌝ }
-    ensures { λ r. ⌜ ((s ns : List ℕ) (v : Val) (k : ℕ) → Stands s (now (tape .entry)) (table (now (types .entry)) ns) row v top k → (r .end ≡ k) × (r .rows ≡ length (rowsOf v (table (now (types .entry)) ns) row 0))) ⌝ }
+    ensures { λ r. ⌜ Passes (now (types .entry)) (now (tape .entry)) row top (r .end) (r .rows) ⌝ }
 {
     if kind_of(types, row) < Row::SEQUENCE {
         return Node {
@@ -44,8 +40,18 @@ fn node_at(types: &[u32], tape: &[u32], row: usize, top: usize) -> Node
 }
 
 // A value whose bytes stand in the pool.
-fn string(types: &[u32], s: &[u8], tape: &[u32], rows: &mut [u32], pool: &mut [u8], row: usize, top: usize, slot: usize, offset: usize) -> usize
-    requires { ⌜ Noted (now types) (now s) (now tape) (now rows) (now pool) row top slot offset × Sizes (now s) (now tape) × ((ns : List ℕ) → (4 ≤ kindOf (table (now types) ns) row) × (kindOf (table (now types) ns) row < 6)) ⌝ }
+fn string(
+    types: &[u32],
+    s: &[u8],
+    tape: &[u32],
+    rows: &mut [u32],
+    pool: &mut [u8],
+    row: usize,
+    top: usize,
+    slot: usize,
+    offset: usize,
+) -> usize
+    requires { ⌜ Noted (now types) (now s) (now tape) (now rows) (now pool) row top slot offset × Sizes (now s) (now tape) × InPool (now types) row ⌝ }
     ensures { λ r. ⌜ Emits (now (types .entry)) (now (s .entry)) (now (tape .entry)) row top slot offset (now (rows .entry)) (now (rows .exit)) (now (pool .entry)) (now (pool .exit)) r ⌝ }
 {
     let w = Row::at(types, row);
@@ -69,7 +75,17 @@ fn string(types: &[u32], s: &[u8], tape: &[u32], rows: &mut [u32], pool: &mut [u
 }
 
 // Stores the value of the type at `row` that stands from `top` on, from the slot and the offset on; the offset after it.
-pub fn emit(types: &[u32], s: &[u8], tape: &[u32], rows: &mut [u32], pool: &mut [u8], row: usize, top: usize, slot: usize, offset: usize) -> usize
+pub fn emit(
+    types: &[u32],
+    s: &[u8],
+    tape: &[u32],
+    rows: &mut [u32],
+    pool: &mut [u8],
+    row: usize,
+    top: usize,
+    slot: usize,
+    offset: usize,
+) -> usize
     requires { ⌜ Noted (now types) (now s) (now tape) (now rows) (now pool) row top slot offset × Sizes (now s) (now tape) ⌝ }
     ensures { λ r. ⌜ Emits (now (types .entry)) (now (s .entry)) (now (tape .entry)) row top slot offset (now (rows .entry)) (now (rows .exit)) (now (pool .entry)) (now (pool .exit)) r ⌝ }
 {
@@ -88,16 +104,48 @@ pub fn emit(types: &[u32], s: &[u8], tape: &[u32], rows: &mut [u32], pool: &mut 
         Row::SEQUENCE => parts(types, s, tape, rows, pool, row, top + 3, slot + 1, offset),
         Row::SEQUENCE_OF => {
             let end = wide(tape[top + 2]);
-            items(types, s, tape, rows, pool, element_of(types, row), top + 3, end, slot + 1, offset)
+            items(
+                types,
+                s,
+                tape,
+                rows,
+                pool,
+                element_of(types, row),
+                top + 3,
+                end,
+                slot + 1,
+                offset,
+            )
         }
-        _ => emit(types, s, tape, rows, pool, type_at(types, row, a), top + 3, slot + 1, offset),
+        _ => emit(
+            types,
+            s,
+            tape,
+            rows,
+            pool,
+            type_at(types, row, a),
+            top + 3,
+            slot + 1,
+            offset,
+        ),
     }
 }
 
 // The items from `from` up to `end`.
-fn items(types: &[u32], s: &[u8], tape: &[u32], rows: &mut [u32], pool: &mut [u8], row: usize, from: usize, end: usize, slot: usize, offset: usize) -> usize
+fn items(
+    types: &[u32],
+    s: &[u8],
+    tape: &[u32],
+    rows: &mut [u32],
+    pool: &mut [u8],
+    row: usize,
+    from: usize,
+    end: usize,
+    slot: usize,
+    offset: usize,
+) -> usize
     requires { ⌜ NotedItems (now types) (now s) (now tape) (now rows) (now pool) row from end slot offset × Sizes (now s) (now tape) ⌝ }
-    ensures { λ r. ⌜ EmitsItems (now (types .entry)) (now (s .entry)) (now (tape .entry)) row from end slot offset (now (rows .entry)) (now (rows .exit)) (now (pool .entry)) (now (pool .exit)) r ⌝ }
+    ensures { λ r. ⌜ Pours (now (types .entry)) (now (s .entry)) (now (tape .entry)) row from end slot offset (now (rows .entry)) (now (rows .exit)) (now (pool .entry)) (now (pool .exit)) r ⌝ }
 {
     let mut at = from;
     let mut q = slot;
@@ -115,7 +163,17 @@ fn items(types: &[u32], s: &[u8], tape: &[u32], rows: &mut [u32], pool: &mut [u8
 const ABSENT: u32 = 15;
 
 // The members of a SEQUENCE in table order, by the links from `from` on.
-fn parts(types: &[u32], s: &[u8], tape: &[u32], rows: &mut [u32], pool: &mut [u8], row: usize, from: usize, slot: usize, offset: usize) -> usize
+fn parts(
+    types: &[u32],
+    s: &[u8],
+    tape: &[u32],
+    rows: &mut [u32],
+    pool: &mut [u8],
+    row: usize,
+    from: usize,
+    slot: usize,
+    offset: usize,
+) -> usize
     requires { ⌜ NotedParts (now types) (now s) (now tape) (now rows) (now pool) row from slot offset × Sizes (now s) (now tape) × (0 < from) ⌝ }
     ensures { λ r. ⌜ EmitsParts (now (types .entry)) (now (s .entry)) (now (tape .entry)) row from slot offset (now (rows .entry)) (now (rows .exit)) (now (pool .entry)) (now (pool .exit)) r ⌝ }
 {

@@ -25,11 +25,23 @@ pub struct Name {
 fn no_name() -> Name
     ensures { λ r. ⌜ r .next ≡ 0 ⌝ }
 {
-    Name { next: 0, position: 0 }
+    Name {
+        next: 0,
+        position: 0,
+    }
 }
 
 // The name whose quotation mark stands at `place`; the member that is due is tried first.
-pub fn name_at(types: &[u32], names: &[u8], s: &[u8], flags: &[u8; 256], memo: &mut [u8; 1024], row: usize, due: u32, place: usize) -> Name
+pub fn name_at(
+    types: &[u32],
+    names: &[u8],
+    s: &[u8],
+    flags: &[u8; 256],
+    memo: &mut [u8; 1024],
+    row: usize,
+    due: u32,
+    place: usize,
+) -> Name
     requires { ⌜ (length (now s) ≤ 65536) × (place ≤ 65536) × IsFlags (now flags) × Distinct (table (now types) (now names)) row ⌝ }
     ensures { λ r. ⌜ (0 < r .next → NameTaken (table (now (types .entry)) (now (names .entry))) (now (s .entry)) row place r) ⌝ }
 {
@@ -48,13 +60,33 @@ pub fn name_at(types: &[u32], names: &[u8], s: &[u8], flags: &[u8; 256], memo: &
 }
 
 // The position of the string at `place`, which denotes n bytes, or how many members there are.
-pub fn position_of(types: &[u32], names: &[u8], s: &[u8], memo: &mut [u8; 1024], row: usize, due: u32, place: usize, n: usize, escaped: bool) -> u32
+pub fn position_of(
+    types: &[u32],
+    names: &[u8],
+    s: &[u8],
+    memo: &mut [u8; 1024],
+    row: usize,
+    due: u32,
+    place: usize,
+    n: usize,
+    escaped: bool,
+) -> u32
     requires { ⌜ (length (now s) ≤ 65536) × (place ≤ 65536) × Distinct (table (now types) (now names)) row × (escaped ≡ false → place + 1 + n ≤ length (now s)) ⌝ }
     ensures { λ r. ⌜ ((q : ℕ) (w : StringAt (now (s .entry)) place q n escaped) → PositionIs (table (now (types .entry)) (now (names .entry))) row (w .chars) r) ⌝ }
 {
     let count = count_of(types, row);
     if !escaped {
-        return find(types, names, s, memo, first_of(types, row), count, due, place + 1, n);
+        return find(
+            types,
+            names,
+            s,
+            memo,
+            first_of(types, row),
+            count,
+            due,
+            place + 1,
+            n,
+        );
     }
     match position(types, names, s, row, place) {
         Found::At(k) => k,

@@ -17,11 +17,26 @@ ghost use Rattle.quick.specs.Taken.{Headed, Given, Walked, Shuts, Shut};
 pub fn other() -> Got
     ensures { λ r. ⌜ r .next ≡ 0 ⌝ }
 {
-    Got { next: 0, tape: 0, rows: 0, pool: 0 }
+    Got {
+        next: 0,
+        tape: 0,
+        rows: 0,
+        pool: 0,
+    }
 }
 
 // A value without parts: its two words from `top` on.
-pub fn note(types: &[u32], names: &[u8], s: &[u8], tape: &mut [u32], flags: &[u8; 256], memo: &mut [u8; 1024], row: usize, place: usize, top: usize) -> Got
+pub fn note(
+    types: &[u32],
+    names: &[u8],
+    s: &[u8],
+    tape: &mut [u32],
+    flags: &[u8; 256],
+    memo: &mut [u8; 1024],
+    row: usize,
+    place: usize,
+    top: usize,
+) -> Got
     requires { ⌜ Given (table (now types) (now names)) (now s) (now tape) (now flags) row place top ⌝ }
     ensures { λ r. ⌜ ((d : ℕ) → Walked (table (now (types .entry)) (now (names .entry))) (now (s .entry)) (now (tape .entry)) (now (tape .exit)) d row place top r) ⌝ }
 {
@@ -43,7 +58,15 @@ pub fn note(types: &[u32], names: &[u8], s: &[u8], tape: &mut [u32], flags: &[u8
 }
 
 // The header at `top` of a bracket whose number is a and whose n rows of parts end at `end`; its closing bracket stands at `place`.
-pub fn head(tape: &mut [u32], top: usize, a: u32, n: usize, pool: usize, end: usize, next: usize) -> Got
+pub fn head(
+    tape: &mut [u32],
+    top: usize,
+    a: u32,
+    n: usize,
+    pool: usize,
+    end: usize,
+    next: usize,
+) -> Got
     requires { ⌜ (top + 3 ≤ length (now tape)) × (n ≤ 1048576) × (end ≤ 1048576) ⌝ }
     ensures { λ r. ⌜ now (tape .exit) ≡ headed (now (tape .entry)) top a (n + 1) end ⌝ }
     ensures { λ r. ⌜ Headed n pool end next r ⌝ }
@@ -73,7 +96,18 @@ pub fn clear(tape: &mut [u32], from: usize, count: u32)
 }
 
 // The header at `top` of a SEQUENCE, if every member that was not met may be missing; n rows are those of the members present.
-pub fn shut(types: &[u32], tape: &mut [u32], row: usize, top: usize, met: u64, present: u64, n: usize, pool: usize, end: usize, next: usize) -> Got
+pub fn shut(
+    types: &[u32],
+    tape: &mut [u32],
+    row: usize,
+    top: usize,
+    met: u64,
+    present: u64,
+    n: usize,
+    pool: usize,
+    end: usize,
+    next: usize,
+) -> Got
     requires { ⌜ ((ns : List ℕ) → Shuts (table (now types) ns) row present n) × (top + 3 ≤ length (now tape)) × (end ≤ 1048576) ⌝ }
     ensures { λ r. ⌜ Alike (now (tape .entry)) (now (tape .exit)) 0 top ⌝ }
     ensures { λ r. ⌜ (0 < r .next → (ns : List ℕ) → Shut (table (now (types .entry)) ns) row (now (tape .entry)) (now (tape .exit)) top met present n pool end next r) ⌝ }

@@ -73,7 +73,14 @@ fn needed(n: usize, m: usize) -> Reading
     Reading::Refused(Refusal::Amounts(Limit::LentRoom, n as u64, m as u64))
 }
 
-fn over(types: &[u32], names: &[u8], s: &[u8], tape: &mut [u32], rows: &mut [u32], pool: &mut [u8]) -> Reply
+fn over(
+    types: &[u32],
+    names: &[u8],
+    s: &[u8],
+    tape: &mut [u32],
+    rows: &mut [u32],
+    pool: &mut [u8],
+) -> Reply
     requires { ⌜ TableCall (table (now types) (now names)) judged.Good × (length (now s) ≤ 65536) × (length (now tape) ≤ 1048576) ⌝ }
     ensures { λ r. ⌜ Replied (table (now (types .entry)) (now (names .entry))) (now (s .entry)) (now (rows .entry)) (now (pool .entry)) r (now (rows .exit)) (now (pool .exit)) ⌝ }
 {

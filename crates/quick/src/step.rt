@@ -27,7 +27,15 @@ pub fn no_step() -> Step
     }
 }
 
-pub fn gave(next: usize, tape: usize, rows: usize, pool: usize, met: u64, present: u64, due: u32) -> Step
+pub fn gave(
+    next: usize,
+    tape: usize,
+    rows: usize,
+    pool: usize,
+    met: u64,
+    present: u64,
+    due: u32,
+) -> Step
     ensures { λ r. ⌜ (r .next ≡ next) × (r .tape ≡ tape) × (r .rows ≡ rows) × (r .pool ≡ pool) × (r .met ≡ met) × (r .present ≡ present) ⌝ }
 {
     Step {

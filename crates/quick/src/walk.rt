@@ -32,10 +32,21 @@ ghost use lib.ListN.{length};
 ghost use mathlib.Core.Bool.{true, false};
 ghost use Rattle.jer.specs.Table.{kindOf, isArray, isUnwrapped, countOf, SEQUENCE, SEQUENCE-OF, CHOICE, table};
 ghost use Rattle.quick.specs.Tape.{Alike};
-ghost use Rattle.quick.specs.Taken.{Given, Walked, Stepped, Reached};
+ghost use Rattle.quick.specs.Taken.{Given, Walked, Stepped, Came};
 
 // The value of the type at `row` from the place on, noted on the tape from `top` on.
-pub fn value(types: &[u32], names: &[u8], s: &[u8], tape: &mut [u32], flags: &[u8; 256], memo: &mut [u8; 1024], row: usize, place: usize, top: usize, depth: u32) -> Got
+pub fn value(
+    types: &[u32],
+    names: &[u8],
+    s: &[u8],
+    tape: &mut [u32],
+    flags: &[u8; 256],
+    memo: &mut [u8; 1024],
+    row: usize,
+    place: usize,
+    top: usize,
+    depth: u32,
+) -> Got
     requires { ⌜ Given (table (now types) (now names)) (now s) (now tape) (now flags) row place top ⌝ }
     ensures { λ r. ⌜ Walked (table (now (types .entry)) (now (names .entry))) (now (s .entry)) (now (tape .entry)) (now (tape .exit)) depth row place top r ⌝ }
 {
@@ -49,7 +60,18 @@ pub fn value(types: &[u32], names: &[u8], s: &[u8], tape: &mut [u32], flags: &[u
 }
 
 // UNWRAPPED: the token picks the alternative.
-fn picked(types: &[u32], names: &[u8], s: &[u8], tape: &mut [u32], flags: &[u8; 256], memo: &mut [u8; 1024], row: usize, place: usize, top: usize, depth: u32) -> Got
+fn picked(
+    types: &[u32],
+    names: &[u8],
+    s: &[u8],
+    tape: &mut [u32],
+    flags: &[u8; 256],
+    memo: &mut [u8; 1024],
+    row: usize,
+    place: usize,
+    top: usize,
+    depth: u32,
+) -> Got
     requires { ⌜ Given (table (now types) (now names)) (now s) (now tape) (now flags) row place top ⌝ }
     requires { ⌜ isUnwrapped (table (now types) (now names)) row ≡ true ⌝ }
     ensures { λ r. ⌜ Walked (table (now (types .entry)) (now (names .entry))) (now (s .entry)) (now (tape .entry)) (now (tape .exit)) depth row place top r ⌝ }
@@ -60,7 +82,18 @@ fn picked(types: &[u32], names: &[u8], s: &[u8], tape: &mut [u32], flags: &[u8; 
     let Found::At(k) = alternative(types, row, token_at(s, place)) else {
         return other();
     };
-    let g = plain(types, names, s, tape, flags, memo, type_at(types, row, k), place, top + 3, depth);
+    let g = plain(
+        types,
+        names,
+        s,
+        tape,
+        flags,
+        memo,
+        type_at(types, row, k),
+        place,
+        top + 3,
+        depth,
+    );
     if g.next == 0 {
         return other();
     }
@@ -68,7 +101,18 @@ fn picked(types: &[u32], names: &[u8], s: &[u8], tape: &mut [u32], flags: &[u8; 
 }
 
 // A value of a type that is not UNWRAPPED.
-fn plain(types: &[u32], names: &[u8], s: &[u8], tape: &mut [u32], flags: &[u8; 256], memo: &mut [u8; 1024], row: usize, place: usize, top: usize, depth: u32) -> Got
+fn plain(
+    types: &[u32],
+    names: &[u8],
+    s: &[u8],
+    tape: &mut [u32],
+    flags: &[u8; 256],
+    memo: &mut [u8; 1024],
+    row: usize,
+    place: usize,
+    top: usize,
+    depth: u32,
+) -> Got
     requires { ⌜ Given (table (now types) (now names)) (now s) (now tape) (now flags) row place top ⌝ }
     requires { ⌜ isUnwrapped (table (now types) (now names)) row ≡ false ⌝ }
     ensures { λ r. ⌜ Walked (table (now (types .entry)) (now (names .entry))) (now (s .entry)) (now (tape .entry)) (now (tape .exit)) depth row place top r ⌝ }
@@ -80,7 +124,18 @@ fn plain(types: &[u32], names: &[u8], s: &[u8], tape: &mut [u32], flags: &[u8; 2
 }
 
 // A bracket, by its type.
-fn bracket(types: &[u32], names: &[u8], s: &[u8], tape: &mut [u32], flags: &[u8; 256], memo: &mut [u8; 1024], row: usize, place: usize, top: usize, depth: u32) -> Got
+fn bracket(
+    types: &[u32],
+    names: &[u8],
+    s: &[u8],
+    tape: &mut [u32],
+    flags: &[u8; 256],
+    memo: &mut [u8; 1024],
+    row: usize,
+    place: usize,
+    top: usize,
+    depth: u32,
+) -> Got
     requires { ⌜ Given (table (now types) (now names)) (now s) (now tape) (now flags) row place top ⌝ }
     requires { ⌜ isUnwrapped (table (now types) (now names)) row ≡ false ⌝ }
     ensures { λ r. ⌜ Walked (table (now (types .entry)) (now (names .entry))) (now (s .entry)) (now (tape .entry)) (now (tape .exit)) depth row place top r ⌝ }
@@ -92,15 +147,59 @@ fn bracket(types: &[u32], names: &[u8], s: &[u8], tape: &mut [u32], flags: &[u8;
         return other();
     }
     match kind_of(types, row) {
-        Row::SEQUENCE => sequence(types, names, s, tape, flags, memo, row, place, top, depth - 1),
-        Row::SEQUENCE_OF => list(types, names, s, tape, flags, memo, row, place, top, depth - 1),
-        Row::CHOICE => choice(types, names, s, tape, flags, memo, row, place, top, depth - 1),
+        Row::SEQUENCE => sequence(
+            types,
+            names,
+            s,
+            tape,
+            flags,
+            memo,
+            row,
+            place,
+            top,
+            depth - 1,
+        ),
+        Row::SEQUENCE_OF => list(
+            types,
+            names,
+            s,
+            tape,
+            flags,
+            memo,
+            row,
+            place,
+            top,
+            depth - 1,
+        ),
+        Row::CHOICE => choice(
+            types,
+            names,
+            s,
+            tape,
+            flags,
+            memo,
+            row,
+            place,
+            top,
+            depth - 1,
+        ),
         _ => other(),
     }
 }
 
 // SEQUENCE OF; `depth` brackets may be open in an item.
-fn list(types: &[u32], names: &[u8], s: &[u8], tape: &mut [u32], flags: &[u8; 256], memo: &mut [u8; 1024], row: usize, place: usize, top: usize, depth: u32) -> Got
+fn list(
+    types: &[u32],
+    names: &[u8],
+    s: &[u8],
+    tape: &mut [u32],
+    flags: &[u8; 256],
+    memo: &mut [u8; 1024],
+    row: usize,
+    place: usize,
+    top: usize,
+    depth: u32,
+) -> Got
     requires { ⌜ Given (table (now types) (now names)) (now s) (now tape) (now flags) row place top ⌝ }
     requires { ⌜ (top + 3 ≤ length (now tape)) × (kindOf (table (now types) (now names)) row ≡ SEQUENCE-OF) ⌝ }
     ensures { λ r. ⌜ Walked (table (now (types .entry)) (now (names .entry))) (now (s .entry)) (now (tape .entry)) (now (tape .exit)) (depth + 1) row place top r ⌝ }
@@ -142,7 +241,18 @@ fn list(types: &[u32], names: &[u8], s: &[u8], tape: &mut [u32], flags: &[u8; 25
 }
 
 // SEQUENCE; `depth` brackets may be open in a member.
-fn sequence(types: &[u32], names: &[u8], s: &[u8], tape: &mut [u32], flags: &[u8; 256], memo: &mut [u8; 1024], row: usize, place: usize, top: usize, depth: u32) -> Got
+fn sequence(
+    types: &[u32],
+    names: &[u8],
+    s: &[u8],
+    tape: &mut [u32],
+    flags: &[u8; 256],
+    memo: &mut [u8; 1024],
+    row: usize,
+    place: usize,
+    top: usize,
+    depth: u32,
+) -> Got
     requires { ⌜ Given (table (now types) (now names)) (now s) (now tape) (now flags) row place top ⌝ }
     requires { ⌜ kindOf (table (now types) (now names)) row ≡ SEQUENCE ⌝ }
     ensures { λ r. ⌜ Walked (table (now (types .entry)) (now (names .entry))) (now (s .entry)) (now (tape .entry)) (now (tape .exit)) (depth + 1) row place top r ⌝ }
@@ -154,7 +264,18 @@ fn sequence(types: &[u32], names: &[u8], s: &[u8], tape: &mut [u32], flags: &[u8
 }
 
 // SEQUENCE as an object; `depth` brackets may be open in a member.
-fn object(types: &[u32], names: &[u8], s: &[u8], tape: &mut [u32], flags: &[u8; 256], memo: &mut [u8; 1024], row: usize, place: usize, top: usize, depth: u32) -> Got
+fn object(
+    types: &[u32],
+    names: &[u8],
+    s: &[u8],
+    tape: &mut [u32],
+    flags: &[u8; 256],
+    memo: &mut [u8; 1024],
+    row: usize,
+    place: usize,
+    top: usize,
+    depth: u32,
+) -> Got
     requires { ⌜ Given (table (now types) (now names)) (now s) (now tape) (now flags) row place top ⌝ }
     requires { ⌜ (kindOf (table (now types) (now names)) row ≡ SEQUENCE) × (isArray (table (now types) (now names)) row ≡ false) ⌝ }
     ensures { λ r. ⌜ Walked (table (now (types .entry)) (now (names .entry))) (now (s .entry)) (now (tape .entry)) (now (tape .exit)) (depth + 1) row place top r ⌝ }
@@ -178,14 +299,40 @@ fn object(types: &[u32], names: &[u8], s: &[u8], tape: &mut [u32], flags: &[u8; 
     let mut n: usize = 0;
     let mut m: usize = 0;
     loop {
-        let g = member(types, names, s, tape, flags, memo, row, at, top, end, met, present, due, depth);
+        let g = member(
+            types,
+            names,
+            s,
+            tape,
+            flags,
+            memo,
+            row,
+            at,
+            top,
+            end,
+            met,
+            present,
+            due,
+            depth,
+        );
         if g.next == 0 {
             return other();
         }
         let c = space(s, g.next);
         let b = byte_at(s, c);
         if b == 0x7D {
-            return shut(types, tape, row, top, g.met, g.present, n + g.rows, m + g.pool, g.tape, c + 1);
+            return shut(
+                types,
+                tape,
+                row,
+                top,
+                g.met,
+                g.present,
+                n + g.rows,
+                m + g.pool,
+                g.tape,
+                c + 1,
+            );
         }
         if b != 0x2C {
             return other();
@@ -201,7 +348,22 @@ fn object(types: &[u32], names: &[u8], s: &[u8], tape: &mut [u32], flags: &[u8; 
 }
 
 // The member whose name stands at the place, of the object whose header is at `top`: its value is noted from `end` on, and linked.
-fn member(types: &[u32], names: &[u8], s: &[u8], tape: &mut [u32], flags: &[u8; 256], memo: &mut [u8; 1024], row: usize, place: usize, top: usize, end: usize, met: u64, present: u64, due: u32, depth: u32) -> Step
+fn member(
+    types: &[u32],
+    names: &[u8],
+    s: &[u8],
+    tape: &mut [u32],
+    flags: &[u8; 256],
+    memo: &mut [u8; 1024],
+    row: usize,
+    place: usize,
+    top: usize,
+    end: usize,
+    met: u64,
+    present: u64,
+    due: u32,
+    depth: u32,
+) -> Step
     requires { ⌜ Given (table (now types) (now names)) (now s) (now tape) (now flags) row place end ⌝ }
     requires { ⌜ (top + 3 + countOf (table (now types) (now names)) row ≤ end) × (end ≤ length (now tape)) ⌝ }
     ensures { λ r. ⌜ Alike (now (tape .entry)) (now (tape .exit)) 0 (top + 3) ⌝ }
@@ -225,16 +387,46 @@ fn member(types: &[u32], names: &[u8], s: &[u8], tape: &mut [u32], flags: &[u8; 
     if absent_at(types, s, row, k, at) {
         return gave(literal_null(s, at), end, 0, 0, with(met, k), present, k + 1);
     }
-    let g = value(types, names, s, tape, flags, memo, type_at(types, row, k), at, end, depth);
+    let g = value(
+        types,
+        names,
+        s,
+        tape,
+        flags,
+        memo,
+        type_at(types, row, k),
+        at,
+        end,
+        depth,
+    );
     if g.next == 0 {
         return no_step();
     }
     tape[top + 3 + wide(k)] = end as u32;
-    gave(g.next, g.tape, g.rows, g.pool, with(met, k), with(present, k), k + 1)
+    gave(
+        g.next,
+        g.tape,
+        g.rows,
+        g.pool,
+        with(met, k),
+        with(present, k),
+        k + 1,
+    )
 }
 
 // CHOICE as an object of one member; `depth` brackets may be open in its value.
-fn choice(types: &[u32], names: &[u8], s: &[u8], tape: &mut [u32], flags: &[u8; 256], memo: &mut [u8; 1024], row: usize, place: usize, top: usize, depth: u32) -> Got
+fn choice(
+    types: &[u32],
+    names: &[u8],
+    s: &[u8],
+    tape: &mut [u32],
+    flags: &[u8; 256],
+    memo: &mut [u8; 1024],
+    row: usize,
+    place: usize,
+    top: usize,
+    depth: u32,
+) -> Got
     requires { ⌜ Given (table (now types) (now names)) (now s) (now tape) (now flags) row place top ⌝ }
     requires { ⌜ (top + 3 ≤ length (now tape)) × (kindOf (table (now types) (now names)) row ≡ CHOICE) × (isUnwrapped (table (now types) (now names)) row ≡ false) ⌝ }
     ensures { λ r. ⌜ Walked (table (now (types .entry)) (now (names .entry))) (now (s .entry)) (now (tape .entry)) (now (tape .exit)) (depth + 1) row place top r ⌝ }
@@ -251,7 +443,18 @@ fn choice(types: &[u32], names: &[u8], s: &[u8], tape: &mut [u32], flags: &[u8; 
         return other();
     }
     let at = space(s, name.next);
-    let g = value(types, names, s, tape, flags, memo, type_at(types, row, k), at, top + 3, depth);
+    let g = value(
+        types,
+        names,
+        s,
+        tape,
+        flags,
+        memo,
+        type_at(types, row, k),
+        at,
+        top + 3,
+        depth,
+    );
     if g.next == 0 {
         return other();
     }
@@ -263,7 +466,18 @@ fn choice(types: &[u32], names: &[u8], s: &[u8], tape: &mut [u32], flags: &[u8; 
 }
 
 // SEQUENCE as an array; `depth` brackets may be open in an element.
-fn array(types: &[u32], names: &[u8], s: &[u8], tape: &mut [u32], flags: &[u8; 256], memo: &mut [u8; 1024], row: usize, place: usize, top: usize, depth: u32) -> Got
+fn array(
+    types: &[u32],
+    names: &[u8],
+    s: &[u8],
+    tape: &mut [u32],
+    flags: &[u8; 256],
+    memo: &mut [u8; 1024],
+    row: usize,
+    place: usize,
+    top: usize,
+    depth: u32,
+) -> Got
     requires { ⌜ Given (table (now types) (now names)) (now s) (now tape) (now flags) row place top ⌝ }
     requires { ⌜ (kindOf (table (now types) (now names)) row ≡ SEQUENCE) × (isArray (table (now types) (now names)) row ≡ true) ⌝ }
     ensures { λ r. ⌜ Walked (table (now (types .entry)) (now (names .entry))) (now (s .entry)) (now (tape .entry)) (now (tape .exit)) (depth + 1) row place top r ⌝ }
@@ -287,14 +501,40 @@ fn array(types: &[u32], names: &[u8], s: &[u8], tape: &mut [u32], flags: &[u8; 2
     let mut n: usize = 0;
     let mut m: usize = 0;
     loop {
-        let g = element(types, names, s, tape, flags, memo, row, at, top, end, k, met, present, depth);
+        let g = element(
+            types,
+            names,
+            s,
+            tape,
+            flags,
+            memo,
+            row,
+            at,
+            top,
+            end,
+            k,
+            met,
+            present,
+            depth,
+        );
         if g.next == 0 {
             return other();
         }
         let c = space(s, g.next);
         let b = byte_at(s, c);
         if b == 0x5D {
-            return shut(types, tape, row, top, g.met, g.present, n + g.rows, m + g.pool, g.tape, c + 1);
+            return shut(
+                types,
+                tape,
+                row,
+                top,
+                g.met,
+                g.present,
+                n + g.rows,
+                m + g.pool,
+                g.tape,
+                c + 1,
+            );
         }
         if b != 0x2C {
             return other();
@@ -310,11 +550,26 @@ fn array(types: &[u32], names: &[u8], s: &[u8], tape: &mut [u32], flags: &[u8; 2
 }
 
 // The element at the place, for the member at k of the ARRAY whose header is at `top`: its value is noted from `end` on, and linked.
-fn element(types: &[u32], names: &[u8], s: &[u8], tape: &mut [u32], flags: &[u8; 256], memo: &mut [u8; 1024], row: usize, place: usize, top: usize, end: usize, k: u32, met: u64, present: u64, depth: u32) -> Step
+fn element(
+    types: &[u32],
+    names: &[u8],
+    s: &[u8],
+    tape: &mut [u32],
+    flags: &[u8; 256],
+    memo: &mut [u8; 1024],
+    row: usize,
+    place: usize,
+    top: usize,
+    end: usize,
+    k: u32,
+    met: u64,
+    present: u64,
+    depth: u32,
+) -> Step
     requires { ⌜ Given (table (now types) (now names)) (now s) (now tape) (now flags) row place end ⌝ }
     requires { ⌜ (top + 3 + countOf (table (now types) (now names)) row ≤ end) × (end ≤ length (now tape)) ⌝ }
     ensures { λ r. ⌜ Alike (now (tape .entry)) (now (tape .exit)) 0 (top + 3) ⌝ }
-    ensures { λ r. ⌜ (0 < r .next → Reached (table (now (types .entry)) (now (names .entry))) (now (s .entry)) (now (tape .entry)) (now (tape .exit)) depth row place top end k met present r) ⌝ }
+    ensures { λ r. ⌜ (0 < r .next → Came (table (now (types .entry)) (now (names .entry))) (now (s .entry)) (now (tape .entry)) (now (tape .exit)) depth row place top end k met present r) ⌝ }
 {
     if count_of(types, row) <= k {
         if !Row::at(types, row).extensible() {
@@ -325,10 +580,29 @@ fn element(types: &[u32], names: &[u8], s: &[u8], tape: &mut [u32], flags: &[u8;
     if missing_at(types, s, row, k, place) {
         return gave(literal_null(s, place), end, 0, 0, with(met, k), present, 0);
     }
-    let g = value(types, names, s, tape, flags, memo, type_at(types, row, k), place, end, depth);
+    let g = value(
+        types,
+        names,
+        s,
+        tape,
+        flags,
+        memo,
+        type_at(types, row, k),
+        place,
+        end,
+        depth,
+    );
     if g.next == 0 {
         return no_step();
     }
     tape[top + 3 + wide(k)] = end as u32;
-    gave(g.next, g.tape, g.rows, g.pool, with(met, k), with(present, k), 0)
+    gave(
+        g.next,
+        g.tape,
+        g.rows,
+        g.pool,
+        with(met, k),
+        with(present, k),
+        0,
+    )
 }
