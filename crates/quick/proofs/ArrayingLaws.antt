@@ -25,7 +25,7 @@ use Rattle.quick.specs.declared.step.Step as declared-step
 use Rattle.quick.specs.Stood.{Spaces, TreeAt, Stood}
 use Rattle.quick.specs.Tape.{Alike, headed, Stands, aSequence, Linked}
 use Rattle.quick.specs.Taken as taken
-use Rattle.quick.specs.Taken.{Headed, Walked, Shuts, Shut, Reached}
+use Rattle.quick.specs.Taken.{Headed, Walked, Shuts, Shut, Came}
 use Rattle.quick.proofs.PartLaws.{setPart, set-count, set-rows, set-pool}
 use Rattle.quick.proofs.TapeLaws.{alike-part, noParts, linked-none, linked-later, linked-alike, linked-ahead, LinkSet, linked-set, stands-alike}
 use Rattle.quick.proofs.WalkLaws.{alike-same, alike-then, alike-set, mark-inside, headed-after, header, bracket-closed}
@@ -192,7 +192,7 @@ pub record Behind (t : Table) (s y : List ℕ) (d r p j c end k met has n m : �
   pub ordered : Ordered t s y r j end k met has n m elements
 
 module _ {t : Table} {s z₀ z y : List ℕ} {d r p j at end k met has n m : ℕ} (a : Arraying t s z₀ z d r p j at end k met has n m) {g : declared-step.Step}
-    (st : Reached t s z y d r at j end k met has g) (keep : length y ≡ length z) (al : Alike z y 0 (j + 3)) {c : ℕ} (sp : Spaces s (g .next) c) where
+    (st : Came t s z y d r at j end k met has g) (keep : length y ≡ length z) (al : Alike z y 0 (j + 3)) {c : ℕ} (sp : Spaces s (g .next) c) where
   behind-tree : (tree : Json) → TreeAt s d at (g .next) tree → Ordered t s y r j (g .tape) (k + 1) (g .met) (g .present) (n + g .rows) (m + g .pool) (a .elements ++ (elementOf t tree ∷ []))
       → Behind t s y d r p j c (g .tape) (k + 1) (g .met) (g .present) (n + g .rows) (m + g .pool)
   behind-tree tree tr od =

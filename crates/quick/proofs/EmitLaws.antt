@@ -23,7 +23,7 @@ use Rattle.jer.specs.Octets.{unhex, unbase64}
 use Rattle.spelled.specs.Stretch.{Stretch}
 use Rattle.spelled.specs.Octets.{OctetsStored}
 use Rattle.quick.specs.Tape.{Text, Words, inRow, inText, inHex, inBase64, Header, Stands, aLeaf, aList, aSequence, aChoice, Listed, Linked}
-use Rattle.quick.specs.Emit.{Room, Noted, NotedItems, NotedParts, Stores, Emits, EmitsItems, EmitsParts}
+use Rattle.quick.specs.Emit.{Room, Noted, NotedItems, NotedParts, Stores, Emits, Pours, EmitsParts}
 use Rattle.quick.proofs.ListLaws.{rows-any}
 use Rattle.quick.proofs.PartLaws.{parts-any}
 use Rattle.quick.proofs.TapeLaws.{stands-ahead, listed-ahead, linked-ahead}
@@ -270,7 +270,7 @@ module _ (types s z rows rows₁ rows₂ pool pool₂ : List ℕ) (r j i o q : �
   bracket-stored t v a n ns bs e ea en nu pu st =
       (st .0 ∙ ap (λ (x : List ℕ). sets x ((i + 1) * 4) ns) u ∙ above-stored rows i kind (getD z j 0) (getD z (j + 1) 0) ns ∙ rw (nu, e, ea, en), st .1 ∙ ap (λ (x : List ℕ). sets pool o x) (sym pu), st .2 ∙ ap (λ (x : List ℕ). o + length x) (sym pu))
 
-  pub list-emitted : kind ≡ 7 → (e end : ℕ) → ((ns : List ℕ) → e ≡ elementOf (table types ns) r) → end ≡ getD z (j + 2) 0 → EmitsItems types s z e (j + 3) end (i + 1) o rows₁ rows₂ pool pool₂ q → Emits types s z r j i o rows rows₂ pool pool₂ q
+  pub list-emitted : kind ≡ 7 → (e end : ℕ) → ((ns : List ℕ) → e ≡ elementOf (table types ns) r) → end ≡ getD z (j + 2) 0 → Pours types s z e (j + 3) end (i + 1) o rows₁ rows₂ pool pool₂ q → Emits types s z r j i o rows rows₂ pool pool₂ q
   list-emitted h e end ee en f ns v k w = go (by-list w (sym (ek ns) ∙ h))
     where
       go : {x : Val} → ByList s z (table types ns) r j k x → Stores rows rows₂ pool pool₂ i o q (numbers (rowsOf x (table types ns) r o)) (poolOf x)

@@ -13,15 +13,11 @@ use Rattle.jer.specs.Rows.{numbers, rowsOf, itemRows, partRows, poolOf, itemPoo
 use Rattle.slices.proofs.PartLaws.{sets-append}
 use Rattle.leaf.proofs.StoreLaws.{numbers-length, numbers-append}
 use Rattle.quick.specs.Tape.{Header, Stands, Listed, noItem, item, Linked, noLink, noValue, aValue}
-use Rattle.quick.specs.Emit.{Room, Noted, NotedItems, NotedParts, Stores, Emits, EmitsItems, EmitsParts}
+use Rattle.quick.specs.Emit.{Room, Noted, NotedItems, NotedParts, Stores, Emits, Pours, EmitsParts, Passes}
 use Rattle.quick.proofs.ListLaws.{rows-any, cons-rows, nil-rows, cons-pool, nil-pool}
 use Rattle.quick.proofs.PartLaws.{parts-any, absent-rows, present-rows, absent-pool, present-pool}
 use Rattle.quick.proofs.TapeLaws.{stands-ahead, listed-ahead, linked-ahead}
 use Rattle.quick.proofs.EmitLaws.{some-rows, noted-row}
-
--- what passing a node says
-abbrev pub Passes : List ℕ → List ℕ → ℕ → ℕ → ℕ → ℕ → Type 0
-Passes types z e at at′ n = (s ns : List ℕ) (v : Val) (k : ℕ) → Stands s z (table types ns) e v at k → (at′ ≡ k) × (n ≡ length (rowsOf v (table types ns) e 0))
 
 -- ---- items
 
@@ -140,7 +136,7 @@ module _ (types s z rows₀ rows pool₀ pool : List ℕ) (e from end i o₀ at 
     λ ns vs w. pouring-more (k .3 ns vs w) rows′ pool′ at′ n o′ l (f ns) (g s ns),
   )
 
-pub items-end : (types s z rows₀ rows pool₀ pool : List ℕ) (e from end i o₀ at q o : ℕ) → ItemsLoop types s z rows₀ rows pool₀ pool e from end i o₀ at q o → end ≤ at → EmitsItems types s z e from end i o₀ rows₀ rows pool₀ pool o
+pub items-end : (types s z rows₀ rows pool₀ pool : List ℕ) (e from end i o₀ at q o : ℕ) → ItemsLoop types s z rows₀ rows pool₀ pool e from end i o₀ at q o → end ≤ at → Pours types s z e from end i o₀ rows₀ rows pool₀ pool o
 items-end types s z rows₀ rows pool₀ pool e from end i o₀ at q o k l ns vs w = pouring-end (k .3 ns vs w) l
 
 -- ---- members

@@ -20,7 +20,7 @@ use Rattle.spelled.specs.Stretch.{Stretch, Passed, ValueAt}
 use Rattle.quick.specs.Stood.{Spaces, TreeAt}
 use Rattle.quick.specs.Tape.{Alike, Stands}
 use Rattle.quick.specs.Taken as taken
-use Rattle.quick.specs.Taken.{Given, Taken, Walked, NameTaken, MemberAt, Met, valued, nulled, passed, Stepped, Reached}
+use Rattle.quick.specs.Taken.{Given, Taken, Walked, NameTaken, MemberAt, Met, valued, nulled, passed, Stepped, Came}
 use Rattle.quick.proofs.TapeLaws.{alike-part}
 use Rattle.quick.proofs.WalkLaws.{alike-then, alike-set}
 use Rattle.quick.proofs.MemberLaws.{null-at}
@@ -119,7 +119,7 @@ missing-is : (t : Table) (s : List ℕ) (d r at k q : ℕ) (tree : Json) {b : Bo
 missing-is t s d r at k q tree ab w = ap (λ (x : Bool). x && mayMiss t r k) (sym (null-at s d at q tree w)) ∙ sym ab
 
 module _ {t : Table} {s z : List ℕ} {d r p top end met has k : ℕ} {g : declared-step.Step} where
-  pub element-surplus : countOf t r ≤ k → {b : Bool} → b ≡ extensible t r → b ≡ true → (n : ℕ) → (0 < n → ValueAt d s p n) → Gave n end 0 0 met has g → end ≤ length z → 0 < g .next → Reached t s z z d r p top end k met has g
+  pub element-surplus : countOf t r ≤ k → {b : Bool} → b ≡ extensible t r → b ≡ true → (n : ℕ) → (0 < n → ValueAt d s p n) → Gave n end 0 0 met has g → end ≤ length z → 0 < g .next → Came t s z z d r p top end k met has g
   element-surplus l e h n f w i o =
       let x = f (omega (arith, w .0)) in
       record {
@@ -132,7 +132,7 @@ module _ {t : Table} {s z : List ℕ} {d r p top end met has k : ℕ} {g : decla
       }
 
   module _ (l : k < countOf t r) {b : Bool} (ab : b ≡ (eqb (byteAt s p) 0x6E && mayMiss t r k)) where
-    pub element-null : b ≡ true → (n : ℕ) → (0 < n → (d : ℕ) → Passed (Value d p (jnull p)) s p n) → {mt : ℕ} → mt ≡ withBit met k → Gave n end 0 0 mt has g → end ≤ length z → 0 < g .next → Reached t s z z d r p top end k met has g
+    pub element-null : b ≡ true → (n : ℕ) → (0 < n → (d : ℕ) → Passed (Value d p (jnull p)) s p n) → {mt : ℕ} → mt ≡ withBit met k → Gave n end 0 0 mt has g → end ≤ length z → 0 < g .next → Came t s z z d r p top end k met has g
     element-null h n f em w i o =
         let x = f (omega (arith, w .0)) in
         let y = tree-to (jnull p) (w .0) (x d .stretch) in
@@ -146,7 +146,7 @@ module _ {t : Table} {s z : List ℕ} {d r p top end met has k : ℕ} {g : decla
         }
 
     pub element-value : b ≡ false → (m c : ℕ) (v : Got) (y : List ℕ) → m ≡ typeAt t r k → c ≡ k → Walked t s z y d m p end v → (v .next ≡ 0 → ⊥) → {mt hs : ℕ} → mt ≡ withBit met k → hs ≡ withBit has k
-        → Gave (v .next) (v .tape) (v .rows) (v .pool) mt hs g → Reached t s z (set y (top + 3 + c) end) d r p top end k met has g
+        → Gave (v .next) (v .tape) (v .rows) (v .pool) mt hs g → Came t s z (set y (top + 3 + c) end) d r p top end k met has g
     element-value h m c v y em ec w′ nz e₁ e₂ w =
         let x : Taken t s y d (typeAt t r k) p end v = rw (← em) (w′ .taken (omega (arith, nz))) in
         let q = tree-to (x .stood .tree) (w .0) (x .stood .here) in

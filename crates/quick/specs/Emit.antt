@@ -1,10 +1,10 @@
 -- What the walk over the tape is given, and what it stores.
-use Prim.Native.Nat.{ℕ, _+_, _*_, _≤_}
+use Prim.Native.Nat.{ℕ, _+_, _*_, _≤_, _<_}
 use mathlib.Core.Path.{_≡_}
 use mathlib.Core.List.{List}
 use lib.ListN.{length}
 use lib.Seq.{sets}
-use Rattle.jer.specs.Table.{Table, table}
+use Rattle.jer.specs.Table.{Table, table, kindOf}
 use Rattle.jer.specs.Value.{Val, Vals, Parts}
 use Rattle.jer.specs.Rows.{numbers, rowsOf, itemRows, partRows, poolOf, itemPool, partPool}
 use Rattle.quick.specs.Tape.{Stands, Listed, Linked}
@@ -54,10 +54,18 @@ abbrev pub Emits : List ℕ → List ℕ → List ℕ → ℕ → ℕ → ℕ �
 Emits types s z r j i o rows₀ rows₁ pool₀ pool₁ next =
     (ns : List ℕ) (v : Val) (k : ℕ) → Stands s z (table types ns) r v j k → Stores rows₀ rows₁ pool₀ pool₁ i o next (numbers (rowsOf v (table types ns) r o)) (poolOf v)
 
-abbrev pub EmitsItems : List ℕ → List ℕ → List ℕ → ℕ → ℕ → ℕ → ℕ → ℕ → List ℕ → List ℕ → List ℕ → List ℕ → ℕ → Type 0
-EmitsItems types s z r j end i o rows₀ rows₁ pool₀ pool₁ next =
+abbrev pub Pours : List ℕ → List ℕ → List ℕ → ℕ → ℕ → ℕ → ℕ → ℕ → List ℕ → List ℕ → List ℕ → List ℕ → ℕ → Type 0
+Pours types s z r j end i o rows₀ rows₁ pool₀ pool₁ next =
     (ns : List ℕ) (vs : Vals) → Listed s z (table types ns) r vs j end → Stores rows₀ rows₁ pool₀ pool₁ i o next (numbers (itemRows vs (table types ns) r o)) (itemPool vs)
 
 abbrev pub EmitsParts : List ℕ → List ℕ → List ℕ → ℕ → ℕ → ℕ → ℕ → List ℕ → List ℕ → List ℕ → List ℕ → ℕ → Type 0
 EmitsParts types s z r b i o rows₀ rows₁ pool₀ pool₁ next =
     (ns : List ℕ) (ps : Parts) (end : ℕ) → Linked s z (table types ns) r b end 0 ps → Stores rows₀ rows₁ pool₀ pool₁ i o next (numbers (partRows ps (table types ns) r 0 o)) (partPool ps)
+
+-- whatever value of the type at r stands from j on, it ends at `end` and has n rows
+abbrev pub Passes : List ℕ → List ℕ → ℕ → ℕ → ℕ → ℕ → Type 0
+Passes types z r j end n = (s ns : List ℕ) (v : Val) (k : ℕ) → Stands s z (table types ns) r v j k → (end ≡ k) × (n ≡ length (rowsOf v (table types ns) r 0))
+
+-- the type at r is one of those whose bytes stand in the pool
+abbrev pub InPool : List ℕ → ℕ → Type 0
+InPool types r = (ns : List ℕ) → (4 ≤ kindOf (table types ns) r) × (kindOf (table types ns) r < 6)

@@ -7,7 +7,7 @@ use mathlib.Core.List.{List}
 use lib.Count.{ones}
 use lib.ListN.{length, getD, set}
 use Rattle.json.specs.Tree.{Json}
-use Rattle.jer.specs.Table.{Table, isType, extensible, position, countOf, typeAt, mayMiss}
+use Rattle.jer.specs.Table.{Table, kindOf, isType, extensible, position, countOf, typeAt, mayMiss}
 use Rattle.jer.specs.Value.{Leaf, Val, vLeaf}
 use Rattle.jer.specs.Answer.{ok, bind}
 use Rattle.jer.specs.Read.{read, readWhole, null?, nullAbsent}
@@ -43,6 +43,10 @@ pub record LeafTaken (t : Table) (s : List ℕ) (r p : ℕ) (g : declared-leaf.W
   pub placed : g .next ≤ length s
   pub few : p + g .pool ≤ g .next
 
+-- so it was, if the type at r is of the kind
+abbrev pub LeafOf : ℕ → Table → List ℕ → ℕ → ℕ → declared-leaf.Words → Type 0
+LeafOf kind t s r p g = kindOf t r ≡ kind → LeafTaken t s r p g
+
 -- the value at p was taken, and the tape z stands for it from j on: the answer goes ahead and stays within the text and the tape,
 -- there are fewer rows than words, and no more pool bytes than text bytes
 pub record Taken (t : Table) (s z : List ℕ) (d r p j : ℕ) (g : Got) : Type 0 where
@@ -66,13 +70,17 @@ pub record Walked (t : Table) (s z₀ z₁ : List ℕ) (d r p j : ℕ) (g : Got)
 abbrev pub Headed : ℕ → ℕ → ℕ → ℕ → Got → Type 0
 Headed n pool end next g = (g .next ≡ next) × (g .tape ≡ end) × (g .rows ≡ n + 1) × (g .pool ≡ pool)
 
+-- every member that was not met may be missing
+abbrev pub Complete : Table → ℕ → ℕ → Type 0
+Complete t r met = (i : ℕ) → i < countOf t r → bitOf met i ≡ false → mayMiss t r i ≡ true
+
 -- what closing a SEQUENCE is given: no more members present than there are, and their rows can be counted
 abbrev pub Shuts : Table → ℕ → ℕ → ℕ → Type 0
 Shuts t r present n = (countOf t r ≤ 64) × (ones present ≤ countOf t r) × (n + countOf t r ≤ 1048576)
 
 -- a SEQUENCE is closed: of its members every one that was not met may be missing; its header counts those present, and a row for each other one
 pub record Shut (t : Table) (r : ℕ) (z₀ z₁ : List ℕ) (j met present n pool end next : ℕ) (g : Got) : Type 0 where
-  pub complete : (i : ℕ) → i < countOf t r → bitOf met i ≡ false → mayMiss t r i ≡ true
+  pub complete : Complete t r met
   pub tape : z₁ ≡ headed z₀ j (ones present) (n + (countOf t r - ones present) + 1) end
   pub answer : Headed (n + (countOf t r - ones present)) pool end next g
 
@@ -138,7 +146,7 @@ pub data Element (t : Table) (s z₀ z₁ : List ℕ) (d r p top end k met prese
       → Element t s z₀ z₁ d r p top end k met present g
 
 -- what reading an element does
-pub record Reached (t : Table) (s z₀ z₁ : List ℕ) (d r p top end k met present : ℕ) (g : declared-step.Step) : Type 0 where
+pub record Came (t : Table) (s z₀ z₁ : List ℕ) (d r p top end k met present : ℕ) (g : declared-step.Step) : Type 0 where
   pub how : Element t s z₀ z₁ d r p top end k met present g
   pub ahead : p < g .next
   pub placed : g .next ≤ length s

@@ -15,10 +15,10 @@ ghost use mathlib.Core.Path.{_≡_};
 ghost use mathlib.Core.List.{List};
 ghost use Prim.Native.Nat.{ℕ, _≤_, _<_};
 ghost use lib.ListN.{length};
-ghost use Rattle.jer.specs.Table.{Table, kindOf, BOOLEAN, INTEGER, ENUMERATED, NULL, OCTET-STRING, UTF8String, table};
+ghost use Rattle.jer.specs.Table.{Table, BOOLEAN, INTEGER, ENUMERATED, NULL, OCTET-STRING, UTF8String, table};
 ghost use Rattle.spelled.specs.Leaves.{IsFlags};
 ghost use Rattle.spelled.specs.Names.{Distinct};
-ghost use Rattle.quick.specs.Taken.{LeafTaken};
+ghost use Rattle.quick.specs.Taken.{LeafTaken, LeafOf};
 
 // The place after it, or 0; the two words of it; how many pool bytes.
 pub struct Words {
@@ -58,7 +58,7 @@ pub fn leaf(
 }
 
 fn boolean(s: &[u8], place: usize) -> Words
-    ensures { λ r. ⌜ (0 < r .next → (t : Table) (row : ℕ) → kindOf t row ≡ BOOLEAN → LeafTaken t (now (s .entry)) row place r) ⌝ }
+    ensures { λ r. ⌜ (0 < r .next → (t : Table) (row : ℕ) → LeafOf BOOLEAN t (now (s .entry)) row place r) ⌝ }
 {
     if byte_at(s, place) == 0x74 {
         return taken(literal_true(s, place), 1, 0, 0);
@@ -67,7 +67,7 @@ fn boolean(s: &[u8], place: usize) -> Words
 }
 
 fn number(s: &[u8], place: usize) -> Words
-    ensures { λ r. ⌜ (0 < r .next → (t : Table) (row : ℕ) → kindOf t row ≡ INTEGER → LeafTaken t (now (s .entry)) row place r) ⌝ }
+    ensures { λ r. ⌜ (0 < r .next → (t : Table) (row : ℕ) → LeafOf INTEGER t (now (s .entry)) row place r) ⌝ }
 {
     let n = integer(s, place);
     taken(n.next, n.low, n.high, 0)
@@ -79,7 +79,7 @@ pub const ESCAPED: u32 = 2147483648;
 // A UTF8String: where it stands, and its length.
 fn text(s: &[u8], flags: &[u8; 256], place: usize) -> Words
     requires { ⌜ (length (now s) ≤ 65536) × (place ≤ 65536) × IsFlags (now flags) ⌝ }
-    ensures { λ r. ⌜ (0 < r .next → (t : Table) (row : ℕ) → kindOf t row ≡ UTF8String → LeafTaken t (now (s .entry)) row place r) ⌝ }
+    ensures { λ r. ⌜ (0 < r .next → (t : Table) (row : ℕ) → LeafOf UTF8String t (now (s .entry)) row place r) ⌝ }
 {
     let w = string(s, place, flags);
     if w.next == 0 {
@@ -103,7 +103,7 @@ fn item(
     place: usize,
 ) -> Words
     requires { ⌜ (length (now s) ≤ 65536) × (place ≤ 65536) × IsFlags (now flags) × Distinct (table (now types) (now names)) row ⌝ }
-    ensures { λ r. ⌜ (0 < r .next → kindOf (table (now (types .entry)) (now (names .entry))) row ≡ ENUMERATED → LeafTaken (table (now (types .entry)) (now (names .entry))) (now (s .entry)) row place r) ⌝ }
+    ensures { λ r. ⌜ (0 < r .next → LeafOf ENUMERATED (table (now (types .entry)) (now (names .entry))) (now (s .entry)) row place r) ⌝ }
 {
     let w = string(s, place, flags);
     if w.next == 0 {
@@ -119,7 +119,7 @@ fn item(
 // An OCTET STRING that has no escapes: where it stands, and how many octets it has; in Base64 with its characters above.
 fn octets(types: &[u32], s: &[u8], flags: &[u8; 256], row: usize, place: usize) -> Words
     requires { ⌜ (length (now s) ≤ 65536) × (place ≤ 65536) × IsFlags (now flags) ⌝ }
-    ensures { λ r. ⌜ (0 < r .next → (ns : List ℕ) → kindOf (table (now (types .entry)) ns) row ≡ OCTET-STRING → LeafTaken (table (now (types .entry)) ns) (now (s .entry)) row place r) ⌝ }
+    ensures { λ r. ⌜ (0 < r .next → (ns : List ℕ) → LeafOf OCTET-STRING (table (now (types .entry)) ns) (now (s .entry)) row place r) ⌝ }
 {
     let w = string(s, place, flags);
     if w.next == 0 {

@@ -10,15 +10,11 @@ use types::row::element_of;
 use types::row::kind_of;
 use types::row::type_at;
 use types::row::wide;
-ghost use mathlib.Core.Path.{_≡_};
 ghost use mathlib.Core.List.{List};
 ghost use Prim.Native.Nat.{ℕ, _+_, _≤_, _<_};
 ghost use lib.ListN.{length};
 ghost use Rattle.jer.specs.Table.{kindOf, table};
-ghost use Rattle.jer.specs.Value.{Val};
-ghost use Rattle.jer.specs.Rows.{rowsOf};
-ghost use Rattle.quick.specs.Tape.{Stands};
-ghost use Rattle.quick.specs.Emit.{Sizes, Noted, NotedItems, NotedParts, Emits, EmitsItems, EmitsParts};
+ghost use Rattle.quick.specs.Emit.{Sizes, Noted, NotedItems, NotedParts, Emits, Pours, EmitsParts, Passes, InPool};
 
 // Where a value ends on the tape, and how many rows it has.
 pub struct Node {
@@ -29,7 +25,7 @@ pub struct Node {
 // The value of the type at `row` that stands from `top` on.
 fn node_at(types: &[u32], tape: &[u32], row: usize, top: usize) -> Node
     requires { ⌜ (top + 2 ≤ length (now tape)) × ((ns : List ℕ) → 6 ≤ kindOf (table (now types) ns) row → top + 3 ≤ length (now tape)) ⌝ }
-    ensures { λ r. ⌜ ((s ns : List ℕ) (v : Val) (k : ℕ) → Stands s (now (tape .entry)) (table (now (types .entry)) ns) row v top k → (r .end ≡ k) × (r .rows ≡ length (rowsOf v (table (now (types .entry)) ns) row 0))) ⌝ }
+    ensures { λ r. ⌜ Passes (now (types .entry)) (now (tape .entry)) row top (r .end) (r .rows) ⌝ }
 {
     if kind_of(types, row) < Row::SEQUENCE {
         return Node {
@@ -55,7 +51,7 @@ fn string(
     slot: usize,
     offset: usize,
 ) -> usize
-    requires { ⌜ Noted (now types) (now s) (now tape) (now rows) (now pool) row top slot offset × Sizes (now s) (now tape) × ((ns : List ℕ) → (4 ≤ kindOf (table (now types) ns) row) × (kindOf (table (now types) ns) row < 6)) ⌝ }
+    requires { ⌜ Noted (now types) (now s) (now tape) (now rows) (now pool) row top slot offset × Sizes (now s) (now tape) × InPool (now types) row ⌝ }
     ensures { λ r. ⌜ Emits (now (types .entry)) (now (s .entry)) (now (tape .entry)) row top slot offset (now (rows .entry)) (now (rows .exit)) (now (pool .entry)) (now (pool .exit)) r ⌝ }
 {
     let w = Row::at(types, row);
@@ -149,7 +145,7 @@ fn items(
     offset: usize,
 ) -> usize
     requires { ⌜ NotedItems (now types) (now s) (now tape) (now rows) (now pool) row from end slot offset × Sizes (now s) (now tape) ⌝ }
-    ensures { λ r. ⌜ EmitsItems (now (types .entry)) (now (s .entry)) (now (tape .entry)) row from end slot offset (now (rows .entry)) (now (rows .exit)) (now (pool .entry)) (now (pool .exit)) r ⌝ }
+    ensures { λ r. ⌜ Pours (now (types .entry)) (now (s .entry)) (now (tape .entry)) row from end slot offset (now (rows .entry)) (now (rows .exit)) (now (pool .entry)) (now (pool .exit)) r ⌝ }
 {
     let mut at = from;
     let mut q = slot;

@@ -15,6 +15,7 @@ ghost use Rattle.jer.specs.Table.{countOf, mayMiss, table};
 ghost use Rattle.jer.specs.Read.{nullAbsent};
 ghost use Rattle.tokens.specs.Places.{byteAt};
 ghost use Rattle.places.specs.ByPlaces.{bitOf};
+ghost use Rattle.quick.specs.Taken.{Complete};
 
 // Null stands for the absent member.
 fn null_absent(types: &[u32], row: usize, k: u32) -> bool
@@ -60,7 +61,7 @@ fn lacks(types: &[u32], row: usize, met: u64, k: u32) -> bool
 // Every member that was not met may be missing.
 pub fn complete(types: &[u32], row: usize, met: u64) -> bool
     requires { ⌜ ((ns : List ℕ) → countOf (table (now types) ns) row ≤ 64) ⌝ }
-    ensures { λ b. ⌜ (b ≡ true → (ns : List ℕ) (i : ℕ) → i < countOf (table (now (types .entry)) ns) row → bitOf met i ≡ false → mayMiss (table (now (types .entry)) ns) row i ≡ true) ⌝ }
+    ensures { λ b. ⌜ (b ≡ true → (ns : List ℕ) → Complete (table (now (types .entry)) ns) row met) ⌝ }
 {
     let count = count_of(types, row);
     let mut k: u32 = 0;

@@ -32,7 +32,7 @@ ghost use lib.ListN.{length};
 ghost use mathlib.Core.Bool.{true, false};
 ghost use Rattle.jer.specs.Table.{kindOf, isArray, isUnwrapped, countOf, SEQUENCE, SEQUENCE-OF, CHOICE, table};
 ghost use Rattle.quick.specs.Tape.{Alike};
-ghost use Rattle.quick.specs.Taken.{Given, Walked, Stepped, Reached};
+ghost use Rattle.quick.specs.Taken.{Given, Walked, Stepped, Came};
 
 // The value of the type at `row` from the place on, noted on the tape from `top` on.
 pub fn value(
@@ -569,7 +569,7 @@ fn element(
     requires { ⌜ Given (table (now types) (now names)) (now s) (now tape) (now flags) row place end ⌝ }
     requires { ⌜ (top + 3 + countOf (table (now types) (now names)) row ≤ end) × (end ≤ length (now tape)) ⌝ }
     ensures { λ r. ⌜ Alike (now (tape .entry)) (now (tape .exit)) 0 (top + 3) ⌝ }
-    ensures { λ r. ⌜ (0 < r .next → Reached (table (now (types .entry)) (now (names .entry))) (now (s .entry)) (now (tape .entry)) (now (tape .exit)) depth row place top end k met present r) ⌝ }
+    ensures { λ r. ⌜ (0 < r .next → Came (table (now (types .entry)) (now (names .entry))) (now (s .entry)) (now (tape .entry)) (now (tape .exit)) depth row place top end k met present r) ⌝ }
 {
     if count_of(types, row) <= k {
         if !Row::at(types, row).extensible() {
