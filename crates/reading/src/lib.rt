@@ -7,6 +7,7 @@ use jer::Limit;
 use jer::Reading;
 use jer::Refusal;
 use leaf::Step;
+use quick::read::Reply;
 use typed::cycle::value;
 ghost use mathlib.Core.Path.{_≡_};
 ghost use Rattle.jer.specs.declared.Judged.the-variants as judged;
@@ -28,6 +29,17 @@ pub fn read(types: &[u32], names: &[u8], s: &[u8], rows: &mut [u32], pool: &mut 
 
 // The same with a good type table.
 fn read_good(types: &[u32], names: &[u8], s: &[u8], rows: &mut [u32], pool: &mut [u8]) -> Reading
+    requires { ⌜ TableCall (table (now types) (now names)) judged.Good ⌝ }
+    ensures { λ r. ⌜ ReadCall (table (now (types .entry)) (now (names .entry))) (now (s .entry)) (now (rows .entry)) (now (pool .entry)) r (now (rows .exit)) (now (pool .exit)) ⌝ }
+{
+    match quick::read::read(types, names, s, rows, pool) {
+        Reply::Said(r) => r,
+        Reply::Other => generally(types, names, s, rows, pool),
+    }
+}
+
+// Whatever the text is: judged, measured and stored, or refused.
+fn generally(types: &[u32], names: &[u8], s: &[u8], rows: &mut [u32], pool: &mut [u8]) -> Reading
     requires { ⌜ TableCall (table (now types) (now names)) judged.Good ⌝ }
     ensures { λ r. ⌜ ReadCall (table (now (types .entry)) (now (names .entry))) (now (s .entry)) (now (rows .entry)) (now (pool .entry)) r (now (rows .exit)) (now (pool .exit)) ⌝ }
 {
