@@ -1,4 +1,4 @@
--- Made by tools/answers.py from answers/integer/digits.ans: edit that. 937ca39a75f592fc
+-- Made by tools/answers.py from answers/integer/digits.ans: edit that. 7abd47bb10f44d3c
 use Prim.Native.Nat.{_-_, _+_, _≤_}
 use mathlib.Core.Path.{_∙_, sym}
 use native.Mathlib.Omega.{arith}
@@ -75,8 +75,7 @@ loop-again c =
     let p = c .before .before .before .before .before .before .before .args .p in
     let l = c .before .before .before .before .loop in
     let w = c .before .before .before .before .before .until .ensures in
-    let b = c .before .before .byte .ensures in
-    (
+    let b = c .before .before .byte .ensures in (
       onto-more s p (l .q) (c .before .before .before .before .before .before .before .args .first) (l .m) (c .before .before .byte .result) (l .inv .0) (omega (arith, l .inv .1 .0, c .before .before .before .loop-test .taken, w .0)) (b .0) (omega (arith, c .before .if1 .left)) (omega (arith, c .if2 .left)),
       omega (arith, l .inv .1, c .before .before .before .loop-test .taken, w .0),
       few-more (l .m) _ p (l .q) (l .inv .1 .0) (omega (arith, c .if2 .left)) (l .inv .2),
