@@ -1,5 +1,5 @@
 -- The member that has a name, tried in whatever order.
-use Prim.Native.Nat.{ℕ, suc, _+_, _-_, _*_, _<_, _≤_}
+use Prim.Native.Nat.{ℕ, _+_, _-_, _*_, _<_, _≤_}
 use mathlib.Core.Path.{_≡_, refl, sym, ap, _∙_}
 use mathlib.Core.List.{List}
 use mathlib.Core.Bool.{Bool, true, false}
@@ -12,7 +12,7 @@ use lib.Seq.{length-take-le}
 use Rattle.jer.specs.Table.{Table, table, field, firstOf, countOf, memberRow, nameAt, nameIn, sameBytes, position}
 use Rattle.types.proofs.RowLaws.{name-in}
 use Rattle.jer.proofs.ValidLaws.{sameBytes-eq, sameBytes-refl, position-some, position-none}
-use Rattle.spelled.specs.Names.{Unlike, Among, Distinct, PositionIs, FoundAmong}
+use Rattle.spelled.specs.Names.{Unlike, Among, PositionIs, FoundAmong}
 
 true-not : {A : Type 0} → true ≡ false → A
 true-not e = absurd (let z : _≡_ {A = ℕ} 0 1 = cc in omega arith)

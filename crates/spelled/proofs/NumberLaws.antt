@@ -2,7 +2,7 @@
 use Prim.Native.Nat.{ℕ, zero, suc, _+_, _-_, _*_, _/_, _%_, _^_, _<_, _≤_}
 use mathlib.Core.Path.{_≡_, refl, sym, ap, _∙_}
 use mathlib.Core.List.{List, [], _∷_, _++_}
-use mathlib.Core.Bool.{Bool, true, false}
+use mathlib.Core.Bool.{true, false}
 use native.Mathlib.Nat.{add-zero}
 use native.Mathlib.Omega.{arith}
 use borrow.Author.Tests.{lt-ltb, le-leb}
@@ -14,7 +14,7 @@ use Rattle.jer.specs.Answer.{ok}
 use Rattle.jer.specs.Read.{readInt}
 use Rattle.tokens.specs.Places.{byteAt}
 use Rattle.tokens.proofs.PlaceLaws.{byte-inside}
-use Rattle.spelled.specs.Stretch.{Stretch, Passed, Within}
+use Rattle.spelled.specs.Stretch.{Stretch, Passed}
 use Rattle.spelled.specs.Leaves.{IntegerAt}
 use Rattle.spelled.proofs.StretchLaws.{Exactly, stretch-none, stretch-as, stretch-join, stretch-more, byte-here, passed}
 

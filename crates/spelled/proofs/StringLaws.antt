@@ -5,7 +5,7 @@ use mathlib.Core.List.{List, [], _∷_, _++_, append-assoc, append-nil}
 use mathlib.Core.Bool.{Bool, true, false}
 use native.Mathlib.Numerals.{add-one}
 use native.Mathlib.Omega.{arith}
-use lib.ListN.{length, getD, take, drop, length-append}
+use lib.ListN.{length, getD, drop, length-append}
 use lib.Seq.{take-append-seam}
 use Rattle.json.specs.Grammar.{Char, plain, wide, Chars, noChar, char, Quoted, quoted}
 use Rattle.json.specs.Utf8.{Wide}
@@ -16,7 +16,7 @@ use Rattle.tokens.proofs.TieString.{quoted-read}
 use Rattle.tokens.proofs.PlaceLaws.{byte-inside}
 use Rattle.tokens.proofs.TiePlace.{past-append, past-length}
 use Rattle.spelled.specs.Stretch.{Stretch, Passed, Selves}
-use Rattle.spelled.specs.Leaves.{SelfByte, IsFlags, CharAt, CharsAt, StringAt}
+use Rattle.spelled.specs.Leaves.{SelfByte, CharAt, CharsAt, StringAt}
 use Rattle.spelled.proofs.StretchLaws.{Exactly, stretch-none, stretch-as, stretch-join, stretch-more, byte-here, stretch-inside, passed}
 
 chars-join : {u v ds es : List ℕ} → Chars u ds → Chars v es → Chars (u ++ v) (ds ++ es)

@@ -1,8 +1,6 @@
--- Made by tools/answers.py from answers/integer/digits.ans: edit that. 7abd47bb10f44d3c
-use Prim.Native.Nat.{_-_, _+_, _≤_}
-use mathlib.Core.Path.{_∙_, sym}
+-- Made by tools/answers.py from answers/integer/digits.ans: edit that. 1a54b3750aa9d98d
+use Prim.Native.Nat.{_-_, _≤_}
 use native.Mathlib.Omega.{arith}
-use lib.ListN.{getD}
 use Rattle.json.specs.Grammar.{Onward}
 use Rattle.spelled.specs.Stretch.{Stretch, Within}
 use Rattle.spelled.proofs.NumberLaws.{onto-none, onto-more, Few, few-one, few-more, few-small, few-room}
