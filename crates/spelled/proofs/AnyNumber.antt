@@ -1,18 +1,17 @@
 -- Any number of the grammar: digits, fraction and exponent one after another.
 use Prim.Native.Nat.{ℕ, _+_, _-_, _*_, _<_, _≤_}
-use mathlib.Core.Path.{_≡_, refl, sym, ap, _∙_}
+use mathlib.Core.Path.{_≡_, refl, sym, _∙_}
 use mathlib.Core.List.{List, [], _∷_, _++_, append-nil, append-assoc}
-use mathlib.Core.Bool.{Bool, true, false}
+use mathlib.Core.Bool.{true, false}
 use native.Mathlib.Omega.{arith}
 use lib.ListN.{length, getD}
-use Rattle.json.specs.Bytes.{past}
 use Rattle.json.specs.Tree.{Json, jint, jreal}
 use Rattle.json.specs.Grammar as grammar
-use Rattle.json.specs.Grammar.{Digits, lastDigit, moreDigits, Onward, stop, onward, Whole, nought, from, Signed, Power, Broken, Value}
+use Rattle.json.specs.Grammar.{Digits, lastDigit, moreDigits, Onward, stop, onward, nought, from, Power, Value}
 use Rattle.tokens.specs.Places.{byteAt}
 use Rattle.tokens.proofs.PlaceLaws.{byte-inside}
 use Rattle.tokens.proofs.TiePlace.{past-length}
-use Rattle.spelled.specs.Stretch.{Stretch, Passed, Within, ValueAt}
+use Rattle.spelled.specs.Stretch.{Stretch, Passed, ValueAt}
 use Rattle.spelled.specs.Number.{SomeOnward, SomeWhole, SomeSigned, Dotted, noDot, dot, Raised, bare, plus, minus, Powered, noPower, some}
 use Rattle.spelled.proofs.StretchLaws.{Exactly, stretch-none, stretch-as, stretch-join, stretch-more, byte-here, passed}
 use Rattle.spelled.proofs.NumberLaws.{onward-snoc}

@@ -1,16 +1,16 @@
 -- One character of a string: escaped, or of more than one byte.
 use Prim.Native.Nat.{ℕ, suc, _+_, _-_, _*_, _<_, _≤_}
-use mathlib.Core.Path.{_≡_, refl, sym, ap, _∙_}
+use mathlib.Core.Path.{_≡_, refl, sym, _∙_}
 use mathlib.Core.List.{List, [], _∷_, _++_}
 use mathlib.Core.Bool.{Bool, true, false}
 use native.Mathlib.Omega.{arith}
 use borrow.Author.Tests.{leb-true, leb-false, lt-ltb, le-ltb}
-use lib.Dec.{leb, ltb}
+use lib.Dec.{leb}
 use lib.ListN.{length, getD}
 use Rattle.json.specs.Bytes.{In}
 use Rattle.json.specs.Utf8.{encode, Wide, two, threeE0, threeE1, threeED, threeEE, fourF0, fourF1, fourF4}
 use Rattle.json.specs.Grammar as grammar
-use Rattle.json.specs.Grammar.{Hex, digit, upper, lower, Four, four, Escape, paired, Char, escape, unit, pair}
+use Rattle.json.specs.Grammar.{Hex, digit, upper, lower, four, Escape, paired, Char, escape, unit, pair}
 use Rattle.tokens.specs.Places.{byteAt}
 use Rattle.tokens.proofs.PlaceLaws.{byte-inside}
 use Rattle.spelled.specs.Stretch.{Stretch, Passed}

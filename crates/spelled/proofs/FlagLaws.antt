@@ -1,10 +1,10 @@
 -- The table of bytes that stand for themselves, which antt computes.
-use Prim.Native.Nat.{ℕ, zero, suc, _+_, _<_, _≤_}
+use Prim.Native.Nat.{ℕ, zero, suc, _+_, _<_}
 use mathlib.Core.Bool.{Bool, true, false, _&&_, _||_, not}
 use mathlib.Core.List.{List, [], _∷_}
-use mathlib.Core.Path.{_≡_, _∙_, refl, ap}
+use mathlib.Core.Path.{_≡_, refl}
 use native.Mathlib.Omega.{arith}
-use borrow.Author.Tests.{leb-true, leb-false, eqb-true, eq-eqb}
+use borrow.Author.Tests.{leb-true, eq-eqb}
 use lib.Dec.{T, eqb, leb}
 use lib.ListN.{getD, length}
 use Rattle.spelled.specs.Leaves.{SelfByte, IsFlags}

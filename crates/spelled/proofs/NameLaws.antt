@@ -1,5 +1,5 @@
 -- The member that has a name, tried in whatever order.
-use Prim.Native.Nat.{ℕ, suc, _+_, _-_, _<_, _≤_}
+use Prim.Native.Nat.{ℕ, _+_, _-_, _*_, _<_, _≤_}
 use mathlib.Core.Path.{_≡_, refl, sym, ap, _∙_}
 use mathlib.Core.List.{List}
 use mathlib.Core.Bool.{Bool, true, false}
@@ -7,11 +7,12 @@ use mathlib.Core.Option.{Option, none, some}
 use native.Mathlib.Omega.{arith}
 use borrow.Author.Tests.{leb-true, leb-false}
 use lib.Dec.{leb}
-use lib.ListN.{length, take, drop, length-drop}
+use lib.ListN.{length, getD, take, drop, length-drop}
 use lib.Seq.{length-take-le}
-use Rattle.jer.specs.Table.{Table, firstOf, countOf, memberRow, nameAt, nameIn, sameBytes, position}
+use Rattle.jer.specs.Table.{Table, table, field, firstOf, countOf, memberRow, nameAt, nameIn, sameBytes, position}
+use Rattle.types.proofs.RowLaws.{name-in}
 use Rattle.jer.proofs.ValidLaws.{sameBytes-eq, sameBytes-refl, position-some, position-none}
-use Rattle.spelled.specs.Names.{Among, Distinct, PositionIs, FoundAmong}
+use Rattle.spelled.specs.Names.{Unlike, Among, PositionIs, FoundAmong}
 
 true-not : {A : Type 0} → true ≡ false → A
 true-not e = absurd (let z : _≡_ {A = ℕ} 0 1 = cc in omega arith)
@@ -31,6 +32,14 @@ name-same s p n x y e f g = rw (← g, ← f) e
 
 pub row-of : (t : Table) (first k : ℕ) (x : List ℕ) {w : ℕ} {b : Bool} → w ≡ k → b ≡ sameBytes (nameIn t (first + w)) x → b ≡ sameBytes (nameIn t (first + k)) x
 row-of t first k x e f = rw (← e) f
+
+-- the name in the row m has another length, where row and name end inside
+pub name-unlike : (types names : List ℕ) (m n : ℕ) {start len : ℕ} → start ≡ getD types (m * 8 + 3) 0 → len ≡ getD types (m * 8 + 4) 0 → start + len ≤ length names → (len ≡ n → ⊥) → Unlike (table types names) m n
+unfolding field
+name-unlike types names m n {start} {len} a b h d s p l =
+    let e = length-take-le len (drop start names) (omega (arith, length-drop start names)) in
+    let f : take len (drop start names) ≡ nameIn (table types names) m = name-in types names m a b refl in
+    sym (name-other s p n (take len (drop start names)) l (λ g. d (sym e ∙ g)) ∙ ap (λ (y : List ℕ). sameBytes y (take n (drop p s))) f)
 
 -- ---- one member after another
 

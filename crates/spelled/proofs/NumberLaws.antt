@@ -2,7 +2,8 @@
 use Prim.Native.Nat.{ℕ, zero, suc, _+_, _-_, _*_, _/_, _%_, _^_, _<_, _≤_}
 use mathlib.Core.Path.{_≡_, refl, sym, ap, _∙_}
 use mathlib.Core.List.{List, [], _∷_, _++_}
-use mathlib.Core.Bool.{Bool, true, false}
+use mathlib.Core.Bool.{true, false}
+use native.Mathlib.Nat.{add-zero}
 use native.Mathlib.Omega.{arith}
 use borrow.Author.Tests.{lt-ltb, le-leb}
 use lib.ListN.{length, getD}
@@ -13,7 +14,7 @@ use Rattle.jer.specs.Answer.{ok}
 use Rattle.jer.specs.Read.{readInt}
 use Rattle.tokens.specs.Places.{byteAt}
 use Rattle.tokens.proofs.PlaceLaws.{byte-inside}
-use Rattle.spelled.specs.Stretch.{Stretch, Passed, Within}
+use Rattle.spelled.specs.Stretch.{Stretch, Passed}
 use Rattle.spelled.specs.Leaves.{IntegerAt}
 use Rattle.spelled.proofs.StretchLaws.{Exactly, stretch-none, stretch-as, stretch-join, stretch-more, byte-here, passed}
 
@@ -26,9 +27,53 @@ onward-snoc (onward h o) i = onward h (onward-snoc o i)
 pub onto-none : (s : List ℕ) (p m : ℕ) → Stretch (Onward m m) s p p
 onto-none s p m = stretch-none (Onward m m) s p stop
 
-pub onto-more : (s : List ℕ) (p q m n : ℕ) → Stretch (Onward m n) s p q → q < length s → 0x30 ≤ getD s q 0 → getD s q 0 ≤ 0x39 → Stretch (Onward m (n * 10 + (getD s q 0 - 0x30))) s p (q + 1)
-onto-more s p q m n k l g h =
-    stretch-more (Onward m n) (Onward m (n * 10 + (getD s q 0 - 0x30))) s p q (getD s q 0) (λ xs o. onward-snoc o (g, h)) k l refl (omega arith)
+pub onto-more : (s : List ℕ) (p q m n b : ℕ) → Stretch (Onward m n) s p q → q < length s → b ≡ getD s q 0 → 0x30 ≤ b → b ≤ 0x39 → Stretch (Onward m (n * 10 + (b - 0x30))) s p (q + 1)
+onto-more s p q m n b k l e g h =
+    stretch-more (Onward m n) (Onward m (n * 10 + (b - 0x30))) s p q b (λ xs o. onward-snoc o (g, h)) k l e (omega arith)
+
+-- the digits that k bytes more than one may make
+unfoldable pub cap : ℕ → ℕ
+cap zero = 10
+cap (suc k) = cap k * 10
+
+abbrev pub Few : ℕ → ℕ → ℕ → Type 0
+Few m p q = m < cap (q - p)
+
+pub few-one : (m p : ℕ) → m ≤ 9 → Few m p p
+unfolding cap
+few-one m p h = let e : p - p ≡ 0 = omega arith in rw e (omega arith)
+
+pub few-more : (m d p q : ℕ) → p ≤ q → d ≤ 9 → Few m p q → Few (m * 10 + d) p (q + 1)
+unfolding cap
+few-more m d p q l h k = let e : q + 1 - p ≡ suc (q - p) = omega arith in rw e (times (cap (q - p)) k)
+  where
+    times : (c : ℕ) → m < c → m * 10 + d < c * 10
+    times c g = omega arith
+
+cap-more : (k j : ℕ) → cap k ≤ cap (k + j)
+unfolding cap
+cap-more k zero = rw (add-zero k) (omega arith)
+cap-more k (suc j) = let e : k + suc j ≡ suc (k + j) = omega arith in rw e (grown (cap (k + j)) (cap-more k j))
+  where
+    grown : (c : ℕ) → cap k ≤ c → cap k ≤ c * 10
+    grown c g = omega arith
+
+cap-below : (k n : ℕ) → k ≤ n → cap k ≤ cap n
+cap-below k n h = let e : k + (n - k) ≡ n = omega arith in rw e at (cap-more k (n - k))
+
+cap-17 : cap 17 ≡ 1000000000000000000
+unfolding cap
+cap-17 = refl
+
+cap-16 : cap 16 ≡ 100000000000000000
+unfolding cap
+cap-16 = refl
+
+pub few-small : (m p q : ℕ) → q ≤ p + 17 → Few m p q → m < 2 ^ 63
+few-small m p q h k = omega (arith, cap-below (q - p) 17 (omega arith), cap-17)
+
+pub few-room : (m p q : ℕ) → q < p + 17 → Few m p q → m < 100000000000000000
+few-room m p q h k = omega (arith, cap-below (q - p) 16 (omega arith), cap-16)
 
 -- ---- whole numbers
 

@@ -3,13 +3,13 @@ use Prim.Native.Nat.{ℕ, zero, suc, _+_, _-_, _*_, _/_, _%_, _<_, _≤_}
 use mathlib.Core.Path.{_≡_, refl, sym, ap, _∙_}
 use mathlib.Core.List.{List, [], _∷_}
 use mathlib.Core.Bool.{Bool, true, false}
-use mathlib.Core.Option.{Option, none, some}
+use mathlib.Core.Option.{some}
 use native.Mathlib.Omega.{arith}
 use borrow.Author.Tests.{leb-true, leb-false, ne-eqb}
-use lib.Dec.{eqb, leb}
+use lib.Dec.{leb}
 use lib.ListN.{length, getD, take, drop, length-drop}
 use lib.Seq.{getD-take, getD-drop, length-take-le}
-use Rattle.jer.specs.Octets.{also, onlyIf, hexValue, unhex, base64Value, lastGroup, fullGroup, unbase64}
+use Rattle.jer.specs.Octets.{also, onlyIf, unhex, base64Value, lastGroup, fullGroup, unbase64}
 use Rattle.spelled.specs.Octets.{OctetsAre, HexByte, Base64Byte, Group}
 
 -- ---- one more

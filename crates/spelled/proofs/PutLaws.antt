@@ -4,7 +4,6 @@ use mathlib.Core.Path.{_≡_, refl, sym, ap, _∙_}
 use mathlib.Core.List.{List, [], _∷_}
 use mathlib.Core.Option.{Option, none, some}
 use native.Mathlib.Nat.{add-zero}
-use native.Mathlib.Numerals.{add-one}
 use native.Mathlib.Omega.{arith}
 use lib.ListN.{length, getD, set, take, drop, length-drop, drop-of-length-le}
 use lib.Seq.{sets, drop-cons}
@@ -13,7 +12,7 @@ use lib.Dec.{eqb, leb}
 use mathlib.Core.Bool.{Bool, true, false}
 use native.Mathlib.Nat.{mod-eq-of-lt}
 use Rattle.jer.specs.Octets.{also, onlyIf, hexValue, unhex, base64Value, lastGroup, fullGroup, unbase64}
-use Rattle.jer.proofs.WeightGot.{Finds, finds}
+use Rattle.jer.proofs.WeightGot.{finds}
 use Rattle.slices.proofs.PartLaws.{sets-one, sets-done, sets-append}
 use Rattle.spelled.specs.Octets.{Digit, tripled, GroupStored, LastStored}
 use Rattle.spelled.proofs.OctetLaws.{part-length, part-at}

@@ -1,7 +1,7 @@
 -- Bytes compared some at a time.
-use Prim.Native.Nat.{ℕ, zero, suc, _+_, _-_, _*_, _<_, _≤_}
+use Prim.Native.Nat.{ℕ, zero, suc, _+_, _-_, _<_, _≤_}
 use mathlib.Core.Path.{_≡_, refl, sym, ap, _∙_}
-use mathlib.Core.List.{List, [], _∷_}
+use mathlib.Core.List.{List}
 use mathlib.Core.Bool.{Bool, true, false}
 use native.Mathlib.Nat.{add-zero}
 use native.Mathlib.Omega.{arith}
@@ -11,8 +11,8 @@ use lib.ListN.{length, getD, take, drop, length-drop}
 use lib.Seq.{ext-getD, getD-take, getD-drop, length-take-le}
 use Rattle.jer.specs.Table.{sameBytes}
 use Rattle.jer.proofs.ValidLaws.{sameBytes-eq, sameBytes-refl}
-use Rattle.spelled.specs.Bytes.{fourOf, FourAt, EightAt, SameBytes}
-use Rattle.spelled.proofs.WordLaws.{Told, told}
+use Rattle.spelled.specs.Bytes.{FourAt, EightAt, SameBytes}
+use Rattle.spelled.proofs.WordLaws.{told}
 
 module _ (s : List ℕ) (p : ℕ) (x : List ℕ) (l : p + length x ≤ length s) where
   part-length : length (take (length x) (drop p s)) ≡ length x

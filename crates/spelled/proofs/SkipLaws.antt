@@ -4,15 +4,14 @@ use mathlib.Core.Path.{_≡_, refl, sym, ap, _∙_}
 use mathlib.Core.List.{List, [], _∷_, _++_, append-assoc}
 use native.Mathlib.Numerals.{add-one}
 use native.Mathlib.Omega.{arith}
-use lib.ListN.{length, drop}
 use Rattle.json.specs.Bytes.{past}
 use Rattle.json.specs.Tree.{Json, jarr, jobj, jstr, Items, inil, icons, Members, mnil, mcons}
 use Rattle.json.specs.Grammar as grammar
-use Rattle.json.specs.Grammar.{Space, Quoted, Value, Padded, padded, Elements, lastElement, moreElements, Named, lastMember, moreMembers, Name, name}
+use Rattle.json.specs.Grammar.{Space, Quoted, Value, Padded, padded, Elements, lastElement, moreElements, Named, lastMember, moreMembers, name}
 use Rattle.tokens.specs.Places.{byteAt}
 use Rattle.tokens.proofs.TiePlace.{past-append, past-length}
 use Rattle.spelled.specs.Stretch.{Stretch, Passed, ValueAt, NameAt}
-use Rattle.spelled.proofs.StretchLaws.{Exactly, stretch-as, stretch-join, byte-here, byte-next, stretch-inside, passed}
+use Rattle.spelled.proofs.StretchLaws.{Exactly, stretch-as, stretch-join, byte-here, byte-next, passed}
 
 pub before-or-at : (s : List ℕ) (R : List ℕ → Type 0) (p q : ℕ) → Stretch R s p q → p ≤ q
 before-or-at s R p q k = omega (arith, past-length p (k .bytes), k .end)

@@ -1,7 +1,7 @@
 -- White space one byte after another.
 use Prim.Native.Nat.{ℕ, _+_, _<_}
 use mathlib.Core.Path.{refl}
-use mathlib.Core.List.{List, [], _∷_, _++_}
+use mathlib.Core.List.{List, _++_}
 use lib.ListN.{length, getD}
 use Rattle.json.specs.Grammar.{Space, noSpace, tab, feed, return, blank}
 use Rattle.spelled.specs.Stretch.{Stretch, Blank}

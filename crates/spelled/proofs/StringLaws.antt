@@ -5,7 +5,7 @@ use mathlib.Core.List.{List, [], _∷_, _++_, append-assoc, append-nil}
 use mathlib.Core.Bool.{Bool, true, false}
 use native.Mathlib.Numerals.{add-one}
 use native.Mathlib.Omega.{arith}
-use lib.ListN.{length, getD, take, drop, length-append}
+use lib.ListN.{length, getD, drop, length-append}
 use lib.Seq.{take-append-seam}
 use Rattle.json.specs.Grammar.{Char, plain, wide, Chars, noChar, char, Quoted, quoted}
 use Rattle.json.specs.Utf8.{Wide}
@@ -16,7 +16,7 @@ use Rattle.tokens.proofs.TieString.{quoted-read}
 use Rattle.tokens.proofs.PlaceLaws.{byte-inside}
 use Rattle.tokens.proofs.TiePlace.{past-append, past-length}
 use Rattle.spelled.specs.Stretch.{Stretch, Passed, Selves}
-use Rattle.spelled.specs.Leaves.{SelfByte, IsFlags, CharAt, CharsAt, StringAt}
+use Rattle.spelled.specs.Leaves.{SelfByte, CharAt, CharsAt, StringAt}
 use Rattle.spelled.proofs.StretchLaws.{Exactly, stretch-none, stretch-as, stretch-join, stretch-more, byte-here, stretch-inside, passed}
 
 chars-join : {u v ds es : List ℕ} → Chars u ds → Chars v es → Chars (u ++ v) (ds ++ es)
@@ -34,8 +34,22 @@ self-char b h = char (plain (h .0, h .1) (h .2) (h .3)) noChar refl refl
 pub selves-none : (s : List ℕ) (p : ℕ) → Stretch Selves s p p
 selves-none s p = stretch-none Selves s p noChar
 
-pub selves-more : (s f : List ℕ) (p q : ℕ) → IsFlags f → Stretch Selves s p q → q < length s → getD s q 0 < 256 → getD f (getD s q 0) 0 ≡ 0 → Stretch Selves s p (q + 1)
-selves-more s f p q t k l m e = stretch-more Selves Selves s p q (getD s q 0) (λ xs h. chars-join h (self-char (getD s q 0) (t .self (getD s q 0) m e))) k l refl m
+pub selves-more : (s : List ℕ) (p q : ℕ) → Stretch Selves s p q → q < length s → SelfByte (getD s q 0) → Stretch Selves s p (q + 1)
+selves-more s p q k l h = stretch-more Selves Selves s p q (getD s q 0) (λ xs m. chars-join m (self-char (getD s q 0) h)) k l refl (omega arith)
+
+module _ (s : List ℕ) (p q : ℕ) (k : Stretch Selves s p q) (a : SelfByte (getD s q 0)) (b : SelfByte (getD s (q + 1) 0)) where
+  pub selves-two : q + 2 ≤ length s → Stretch Selves s p (q + 2)
+  selves-two l = let e : q + 1 + 1 ≡ q + 2 = omega arith in rw e at (selves-more s p (q + 1) (selves-more s p q k (omega arith) a) (omega arith) b)
+
+  module _ (c : SelfByte (getD s (q + 2) 0)) where
+    pub selves-three : q + 3 ≤ length s → Stretch Selves s p (q + 3)
+    selves-three l = let e : q + 2 + 1 ≡ q + 3 = omega arith in rw e at (selves-more s p (q + 2) (selves-two (omega arith)) (omega arith) c)
+
+    pub selves-four : q + 4 ≤ length s → SelfByte (getD s (q + 3) 0) → Stretch Selves s p (q + 4)
+    selves-four l d = let e : q + 3 + 1 ≡ q + 4 = omega arith in rw e at (selves-more s p (q + 3) (selves-three (omega arith)) (omega arith) d)
+
+pub selves-join : (s : List ℕ) (p q r : ℕ) → Stretch Selves s p q → Stretch Selves s q r → Stretch Selves s p r
+selves-join s p q r k l = stretch-join Selves Selves Selves s p q r (λ xs ys g h. chars-join g h) k l
 
 -- ---- characters one after another
 

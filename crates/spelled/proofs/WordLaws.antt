@@ -1,11 +1,11 @@
 -- The literals of the grammar by the number that four bytes make.
 use Prim.Native.Nat.{ℕ, _+_, _<_, _≤_}
-use mathlib.Core.Path.{_≡_, refl, sym, ap, _∙_}
-use mathlib.Core.List.{List, [], _∷_, _++_}
+use mathlib.Core.Path.{_≡_, sym, _∙_}
+use mathlib.Core.List.{List, [], _∷_}
 use mathlib.Core.Bool.{true, false}
 use native.Mathlib.Omega.{arith}
 use lib.ListN.{length, getD}
-use Rattle.json.specs.Tree.{Json, jnull, jbool}
+use Rattle.json.specs.Tree.{jnull, jbool}
 use Rattle.json.specs.Grammar.{Value, literalNull, literalTrue, literalFalse}
 use Rattle.tokens.specs.Places.{byteAt}
 use Rattle.tokens.proofs.PlaceLaws.{byte-inside}

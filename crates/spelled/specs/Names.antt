@@ -4,7 +4,12 @@ use mathlib.Core.Path.{_≡_}
 use mathlib.Core.Bool.{true, false}
 use mathlib.Core.List.{List}
 use mathlib.Core.Option.{none, some}
+use lib.ListN.{length, take, drop}
 use Rattle.jer.specs.Table.{Table, firstOf, countOf, nameAt, nameIn, sameBytes, position}
+
+-- the name in the row m is none of n bytes
+abbrev pub Unlike : Table → ℕ → ℕ → Type 0
+Unlike t m n = (s : List ℕ) (p : ℕ) → p + n ≤ length s → sameBytes (nameIn t m) (take n (drop p s)) ≡ false
 
 -- k is the first position of the name x among the `count` members from the row `first` on, or `count`
 pub record Among (t : Table) (first count : ℕ) (x : List ℕ) (k : ℕ) : Type 0 where

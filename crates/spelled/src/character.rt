@@ -7,7 +7,7 @@ ghost use mathlib.Core.List.{[], _∷_};
 ghost use Prim.Native.Nat.{_+_, _≤_, _<_};
 ghost use lib.ListN.{length};
 ghost use Rattle.json.specs.Grammar.{Hex};
-ghost use Rattle.json.specs.Utf8.{Wide};
+ghost use Rattle.json.specs.Utf8.{encode, Wide};
 ghost use Rattle.tokens.specs.Places.{byteAt};
 ghost use Rattle.spelled.specs.Stretch.{Passed};
 ghost use Rattle.spelled.specs.Leaves.{Letter, Coded, CharAt};
@@ -86,6 +86,57 @@ fn none() -> Escaped
     Escaped { next: 0, count: 0 }
 }
 
+// How many bytes the character x has.
+fn size(x: u32) -> usize
+    requires { ⌜ x < 0x10000 ⌝ }
+    ensures { λ r. ⌜ (r ≡ length (encode x)) × (0 < r) × (r ≤ 3) ⌝ }
+{
+    if x < 0x80 {
+        return 1;
+    }
+    if x < 0x800 {
+        return 2;
+    }
+    3
+}
+
+// The character that is escaped at p by four digits, or by twice four.
+fn unescaped(s: &[u8], p: usize) -> Escaped
+    requires { ⌜ p ≤ length (now s) ⌝ }
+    ensures { λ r. ⌜ (0 < r .next → CharAt (now (s .entry)) p (r .next) (r .count) true × (p < r .next)) ⌝ }
+{
+    let x = unit(s, p);
+    if 0xFFFF < x {
+        return none();
+    }
+    if x < 0xD800 {
+        return Escaped {
+            next: p + 6,
+            count: size(x),
+        };
+    }
+    if 0xDFFF < x {
+        return Escaped {
+            next: p + 6,
+            count: size(x),
+        };
+    }
+    if 0xDBFF < x {
+        return none();
+    }
+    let y = unit(s, p + 6);
+    if y < 0xDC00 {
+        return none();
+    }
+    if 0xDFFF < y {
+        return none();
+    }
+    Escaped {
+        next: p + 12,
+        count: 4,
+    }
+}
+
 // The escaped character whose backslash stands at p.
 pub fn escape(s: &[u8], p: usize) -> Escaped
     requires { ⌜ byteAt (now s) p ≡ 0x5C ⌝ }
@@ -97,48 +148,7 @@ pub fn escape(s: &[u8], p: usize) -> Escaped
             count: 1,
         };
     }
-    let x = unit(s, p);
-    if x < 0x80 {
-        return Escaped {
-            next: p + 6,
-            count: 1,
-        };
-    }
-    if x < 0x800 {
-        return Escaped {
-            next: p + 6,
-            count: 2,
-        };
-    }
-    if x < 0xD800 {
-        return Escaped {
-            next: p + 6,
-            count: 3,
-        };
-    }
-    if x < 0xDC00 {
-        let y = unit(s, p + 6);
-        if y < 0xDC00 {
-            return none();
-        }
-        if 0xDFFF < y {
-            return none();
-        }
-        return Escaped {
-            next: p + 12,
-            count: 4,
-        };
-    }
-    if x < 0xE000 {
-        return none();
-    }
-    if x < 65536 {
-        return Escaped {
-            next: p + 6,
-            count: 3,
-        };
-    }
-    none()
+    unescaped(s, p)
 }
 
 // Whether these are a character of three bytes.

@@ -1,6 +1,7 @@
-// INTEGER, if it has few digits. What follows a number is for the caller to see.
+// INTEGER, if it has at most 18 digits. What follows a number is for the caller to see.
+use crate::bytes::byte;
 use slices::byte_at;
-ghost use Prim.Native.Nat.{_^_, _≤_, _<_};
+ghost use Prim.Native.Nat.{_+_, _^_, _≤_, _<_};
 ghost use Rattle.json.specs.Grammar.{Onward, Whole};
 ghost use Rattle.spelled.specs.Stretch.{Stretch, Passed, Within};
 ghost use Rattle.spelled.specs.Leaves.{IntegerAt};
@@ -18,26 +19,38 @@ pub struct Halves {
     pub high: u32,
 }
 
-// The digits after a number. One test for each keeps it below 2^63.
+// How far a number is read whose second digit stands at p: to 18 digits, or to the text's end.
+fn until(s: &[u8], p: usize) -> usize
+    ensures { λ r. ⌜ Within (now (s .entry)) p r × (r ≤ p + 17) ⌝ }
+{
+    if s.len() <= p {
+        return p;
+    }
+    if s.len() - p < 17 {
+        return s.len();
+    }
+    p + 17
+}
+
+// The digits after a first one.
 fn digits(s: &[u8], p: usize, first: u64) -> Number
     requires { ⌜ first ≤ 9 ⌝ }
-    ensures { λ r. ⌜ (0 < r .next → Stretch (Onward first (r .value)) (now (s .entry)) p (r .next)) ⌝ }
-    ensures { λ r. ⌜ (0 < r .next → Within (now (s .entry)) p (r .next)) × (r .value < 2 ^ 63) ⌝ }
+    ensures { λ r. ⌜ Stretch (Onward first (r .value)) (now (s .entry)) p (r .next) ⌝ }
+    ensures { λ r. ⌜ Within (now (s .entry)) p (r .next) × (r .value < 2 ^ 63) ⌝ }
 {
+    let end = until(s, p);
     let mut m = first;
     let mut q = p;
-    while q < s.len() {
-        let b = s[q];
+    while q < end {
+        let b = byte(s, q) as u64;
         if b < 0x30 {
             return Number { next: q, value: m };
         }
-        if 0x39 < b {
+        let d = b - 0x30;
+        if 9 < d {
             return Number { next: q, value: m };
         }
-        if 922337203685477579 < m {
-            return Number { next: 0, value: 0 };
-        }
-        m = m * 10 + (b - 0x30) as u64;
+        m = m * 10 + d;
         q += 1;
     }
     Number { next: q, value: m }

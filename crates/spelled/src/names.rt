@@ -6,10 +6,11 @@ use crate::same::same;
 use types::row::name_in;
 use types::row::wide;
 ghost use mathlib.Core.Path.{_≡_};
+ghost use mathlib.Core.Bool.{true};
 ghost use Prim.Native.Nat.{ℕ, _+_, _≤_, _<_};
 ghost use lib.ListN.{length, take, drop};
 ghost use Rattle.jer.specs.Table.{nameIn, sameBytes, table};
-ghost use Rattle.spelled.specs.Names.{Among, FoundAmong};
+ghost use Rattle.spelled.specs.Names.{Unlike, Among, FoundAmong};
 
 // Whether the name in the member's row m is the n bytes at p.
 fn has_name(types: &[u32], names: &[u8], s: &[u8], m: usize, p: usize, n: usize) -> bool
@@ -21,6 +22,21 @@ fn has_name(types: &[u32], names: &[u8], s: &[u8], m: usize, p: usize, n: usize)
         return false;
     }
     same(s, p, x)
+}
+
+// Whether the length alone tells that the name in the member's row m is none of n bytes: where row and name end inside, as in a good table.
+fn other_length(types: &[u32], names: &[u8], m: usize, n: usize) -> bool
+    ensures { λ r. ⌜ (r ≡ true → Unlike (table (now (types .entry)) (now (names .entry))) m n) ⌝ }
+{
+    if types.len() / 8 <= m {
+        return false;
+    }
+    let start = wide(types[m * 8 + 3]);
+    let len = wide(types[m * 8 + 4]);
+    if names.len() < start + len {
+        return false;
+    }
+    len != n
 }
 
 // A number below 1024 for the name at p, of the members from row `first` on.
@@ -57,10 +73,15 @@ fn search(
 {
     let mut k: u32 = 0;
     while k < count {
-        if has_name(types, names, s, first + wide(k), p, n) {
-            return k;
+        let m = first + wide(k);
+        if other_length(types, names, m, n) {
+            k += 1;
+        } else {
+            if has_name(types, names, s, m, p, n) {
+                return k;
+            }
+            k += 1;
         }
-        k += 1;
     }
     count
 }

@@ -1,6 +1,5 @@
--- Made by tools/answers.py from answers/bytes/eight.ans: edit that. 594a0eb5073a17b0
+-- Made by tools/answers.py from answers/bytes/eight.ans: edit that. 026324c6362a2383
 use mathlib.Core.Path.{refl}
-use native.Mathlib.Omega.{arith}
 use borrow.Author.Needs.{needs}
 use Rattle.spelled.proofs.bytes.eight.Statement.{statement}
 use Rattle.spelled.proofs.bytes.eight.Tie as tie

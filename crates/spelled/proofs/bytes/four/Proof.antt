@@ -1,5 +1,4 @@
--- Made by tools/answers.py from answers/bytes/four.ans: edit that. 1c28845f2a20b7a9
-use native.Mathlib.Omega.{arith}
+-- Made by tools/answers.py from answers/bytes/four.ans: edit that. 9139dc8abbc67358
 use Rattle.spelled.proofs.WordLaws.{four-sum}
 use borrow.Author.Needs.{needs}
 use Rattle.spelled.proofs.bytes.four.Statement.{statement}

@@ -1,9 +1,8 @@
--- Made by tools/answers.py from answers/character/wide.ans: edit that. 5ebe5e8614776350
-use Prim.Native.Nat.{_+_}
+-- Made by tools/answers.py from answers/character/wide.ans: edit that. afb30f1464b4a603
 use mathlib.Core.Path.{sym, _∙_}
 use mathlib.Core.List.{[], _∷_}
 use native.Mathlib.Omega.{arith}
-use Rattle.tokens.proofs.PlaceLaws.{byte-inside, inside}
+use Rattle.tokens.proofs.PlaceLaws.{byte-inside}
 use Rattle.spelled.proofs.CharLaws.{wide-here, wide-two}
 use borrow.Author.Needs.{needs}
 use Rattle.spelled.proofs.character.wide.Statement.{statement}

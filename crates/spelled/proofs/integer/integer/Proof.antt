@@ -1,5 +1,4 @@
--- Made by tools/answers.py from answers/integer/integer.ans: edit that. cfb4b30875082c57
-use mathlib.Core.Path.{sym, _∙_}
+-- Made by tools/answers.py from answers/integer/integer.ans: edit that. 98e284d227e923a8
 use native.Mathlib.Omega.{arith}
 use Rattle.tokens.proofs.PlaceLaws.{inside}
 use Rattle.spelled.proofs.NumberLaws.{integer-bare, integer-negative, integer-nought}

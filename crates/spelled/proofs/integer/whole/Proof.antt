@@ -1,4 +1,4 @@
--- Made by tools/answers.py from answers/integer/whole.ans: edit that. 7e8be650701e1cfe
+-- Made by tools/answers.py from answers/integer/whole.ans: edit that. 2d8cc7656ec7cc81
 use native.Mathlib.Omega.{arith}
 use Rattle.spelled.proofs.NumberLaws.{whole-nought, whole-from}
 use borrow.Author.Needs.{needs}
@@ -42,7 +42,7 @@ returns-5 : tie.Need-returns-5
 returns-5 c =
     let s = c .before .before .before .before .before .before .before .args .s .now in
     let p = c .before .before .before .before .before .before .before .args .p in
-    (λ h. whole-from s p (omega (arith, c .before .before .before .before .before .if1 .left)) _ _ (omega (arith, c .before .before .if3 .left)) (omega (arith, c .before .if4 .left)) (c .digits .ensures .0 h) (c .digits .ensures .1 .0 h .0), c .digits .ensures .1 .1)
+    (λ h. whole-from s p (omega (arith, c .before .before .before .before .before .if1 .left)) _ _ (omega (arith, c .before .before .if3 .left)) (omega (arith, c .before .if4 .left)) (c .digits .ensures .0) (c .digits .ensures .1 .0 .0), c .digits .ensures .1 .1)
 
 pub whole-spec : {M : Type 1} → statement M
 whole-spec =

@@ -1,10 +1,9 @@
--- Made by tools/answers.py from answers/names/has_name.ans: edit that. d11ae6ce8861e265
-use mathlib.Core.Path.{_≡_, sym, ap, _∙_}
+-- Made by tools/answers.py from answers/names/has_name.ans: edit that. 60ee3689811eb2df
+use mathlib.Core.Path.{ap, _∙_}
 use mathlib.Core.List.{List}
-use mathlib.Core.Bool.{Bool}
 use native.Mathlib.Omega.{arith}
 use Prim.Native.Nat.{ℕ}
-use lib.ListN.{length, take, drop}
+use lib.ListN.{take, drop}
 use Rattle.jer.specs.Table.{sameBytes}
 use Rattle.spelled.proofs.NameLaws.{name-other, name-same}
 use borrow.Author.Needs.{needs}

@@ -1,4 +1,4 @@
--- Made by tools/answers.py from answers/names/search.ans: edit that. 556efd1fec7f119a
+-- Made by tools/answers.py from answers/names/search.ans: edit that. 70154599bd38544b
 use Prim.Native.Nat.{ℕ, _+_, _-_, _<_, _≤_}
 use mathlib.Core.Path.{_≡_, sym, _∙_}
 use mathlib.Core.Bool.{false}
@@ -22,19 +22,11 @@ loop-holds c = (λ i h. absurd (omega arith), omega arith)
 wide-requires : tie.Need-wide-requires Inv-loop μ-loop
 wide-requires c κs = search needs
 
-add-has-name : tie.Need-add-has-name Inv-loop μ-loop
-add-has-name c = search needs
+add-m : tie.Need-add-m Inv-loop μ-loop
+add-m c = search needs
 
-has-name-requires : tie.Need-has-name-requires Inv-loop μ-loop
-has-name-requires c κs = search needs
-
-returns : tie.Need-returns Inv-loop μ-loop
-returns c =
-    let a = c .before .before .before .before .before .before .before .before .args in
-    let t = table (a .types .now) (a .names .now) in
-    let x = take (a .n) (drop (a .p) (a .s .now)) in
-    let l = c .before .before .before .before .loop in
-    (omega arith, record { before = l .inv .0; here = λ h. sym (row-of t (a .first) (l .k) x (c .before .before .wide .ensures .0) (c .before .has-name .ensures)) ∙ c .if1 .taken })
+other-length-requires : tie.Need-other-length-requires Inv-loop μ-loop
+other-length-requires c κs = search needs
 
 add-k : tie.Need-add-k Inv-loop μ-loop
 add-k c = search needs
@@ -48,7 +40,32 @@ loop-again c =
     let t = table (a .types .now) (a .names .now) in
     let x = take (a .n) (drop (a .p) (a .s .now)) in
     let l = c .before .before .before .before .loop in
-    (among-next t (a .first) (l .k) x (l .inv .0) (sym (row-of t (a .first) (l .k) x (c .before .before .wide .ensures .0) (c .before .has-name .ensures)) ∙ c .if1 .left), omega (arith, c .before .before .before .loop-test .taken))
+    (among-next t (a .first) (l .k) x (l .inv .0) (sym (row-of t (a .first) (l .k) x (c .before .before .wide .ensures .0) (sym (c .before .other-length .ensures (c .if1 .taken) (a .s .now) (a .p) (c .before .before .before .before .before .before .before .before .pre .0))))), omega (arith, c .before .before .before .loop-test .taken))
+
+has-name-requires : tie.Need-has-name-requires Inv-loop μ-loop
+has-name-requires c κs = search needs
+
+returns : tie.Need-returns Inv-loop μ-loop
+returns c =
+    let a = c .before .before .before .before .before .before .before .before .before .before .args in
+    let t = table (a .types .now) (a .names .now) in
+    let x = take (a .n) (drop (a .p) (a .s .now)) in
+    let l = c .before .before .before .before .before .before .loop in
+    (omega arith, record { before = l .inv .0; here = λ h. sym (row-of t (a .first) (l .k) x (c .before .before .before .before .wide .ensures .0) (c .before .has-name .ensures)) ∙ c .if2 .taken })
+
+add-k-2 : tie.Need-add-k-2 Inv-loop μ-loop
+add-k-2 c = search needs
+
+loop-less-2 : tie.Need-loop-less-2 Inv-loop μ-loop
+loop-less-2 c = search needs
+
+loop-again-2 : tie.Need-loop-again-2 Inv-loop μ-loop
+loop-again-2 c =
+    let a = c .before .before .before .before .before .before .before .before .before .before .args in
+    let t = table (a .types .now) (a .names .now) in
+    let x = take (a .n) (drop (a .p) (a .s .now)) in
+    let l = c .before .before .before .before .before .before .loop in
+    (among-next t (a .first) (l .k) x (l .inv .0) (sym (row-of t (a .first) (l .k) x (c .before .before .before .before .wide .ensures .0) (c .before .has-name .ensures)) ∙ c .if2 .left), omega (arith, c .before .before .before .before .before .loop-test .taken))
 
 returns-2 : tie.Need-returns-2 Inv-loop μ-loop
 returns-2 c =
@@ -63,10 +80,14 @@ search-spec =
     μ-loop
     loop-holds
     wide-requires
-    add-has-name
-    has-name-requires
-    returns
+    add-m
+    other-length-requires
     add-k
     loop-less
     loop-again
+    has-name-requires
+    returns
+    add-k-2
+    loop-less-2
+    loop-again-2
     returns-2)

@@ -1,9 +1,8 @@
--- Made by tools/answers.py from answers/put/copy.ans: edit that. f02905de413709cc
+-- Made by tools/answers.py from answers/put/copy.ans: edit that. 7540c58b074cfb4a
 use Prim.Native.Nat.{_+_, _-_}
 use mathlib.Core.Path.{_≡_, refl, _∙_}
-use lib.ListN.{length, getD, set, take, drop, length-set}
+use lib.ListN.{length, getD, take, drop, length-set}
 use lib.Seq.{sets}
-use native.Mathlib.Omega.{arith}
 use Rattle.spelled.proofs.PutLaws.{copy-start, copy-more, copy-end}
 use borrow.Author.Needs.{needs}
 use Rattle.spelled.proofs.put.copy.Statement.{statement}

@@ -1,5 +1,5 @@
--- Made by tools/answers.py from answers/put/put_base64.ans: edit that. ceaf54d552cba8cb
-use Prim.Native.Nat.{_+_, _-_, _<_, _≤_}
+-- Made by tools/answers.py from answers/put/put_base64.ans: edit that. c4522b30b3a8e79a
+use Prim.Native.Nat.{_-_, _<_, _≤_}
 use mathlib.Core.Path.{_≡_, refl, _∙_}
 use lib.ListN.{length, take, drop}
 use native.Mathlib.Omega.{arith}

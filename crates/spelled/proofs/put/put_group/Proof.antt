@@ -1,5 +1,4 @@
--- Made by tools/answers.py from answers/put/put_group.ans: edit that. 92472449c29ff82f
-use native.Mathlib.Omega.{arith}
+-- Made by tools/answers.py from answers/put/put_group.ans: edit that. 3a76cacfc1822a97
 use Rattle.spelled.proofs.PutLaws.{group-stored}
 use borrow.Author.Needs.{needs}
 use Rattle.spelled.proofs.put.put_group.Statement.{statement}

@@ -1,5 +1,4 @@
--- Made by tools/answers.py from answers/put/put_last.ans: edit that. c3418505fc2e8bce
-use native.Mathlib.Omega.{arith}
+-- Made by tools/answers.py from answers/put/put_last.ans: edit that. d021b618cdf94690
 use Rattle.spelled.proofs.PutLaws.{last-full, last-one, last-two}
 use borrow.Author.Needs.{needs}
 use Rattle.spelled.proofs.put.put_last.Statement.{statement}

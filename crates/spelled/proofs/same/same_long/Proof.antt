@@ -1,5 +1,5 @@
--- Made by tools/answers.py from answers/same/same_long.ans: edit that. c17c39a82e292d76
-use Prim.Native.Nat.{_-_, _+_, _<_}
+-- Made by tools/answers.py from answers/same/same_long.ans: edit that. ceb6e5ff50fbb951
+use Prim.Native.Nat.{_-_, _<_}
 use lib.ListN.{length}
 use native.Mathlib.Omega.{arith}
 use Rattle.spelled.specs.Bytes.{SameBytes}

@@ -1,5 +1,5 @@
--- Made by tools/answers.py from answers/same/same_short.ans: edit that. f3414a62525437ea
-use Prim.Native.Nat.{_-_, _+_, _≤_}
+-- Made by tools/answers.py from answers/same/same_short.ans: edit that. 4cbd6facf93005a6
+use Prim.Native.Nat.{_-_}
 use lib.ListN.{length}
 use native.Mathlib.Omega.{arith}
 use Rattle.spelled.specs.Bytes.{SameBytes}

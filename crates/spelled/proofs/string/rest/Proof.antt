@@ -1,5 +1,5 @@
--- Made by tools/answers.py from answers/string/rest.ans: edit that. ee669f53d1233197
-use Prim.Native.Nat.{_-_, _≤_}
+-- Made by tools/answers.py from answers/string/rest.ans: edit that. b3fe4bce237c49ec
+use Prim.Native.Nat.{_-_}
 use mathlib.Core.Path.{sym, _∙_}
 use lib.ListN.{length}
 use native.Mathlib.Omega.{arith}
