@@ -166,3 +166,7 @@ module _ {z : Step} {rows₁ rows₀ pool₁ pool₀ : List ℕ} {t : Table} {r 
 
   pub whole-pool : pool₁ ≡ sets pool₀ 0 (poolOf (w .g .value))
   whole-pool = subst (λ (y : Res (Got Val)). PoolStored pool₁ pool₀ 0 y) (w .is) (f .pool) (omega (arith, w .long))
+
+-- a call over buffers that are as they were
+pub kept-on : {t : Table} {s rows₀ pool₀ rows pool rows′ pool′ : List ℕ} {r : Reading} → (rows ≡ rows₀) × (pool ≡ pool₀) → ReadCall t s rows pool r rows′ pool′ → ReadCall t s rows₀ pool₀ r rows′ pool′
+kept-on h c = rw (← h .0, ← h .1) c

@@ -1,27 +1,23 @@
--- Made by tools/answers.py from answers/read_good.ans: edit that. 5fd2a7264c6f2686
-use mathlib.Core.Path.{sym, _∙_}
+-- Made by tools/answers.py from answers/read_good.ans: edit that. 755291f63d65b3ad
+use mathlib.Core.Path.{subst}
 use Rattle.jer.specs.Table.{table}
-use Rattle.reading.proofs.ReadLaws.{bad-text, refuses, tell}
+use Rattle.quick.specs.Replied.{Replied}
+use Rattle.reading.proofs.ReadLaws.{kept-on}
 use borrow.Author.Needs.{needs}
 use Rattle.reading.proofs.read_good.Statement.{statement}
 use Rattle.reading.proofs.read_good.Tie as tie
 
-check-requires : tie.Need-check-requires
-check-requires c κs = search needs
+read-requires : tie.Need-read-requires
+read-requires c κs = search needs
 
-enum-known-e : tie.Need-enum-known-e
-enum-known-e c = search needs
+enum-known-r : tie.Need-enum-known-r
+enum-known-r c = search needs
 
 enum-told : tie.Need-enum-told
 enum-told c = search needs
 
-measured-requires : tie.Need-measured-requires
-measured-requires c κs = (c .before .before .before .before .before .before .before .before .before .before .pre, sym (c .before .before .enum-told .given .1) ∙ c .before .before .before .before .check .ensures)
-
-returns : tie.Need-returns
-returns c =
-    let tab = table (c .before .before .before .before .before .before .before .before .before .args .types .now) (c .before .before .before .before .before .before .before .before .before .args .names .now) in
-    tell (refuses tab (c .before .before .before .before .before .before .before .before .before .args .rows .now) (c .before .before .before .before .before .before .before .before .before .args .pool .now) (bad-text tab (c .before .before .before .before .before .before .before .before .before .args .s .now) (c .before .before .before .before .before .before .before .before .before .pre) (sym (c .before .e .given .1) ∙ c .before .before .before .check .ensures)))
+generally-requires : tie.Need-generally-requires
+generally-requires c κs = search needs
 
 same-length : tie.Need-same-length
 same-length c = search needs
@@ -29,18 +25,29 @@ same-length c = search needs
 same-length-2 : tie.Need-same-length-2
 same-length-2 c = search needs
 
+returns : tie.Need-returns
+returns c = rw (c .before .r .given .1) at (c .before .before .before .before .before .before .before .read .ensures)
+
+same-length-3 : tie.Need-same-length-3
+same-length-3 c = search needs
+
+same-length-4 : tie.Need-same-length-4
+same-length-4 c = search needs
+
 returns-2 : tie.Need-returns-2
-returns-2 c = c .before .before .before .before .measured .ensures
+returns-2 c = kept-on (rw (c .before .before .before .before .before .before .before .enum-told .given .1) at (c .before .before .before .before .before .before .before .before .before .before .before .before .before .read .ensures)) (c .before .before .before .before .generally .ensures)
 
 pub read-good-spec : {M : Type 1} → statement M
 read-good-spec =
     tie.close
     (tie.spec
-    check-requires
-    enum-known-e
+    read-requires
+    enum-known-r
     enum-told
-    measured-requires
-    returns
+    generally-requires
     same-length
     same-length-2
+    returns
+    same-length-3
+    same-length-4
     returns-2)
