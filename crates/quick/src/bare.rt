@@ -14,14 +14,13 @@ use types::row::Row;
 use types::row::count_of;
 use types::row::kind_of;
 ghost use mathlib.Core.Path.{_≡_};
-ghost use mathlib.Core.Bool.{Bool};
 ghost use mathlib.Core.List.{List};
 ghost use Prim.Native.Nat.{ℕ, _≤_, _<_};
 ghost use lib.ListN.{length};
 ghost use Rattle.jer.specs.Table.{Table, BOOLEAN, INTEGER, ENUMERATED, NULL, OCTET-STRING, UTF8String, table};
-ghost use Rattle.spelled.specs.Leaves.{IsFlags, StringAt};
+ghost use Rattle.spelled.specs.Leaves.{IsFlags};
 ghost use Rattle.spelled.specs.Names.{Distinct};
-ghost use Rattle.quick.specs.Taken.{LeafTaken, LeafOf};
+ghost use Rattle.quick.specs.Taken.{LeafTaken, LeafOf, OctetsTaken};
 
 // The place after it, or 0; the two words of it; how many pool bytes.
 pub struct Words {
@@ -154,7 +153,7 @@ fn octets(types: &[u32], s: &[u8], flags: &[u8; 256], row: usize, place: usize) 
 // One in which something is escaped, of n bytes: how many octets it has, and 2^31 more.
 fn escaped(types: &[u32], s: &[u8], row: usize, place: usize, next: usize, n: usize) -> Words
     requires { ⌜ (length (now s) ≤ 65536) × (place ≤ 65536) × (n ≤ 65536) ⌝ }
-    ensures { λ r. ⌜ (0 < r .next → (ns : List ℕ) (e : Bool) → StringAt (now (s .entry)) place next n e → LeafOf OCTET-STRING (table (now (types .entry)) ns) (now (s .entry)) row place r) ⌝ }
+    ensures { λ r. ⌜ (0 < r .next → OctetsTaken (now (types .entry)) (now (s .entry)) row place next n r) ⌝ }
 {
     let mut none = [0u8; 1];
     let Found::Octets(m) = octets_at(types, s, &mut none, row, place, 0) else {
