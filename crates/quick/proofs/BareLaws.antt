@@ -3,6 +3,7 @@ use Prim.Native.Nat.{ℕ, _+_, _*_, _/_, _%_, _^_, _<_, _≤_}
 use mathlib.Core.Path.{_≡_, refl, sym, ap, _∙_}
 use mathlib.Core.List.{List, []}
 use mathlib.Core.Bool.{Bool, true, false, _&&_}
+use mathlib.Core.Option.{Option, none, some}
 use native.Mathlib.Nat.{mod-eq-of-lt}
 use native.Mathlib.Omega.{arith}
 use lib.ListN.{length, take, drop}
@@ -12,7 +13,10 @@ use Rattle.json.specs.Grammar.{Value, Quoted}
 use Rattle.jer.specs.Table.{Table, kindOf, isBase64, countOf, BOOLEAN, INTEGER, ENUMERATED, NULL, OCTET-STRING, UTF8String}
 use Rattle.jer.specs.Value.{Leaf, lBool, lInt, lEnum, lNull, lBytes, Val, vLeaf, vInt}
 use Rattle.jer.specs.Answer.{Res, ok}
-use Rattle.jer.specs.Read.{read}
+use Rattle.jer.specs.Read.{read, octetsOf}
+use Rattle.tokens.specs.Strings.{denoted}
+use Rattle.octets.specs.declared.decode.Found.the-variants.{Octets}
+use Rattle.octets.specs.Decode.{foundOf, Stored}
 use Rattle.jer.specs.Rows.{bit, leafPool}
 use Rattle.spelled.specs.Stretch.{Stretch, Passed}
 use Rattle.spelled.specs.Leaves.{IntegerAt, StringAt}
@@ -22,8 +26,9 @@ use Rattle.jer.specs.Octets.{unhex, unbase64}
 use Rattle.spelled.proofs.ReadLaws.{read-null, read-bool, read-int, read-item, read-utf8, read-hex, read-base64}
 use Rattle.quick.specs.declared.bare.Words as declared-leaf
 use Rattle.quick.specs.Stood.{Stood}
-use Rattle.quick.specs.Tape.{Text, Words, inRow, inText, inHex, inBase64}
+use Rattle.quick.specs.Tape.{Text, Words, inRow, inText, inHex, inBase64, inEscaped}
 use Rattle.quick.specs.Taken.{LeafTaken}
+use Rattle.quick.proofs.NameLaws.{string-denoted}
 
 -- the four numbers of an answer
 abbrev pub Answers : ℕ → ℕ → ℕ → ℕ → declared-leaf.Words → Type 0
@@ -109,14 +114,40 @@ module _ {t : Table} {s : List ℕ} {r p n c m : ℕ} {e′ : Bool} {g : declare
       octets-leaf t s r p n c e′ (k .octets) g p m m w (read-hex t r p (w .chars) (k .octets) kd (sym bx ∙ xf) (ap unhex (y .0) ∙ k .decoded))
       (inHex kd (sym bx ∙ xf) (ap (λ (z : ℕ). unhex (take z (drop (p + 1) s))) (sym e) ∙ k .decoded) (k .size) (omega (arith, y .1, w .passed .inside))) (k .size) (omega arith) q
 
-  pub base64-leaf : {b : ℕ} → x ≡ true → (m < 4294967295 → OctetsAre unbase64 (take c (drop (p + 1) s)) m) → m ≤ c → c < 65535 → b ≡ c * 65536 + m → Answers n p b m g → LeafTaken t s r p g
+  pub base64-leaf : {b : ℕ} → x ≡ true → (m < 4294967295 → OctetsAre unbase64 (take c (drop (p + 1) s)) m) → m ≤ c → c ≤ 32767 → b ≡ c * 65536 + m → Answers n p b m g → LeafTaken t s r p g
   base64-leaf {b} xt f l h eb q =
       let k = f (omega arith) in
       let y = w .plain pl in
       let d : b / 65536 ≡ c = omega arith in
       let d′ : b % 65536 ≡ m = omega arith in
       octets-leaf t s r p n c e′ (k .octets) g p b m w (read-base64 t r p (w .chars) (k .octets) kd (sym bx ∙ xt) (ap unbase64 (y .0) ∙ k .decoded))
-      (inBase64 kd (sym bx ∙ xt) (ap (λ (z : ℕ). unbase64 (take z (drop (p + 1) s))) d ∙ k .decoded) (d′ ∙ k .size) (omega (arith, y .1, w .passed .inside))) (k .size) l q
+      (inBase64 kd (sym bx ∙ xt) (ap (λ (z : ℕ). unbase64 (take z (drop (p + 1) s))) d ∙ k .decoded) (d′ ∙ k .size) (omega (arith, y .1, w .passed .inside)) (omega arith)) (k .size) l q
+
+pub stored-as : (after before : List ℕ) (o : ℕ) {x y : Option (List ℕ)} → x ≡ y → Stored after before o x → Stored after before o y
+stored-as after before o e k = rw (← e) k
+
+record SomeOctets (x : Option (List ℕ)) (m : ℕ) : Type 0 where
+  octets : List ℕ
+  is : x ≡ some octets
+  size : m ≡ length octets
+
+read-octets : (t : Table) (r p : ℕ) (x os : List ℕ) → kindOf t r ≡ OCTET-STRING → octetsOf t r x ≡ some os → read (jstr p x) t r ≡ ok (vLeaf (lBytes os))
+unfolding octetsOf
+read-octets t r p x os e h = go (isBase64 t r) refl h
+  where
+    go : (b : Bool) → isBase64 t r ≡ b → _≡_ {A = Option (List ℕ)} (elim b [ true ↦ unbase64 x | false ↦ unhex x ]) (some os) → read (jstr p x) t r ≡ ok (vLeaf (lBytes os))
+    go true w k = read-base64 t r p x os e w k
+    go false w k = read-hex t r p x os e w k
+
+octets-some : (x : Option (List ℕ)) {m : ℕ} → Octets m ≡ foundOf x → SomeOctets x m
+octets-some none h = absurd (let z : _≡_ {A = ℕ} 0 1 = cc in omega arith)
+octets-some (some os) h = record { octets = os; is = refl; size = cc }
+
+pub escaped-octets : {t : Table} {s : List ℕ} {r p n c m b : ℕ} {e′ : Bool} {g : declared-leaf.Words} → kindOf t r ≡ OCTET-STRING → (w : StringAt s p n c e′) → Octets m ≡ foundOf (octetsOf t r (denoted s (p + 1))) → m ≤ c → b ≡ m + 2147483648 → p ≤ 65536 → Answers n p b m g
+    → LeafTaken t s r p g
+escaped-octets {t} {s} {r} {p} {n} {c} {m} {b} {e′} {g} kd w h l eb pl q =
+    let k = octets-some _ h in
+    octets-leaf t s r p n c e′ (k .octets) g p b m w (read-octets t r p (w .chars) (k .octets) kd (ap (λ (y : List ℕ). octetsOf t r y) (sym (string-denoted s p n c e′ w)) ∙ k .is)) (inEscaped kd (k .is) (omega (arith, k .size)) pl) (k .size) l q
 
 -- ---- an item
 

@@ -1,12 +1,12 @@
 -- The walk over the tape: what a value of each kind is, once it stands; a leaf, a header and a choice stored.
-use Prim.Native.Nat.{ℕ, zero, suc, _+_, _*_, _/_, _%_, _^_, _<_, _≤_}
+use Prim.Native.Nat.{ℕ, zero, suc, _+_, _-_, _*_, _/_, _%_, _^_, _<_, _≤_}
 use mathlib.Core.Path.{_≡_, refl, sym, ap, _∙_}
 use mathlib.Core.List.{List, [], _∷_, _++_}
 use native.Mathlib.Nat.{add-zero, mod-eq-of-lt}
 use native.Mathlib.Numerals.{add-one}
 use native.Mathlib.Omega.{arith}
 use mathlib.Core.Bool.{Bool, true, false}
-use mathlib.Core.Option.{Option}
+use mathlib.Core.Option.{Option, none, some}
 use borrow.Author.Tests.{ltb-true, ltb-false}
 use lib.Dec.{ltb}
 use lib.ListN.{length, getD, take, drop}
@@ -20,9 +20,11 @@ use Rattle.tokens.specs.Strings.{denoted}
 use Rattle.slices.proofs.PartLaws.{sets-append}
 use Rattle.tokens.proofs.TieString.{quoted-read}
 use Rattle.jer.specs.Octets.{unhex, unbase64}
+use Rattle.jer.specs.Read.{octetsOf}
+use Rattle.octets.specs.Decode.{Stored}
 use Rattle.spelled.specs.Stretch.{Stretch}
 use Rattle.spelled.specs.Octets.{OctetsStored}
-use Rattle.quick.specs.Tape.{Text, Words, inRow, inText, inHex, inBase64, Header, Stands, aLeaf, aList, aSequence, aChoice, Listed, Linked}
+use Rattle.quick.specs.Tape.{Text, Words, inRow, inText, inHex, inBase64, inEscaped, Header, Stands, aLeaf, aList, aSequence, aChoice, Listed, Linked}
 use Rattle.quick.specs.Emit.{Room, Noted, NotedItems, NotedParts, Stores, Emits, Pours, EmitsParts}
 use Rattle.quick.proofs.ListLaws.{rows-any}
 use Rattle.quick.proofs.PartLaws.{parts-any}
@@ -34,7 +36,8 @@ pub words-kind : {s : List ℕ} {t : Table} {r a b : ℕ} {l : Leaf} → Words s
 words-kind (inRow e p f) = omega arith
 words-kind (inText e x) = omega arith
 words-kind (inHex e b h n l) = omega arith
-words-kind (inBase64 e b h n l) = omega arith
+words-kind (inBase64 e b h n l m) = omega arith
+words-kind (inEscaped e h n ll) = omega arith
 
 pub data ByLeaf (s z : List ℕ) (t : Table) (r j k : ℕ) : Val → Type 0 where
   byLeaf : {l : Leaf} → Words s t r l (getD z j 0) (getD z (j + 1) 0) → k ≡ j + 2 → ByLeaf s z t r j k (vLeaf l)
@@ -137,7 +140,8 @@ row-stored {s} {z} {t} {r} {j} {k} {v} o i rows rows′ pool {kind} e h u w = go
     word (inRow f p g) = (u ∙ rw (← kind-tag t r, g o, e), rw p, rw p (sym (add-zero o)))
     word (inText f x) = absurd (omega arith)
     word (inHex f b d n l) = absurd (omega arith)
-    word (inBase64 f b d n l) = absurd (omega arith)
+    word (inBase64 f b d n l g) = absurd (omega arith)
+    word (inEscaped f d n ll) = absurd (omega arith)
 
     go : {x : Val} → ByLeaf s z t r j k x → Stores rows rows′ pool pool i o o (numbers (rowsOf x t r o)) (poolOf x)
     go (byLeaf x f) = word x
@@ -157,7 +161,8 @@ text-stored {s} {z} {t} {r} {j} {k} {v} o i q rows rows′ pool pool′ e u f g 
     word (inRow c p d) = absurd (omega arith)
     word (inText {x = x} c y) = (u ∙ rw (← kind-tag t r, e, y .size), bytes x y, n ∙ rw (y .size))
     word (inHex c b d m l) = absurd (omega arith)
-    word (inBase64 c b d m l) = absurd (omega arith)
+    word (inBase64 c b d m l g) = absurd (omega arith)
+    word (inEscaped c d m ll) = absurd (omega arith)
 
     go : {x : Val} → ByLeaf s z t r j k x → Stores rows rows′ pool pool′ i o q (numbers (rowsOf x t r o)) (poolOf x)
     go (byLeaf x c) = word x
@@ -171,30 +176,50 @@ text-octets t r e = rw e
 no-both : {A : Type 0} {b : Bool} → b ≡ true → b ≡ false → A
 no-both h e = absurd (let z : _≡_ {A = ℕ} 0 1 = cc in omega arith)
 
-pub hex-stored : {s z : List ℕ} {t : Table} {r j k : ℕ} {v : Val} (o i q : ℕ) (rows rows′ pool pool′ : List ℕ) → kindOf t r ≡ 4 → isBase64 t r ≡ false → rows′ ≡ sets rows (i * 4) (4 ∷ o ∷ getD z (j + 1) 0 ∷ 1 ∷ [])
+pub hex-stored : {s z : List ℕ} {t : Table} {r j k : ℕ} {v : Val} (o i q : ℕ) (rows rows′ pool pool′ : List ℕ) → kindOf t r ≡ 4 → isBase64 t r ≡ false → getD z (j + 1) 0 < 2147483648 → rows′ ≡ sets rows (i * 4) (4 ∷ o ∷ getD z (j + 1) 0 ∷ 1 ∷ [])
     → OctetsStored unhex (take (getD z (j + 1) 0 * 2) (drop (getD z j 0 + 1) s)) pool′ pool o → q ≡ o + getD z (j + 1) 0 → Stands s z t r v j k → Stores rows rows′ pool pool′ i o q (numbers (rowsOf v t r o)) (poolOf v)
 unfolding rowsOf poolOf numbers
-hex-stored {s} {z} {t} {r} {j} {k} {v} o i q rows rows′ pool pool′ e nb u f n w = go (by-leaf w (omega arith))
+hex-stored {s} {z} {t} {r} {j} {k} {v} o i q rows rows′ pool pool′ e nb lt u f n w = go (by-leaf w (omega arith))
   where
     word : {l : Leaf} → Words s t r l (getD z j 0) (getD z (j + 1) 0) → Stores rows rows′ pool pool′ i o q (numbers (rowsOf (vLeaf l) t r o)) (poolOf (vLeaf l))
     word (inRow c p d) = absurd (omega arith)
     word (inText c y) = absurd (omega arith)
     word (inHex {x = x} c b d m l) = (u ∙ rw (← kind-tag t r, e, ← m), f x d, n ∙ rw (← m))
-    word (inBase64 c b d m l) = no-both b nb
+    word (inBase64 c b d m l g) = no-both b nb
+    word (inEscaped c d m ll) = absurd (omega arith)
 
     go : {x : Val} → ByLeaf s z t r j k x → Stores rows rows′ pool pool′ i o q (numbers (rowsOf x t r o)) (poolOf x)
     go (byLeaf x c) = word x
 
-pub base64-stored : {s z : List ℕ} {t : Table} {r j k : ℕ} {v : Val} (o i q : ℕ) (rows rows′ pool pool′ : List ℕ) → isBase64 t r ≡ true → kindOf t r < 6 → rows′ ≡ sets rows (i * 4) (4 ∷ o ∷ getD z (j + 1) 0 % 65536 ∷ 1 ∷ [])
+pub base64-stored : {s z : List ℕ} {t : Table} {r j k : ℕ} {v : Val} (o i q : ℕ) (rows rows′ pool pool′ : List ℕ) → isBase64 t r ≡ true → kindOf t r < 6 → getD z (j + 1) 0 < 2147483648 → rows′ ≡ sets rows (i * 4) (4 ∷ o ∷ getD z (j + 1) 0 % 65536 ∷ 1 ∷ [])
     → OctetsStored unbase64 (take (getD z (j + 1) 0 / 65536) (drop (getD z j 0 + 1) s)) pool′ pool o → q ≡ o + getD z (j + 1) 0 % 65536 → 4 ≤ kindOf t r → Stands s z t r v j k → Stores rows rows′ pool pool′ i o q (numbers (rowsOf v t r o)) (poolOf v)
 unfolding rowsOf poolOf numbers
-base64-stored {s} {z} {t} {r} {j} {k} {v} o i q rows rows′ pool pool′ b6 less u f n more w = go (by-leaf w less)
+base64-stored {s} {z} {t} {r} {j} {k} {v} o i q rows rows′ pool pool′ b6 less lt u f n more w = go (by-leaf w less)
   where
     word : {l : Leaf} → Words s t r l (getD z j 0) (getD z (j + 1) 0) → Stores rows rows′ pool pool′ i o q (numbers (rowsOf (vLeaf l) t r o)) (poolOf (vLeaf l))
     word (inRow c p d) = absurd (omega arith)
     word (inText c y) = no-both b6 (text-octets t r c)
     word (inHex c b d m l) = no-both b6 b
-    word (inBase64 {x = x} c b d m l) = (u ∙ rw (← kind-tag t r, c, m), f x d, n ∙ rw m)
+    word (inBase64 {x = x} c b d m l g) = (u ∙ rw (← kind-tag t r, c, m), f x d, n ∙ rw m)
+    word (inEscaped c d m ll) = absurd (omega arith)
+
+    go : {x : Val} → ByLeaf s z t r j k x → Stores rows rows′ pool pool′ i o q (numbers (rowsOf x t r o)) (poolOf x)
+    go (byLeaf x c) = word x
+
+pub escaped-emitted : {s z : List ℕ} {t : Table} {r j k : ℕ} {v : Val} (o i q : ℕ) (rows rows′ pool pool′ : List ℕ) → kindOf t r ≡ 4 → length s ≤ 65536 → 2147483648 ≤ getD z (j + 1) 0 → rows′ ≡ sets rows (i * 4) (4 ∷ o ∷ (getD z (j + 1) 0 - 2147483648) ∷ 1 ∷ [])
+    → Stored pool′ pool o (octetsOf t r (denoted s (getD z j 0 + 1))) → q ≡ o + (getD z (j + 1) 0 - 2147483648) → Stands s z t r v j k → Stores rows rows′ pool pool′ i o q (numbers (rowsOf v t r o)) (poolOf v)
+unfolding rowsOf poolOf numbers
+escaped-emitted {s} {z} {t} {r} {j} {k} {v} o i q rows rows′ pool pool′ e short ge u f n w = go (by-leaf w (omega arith))
+  where
+    stored : {x : List ℕ} {y : Option (List ℕ)} → y ≡ some x → Stored pool′ pool o y → pool′ ≡ sets pool o x
+    stored h k = rw h at k
+
+    word : {l : Leaf} → Words s t r l (getD z j 0) (getD z (j + 1) 0) → Stores rows rows′ pool pool′ i o q (numbers (rowsOf (vLeaf l) t r o)) (poolOf (vLeaf l))
+    word (inRow c p d) = absurd (omega arith)
+    word (inText c y) = absurd (omega arith)
+    word (inHex c b d m l) = absurd (omega arith)
+    word (inBase64 c b d m l g) = absurd (omega arith)
+    word (inEscaped {x = x} c d m ll) = let h : getD z (j + 1) 0 - 2147483648 ≡ length x = omega arith in (u ∙ rw (← kind-tag t r, e, h), stored d f, n ∙ rw h)
 
     go : {x : Val} → ByLeaf s z t r j k x → Stores rows rows′ pool pool′ i o q (numbers (rowsOf x t r o)) (poolOf x)
     go (byLeaf x c) = word x
@@ -206,29 +231,31 @@ pub hex-at : (f : List ℕ → Option (List ℕ)) (s after before : List ℕ) (o
 hex-at f s after before o e h k = rw (← e, ← h) k
 
 -- where they stand, and that there is room for them
-pub hex-room : {types s z rows pool : List ℕ} {r j i o : ℕ} (n : Noted types s z rows pool r j i o) → ((ns : List ℕ) → kindOf (table types ns) r ≡ 4) → ((ns : List ℕ) → isBase64 (table types ns) r ≡ false)
+pub hex-room : {types s z rows pool : List ℕ} {r j i o : ℕ} (n : Noted types s z rows pool r j i o) → ((ns : List ℕ) → kindOf (table types ns) r ≡ 4) → ((ns : List ℕ) → isBase64 (table types ns) r ≡ false) → getD z (j + 1) 0 < 2147483648
     → (getD z j 0 + 1 + getD z (j + 1) 0 * 2 ≤ length s) × (o + getD z (j + 1) 0 ≤ length pool)
 unfolding poolOf
-hex-room {types} {s} {z} {rows} {pool} {r} {j} {i} {o} n e nb = go (n .room .bytes) (by-leaf (n .stands) (omega (arith, e (n .names))))
+hex-room {types} {s} {z} {rows} {pool} {r} {j} {i} {o} n e nb lt = go (n .room .bytes) (by-leaf (n .stands) (omega (arith, e (n .names))))
   where
     word : {l : Leaf} → o + length (poolOf (vLeaf l)) ≤ length pool → Words s (table types (n .names)) r l (getD z j 0) (getD z (j + 1) 0) → (getD z j 0 + 1 + getD z (j + 1) 0 * 2 ≤ length s) × (o + getD z (j + 1) 0 ≤ length pool)
     word h (inRow c p d) = absurd (omega (arith, e (n .names)))
     word h (inText c y) = absurd (omega (arith, e (n .names)))
     word h (inHex c b d m l) = (l, omega arith)
-    word h (inBase64 c b d m l) = no-both b (nb (n .names))
+    word h (inBase64 c b d m l g) = no-both b (nb (n .names))
+    word h (inEscaped c d m ll) = absurd (omega arith)
 
     go : {v : Val} → o + length (poolOf v) ≤ length pool → ByLeaf s z (table types (n .names)) r j (n .end) v → (getD z j 0 + 1 + getD z (j + 1) 0 * 2 ≤ length s) × (o + getD z (j + 1) 0 ≤ length pool)
     go h (byLeaf x c) = word h x
 
-pub base64-room : {types s z rows pool : List ℕ} {r j i o : ℕ} (n : Noted types s z rows pool r j i o) → ((ns : List ℕ) → isBase64 (table types ns) r ≡ true) → ((ns : List ℕ) → (4 ≤ kindOf (table types ns) r) × (kindOf (table types ns) r < 6))
+pub base64-room : {types s z rows pool : List ℕ} {r j i o : ℕ} (n : Noted types s z rows pool r j i o) → ((ns : List ℕ) → isBase64 (table types ns) r ≡ true) → ((ns : List ℕ) → (4 ≤ kindOf (table types ns) r) × (kindOf (table types ns) r < 6)) → getD z (j + 1) 0 < 2147483648
     → getD z j 0 + 1 + getD z (j + 1) 0 / 65536 ≤ length s
-base64-room {types} {s} {z} {rows} {pool} {r} {j} {i} {o} n b6 kd = go (by-leaf (n .stands) (kd (n .names) .1))
+base64-room {types} {s} {z} {rows} {pool} {r} {j} {i} {o} n b6 kd lt = go (by-leaf (n .stands) (kd (n .names) .1))
   where
     word : {l : Leaf} → Words s (table types (n .names)) r l (getD z j 0) (getD z (j + 1) 0) → getD z j 0 + 1 + getD z (j + 1) 0 / 65536 ≤ length s
     word (inRow c p d) = absurd (omega (arith, kd (n .names)))
     word (inText c y) = no-both (b6 (n .names)) (text-octets (table types (n .names)) r c)
     word (inHex c b d m l) = no-both (b6 (n .names)) b
-    word (inBase64 c b d m l) = l
+    word (inBase64 c b d m l g) = l
+    word (inEscaped c d m ll) = absurd (omega arith)
 
     go : {v : Val} → ByLeaf s z (table types (n .names)) r j (n .end) v → getD z j 0 + 1 + getD z (j + 1) 0 / 65536 ≤ length s
     go (byLeaf x c) = word x
@@ -324,7 +351,8 @@ noted-bytes {types} {s} {z} {rows} {pool} {r} {j} {i} {o} n e = go (n .room .byt
     word m (inRow c p d) = absurd (omega (arith, e (n .names)))
     word m (inText c y) = omega (arith, y .size)
     word m (inHex c b d h l) = absurd (omega (arith, e (n .names)))
-    word m (inBase64 c b d h l) = absurd (omega (arith, e (n .names)))
+    word m (inBase64 c b d h l g) = absurd (omega (arith, e (n .names)))
+    word m (inEscaped c d h ll) = absurd (omega (arith, e (n .names)))
 
     go : {v : Val} → o + length (poolOf v) ≤ length pool → ByLeaf s z (table types (n .names)) r j (n .end) v → o + getD z (j + 1) 0 % 2 ^ 31 ≤ length pool
     go m (byLeaf x c) = word m x
@@ -362,3 +390,25 @@ module _ {types s z rows pool : List ℕ} {r j i o : ℕ} (n : Noted types s z r
           let g = choice-rows y (table types (n .names)) r k 0 in
           let f = ap (length {A = ℕ}) (choice-bytes y k) in
           noted-row (em (n .names) ∙ ap (λ (d : ℕ). typeAt (table types (n .names)) r d) (x .number)) (record { names = n .names; value = y; end = n .end; stands = st; inside = n .inside; room = record { slots = omega (arith, kept); bytes = omega arith; small = omega arith } })
+
+-- ---- octets with escapes
+
+pub octet-kind : {k n : ℕ} → (4 ≤ k) × (k < 6) → (n ≡ 5 → ⊥) → n ≡ k → k ≡ 4
+octet-kind {k} {n} a b c = omega (arith, b)
+
+pub stored-place : (s after before : List ℕ) (o : ℕ) (t : Table) (r : ℕ) {a x : ℕ} → x ≡ a → Stored after before o (octetsOf t r (denoted s (x + 1))) → Stored after before o (octetsOf t r (denoted s (a + 1)))
+stored-place s after before o t r e k = rw (← e) k
+
+-- the string stands inside the text
+pub escaped-room : {types s z rows pool : List ℕ} {r j i o : ℕ} (n : Noted types s z rows pool r j i o) → ((ns : List ℕ) → kindOf (table types ns) r ≡ 4) → length s ≤ 65536 → 2147483648 ≤ getD z (j + 1) 0 → getD z j 0 ≤ 65536
+escaped-room {types} {s} {z} {rows} {pool} {r} {j} {i} {o} n e short ge = go (by-leaf (n .stands) (omega (arith, e (n .names))))
+  where
+    word : {l : Leaf} → Words s (table types (n .names)) r l (getD z j 0) (getD z (j + 1) 0) → getD z j 0 ≤ 65536
+    word (inRow c p d) = absurd (omega (arith, e (n .names)))
+    word (inText c y) = absurd (omega (arith, e (n .names)))
+    word (inHex c b d m l) = absurd (omega arith)
+    word (inBase64 c b d m l g) = absurd (omega arith)
+    word (inEscaped c d m l) = l
+
+    go : {v : Val} → ByLeaf s z (table types (n .names)) r j (n .end) v → getD z j 0 ≤ 65536
+    go (byLeaf x c) = word x

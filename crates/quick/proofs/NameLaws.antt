@@ -66,7 +66,7 @@ plain-position {t} {r = r} {k = k} u e f d h q w = ap′ (sym (w .plain u .0)) (
     ap′ : {x y : List ℕ} → x ≡ y → PositionIs t r x k → PositionIs t r y k
     ap′ u v = rw (← u) v
 
-string-denoted : (s : List ℕ) (o q n : ℕ) (e : Bool) (w : StringAt s o q n e) → denoted s (o + 1) ≡ w .chars
+pub string-denoted : (s : List ℕ) (o q n : ℕ) (e : Bool) (w : StringAt s o q n e) → denoted s (o + 1) ≡ w .chars
 string-denoted s o q n e w = rw (add-one o) (quoted-read s o (drop q s) (w .passed .stretch .holds) (w .passed .stretch .text) .0)
 
 pub known-position : {t : Table} {s : List ℕ} {r o n k : ℕ} {e : Bool} → At k ≡ foundOf (position t r (denoted s (o + 1))) → (q : ℕ) (w : StringAt s o q n e) → PositionIs t r (w .chars) k

@@ -1,13 +1,13 @@
 -- What the walk over the text is given, and what a success of it says.
 use Prim.Native.Nat.{ℕ, _+_, _-_, _≤_, _<_}
 use mathlib.Core.Path.{_≡_}
-use mathlib.Core.Bool.{true, false, _&&_}
+use mathlib.Core.Bool.{Bool, true, false, _&&_}
 use mathlib.Core.Option.{none, some}
 use mathlib.Core.List.{List}
 use lib.Count.{ones}
 use lib.ListN.{length, getD, set}
 use Rattle.json.specs.Tree.{Json}
-use Rattle.jer.specs.Table.{Table, kindOf, isType, extensible, position, countOf, typeAt, mayMiss}
+use Rattle.jer.specs.Table.{Table, table, OCTET-STRING, kindOf, isType, extensible, position, countOf, typeAt, mayMiss}
 use Rattle.jer.specs.Value.{Leaf, Val, vLeaf}
 use Rattle.jer.specs.Answer.{ok, bind}
 use Rattle.jer.specs.Read.{read, readWhole, null?, nullAbsent}
@@ -19,7 +19,7 @@ use Rattle.quick.specs.declared.Got.{Got}
 use Rattle.quick.specs.declared.bare.Words as declared-leaf
 use Rattle.quick.specs.declared.name.Name as declared-name
 use Rattle.quick.specs.declared.step.Step as declared-step
-use Rattle.spelled.specs.Leaves.{IsFlags}
+use Rattle.spelled.specs.Leaves.{IsFlags, StringAt}
 use Rattle.quick.specs.Stood.{Spaces, TreeAt, Stood, NameAt}
 use Rattle.quick.specs.Tape.{Alike, headed, Words, Stands}
 
@@ -46,6 +46,10 @@ pub record LeafTaken (t : Table) (s : List ℕ) (r p : ℕ) (g : declared-leaf.W
 -- so it was, if the type at r is of the kind
 abbrev pub LeafOf : ℕ → Table → List ℕ → ℕ → ℕ → declared-leaf.Words → Type 0
 LeafOf kind t s r p g = kindOf t r ≡ kind → LeafTaken t s r p g
+
+-- an OCTET STRING was taken, if from p up to q a string of n bytes stands, whatever the names are
+abbrev pub OctetsTaken : List ℕ → List ℕ → ℕ → ℕ → ℕ → ℕ → declared-leaf.Words → Type 0
+OctetsTaken types s r p q n g = (ns : List ℕ) (e : Bool) → StringAt s p q n e → LeafOf OCTET-STRING (table types ns) s r p g
 
 -- the value at p was taken, and the tape z stands for it from j on: the answer goes ahead and stays within the text and the tape,
 -- there are fewer rows than words, and no more pool bytes than text bytes

@@ -10,7 +10,9 @@ use Rattle.json.specs.Grammar.{Quoted}
 use Rattle.jer.specs.Table.{Table, kindOf, isBase64, elementOf, countOf, typeAt, NULL, OCTET-STRING, UTF8String, SEQUENCE, SEQUENCE-OF, CHOICE}
 use Rattle.jer.specs.Value.{Leaf, lBytes, Val, vLeaf, vSeq, vList, vChoice, Vals, vnil, vcons, countVals, Parts, pnil, absent, present, countPresent}
 use Rattle.jer.specs.Octets.{unhex, unbase64}
+use Rattle.jer.specs.Read.{octetsOf}
 use Rattle.jer.specs.Rows.{row, leafRow, leafPool, rowsOf, itemRows, partRows}
+use Rattle.tokens.specs.Strings.{denoted}
 use Rattle.spelled.specs.Stretch.{Stretch}
 
 -- the two tapes agree from j up to k
@@ -35,8 +37,10 @@ pub data Words (s : List ℕ) (t : Table) (r : ℕ) : Leaf → ℕ → ℕ → T
   -- b octets in hexadecimal, after the quotation mark at a
   inHex : {x : List ℕ} {a b : ℕ} → kindOf t r ≡ OCTET-STRING → isBase64 t r ≡ false → unhex (take (b * 2) (drop (a + 1) s)) ≡ some x → b ≡ length x → a + 1 + b * 2 ≤ length s → Words s t r (lBytes x) a b
   -- in Base64: 65536 times the number of characters, and the number of octets
-  inBase64 : {x : List ℕ} {a b : ℕ} → kindOf t r ≡ OCTET-STRING → isBase64 t r ≡ true → unbase64 (take (b / 65536) (drop (a + 1) s)) ≡ some x → b % 65536 ≡ length x → a + 1 + b / 65536 ≤ length s
+  inBase64 : {x : List ℕ} {a b : ℕ} → kindOf t r ≡ OCTET-STRING → isBase64 t r ≡ true → unbase64 (take (b / 65536) (drop (a + 1) s)) ≡ some x → b % 65536 ≡ length x → a + 1 + b / 65536 ≤ length s → b < 2 ^ 31
       → Words s t r (lBytes x) a b
+  -- escaped: the number of octets, and 2^31 more
+  inEscaped : {x : List ℕ} {a b : ℕ} → kindOf t r ≡ OCTET-STRING → octetsOf t r (denoted s (a + 1)) ≡ some x → b ≡ length x + 2 ^ 31 → a ≤ 65536 → Words s t r (lBytes x) a b
 
 -- at j stands a header: the number that the row has, how many rows there are with the n of the parts, and where the parts end
 pub record Header (z : List ℕ) (j a n k : ℕ) : Type 0 where

@@ -1,5 +1,7 @@
 // A value without parts, at a place of the text.
+use crate::coded::octets_at;
 use crate::name::position_of;
+use octets::decode::Found;
 use slices::byte_at;
 use spelled::coded::base64_count;
 use spelled::coded::hex_count;
@@ -18,7 +20,7 @@ ghost use lib.ListN.{length};
 ghost use Rattle.jer.specs.Table.{Table, BOOLEAN, INTEGER, ENUMERATED, NULL, OCTET-STRING, UTF8String, table};
 ghost use Rattle.spelled.specs.Leaves.{IsFlags};
 ghost use Rattle.spelled.specs.Names.{Distinct};
-ghost use Rattle.quick.specs.Taken.{LeafTaken, LeafOf};
+ghost use Rattle.quick.specs.Taken.{LeafTaken, LeafOf, OctetsTaken};
 
 // The place after it, or 0; the two words of it; how many pool bytes.
 pub struct Words {
@@ -126,6 +128,9 @@ fn octets(types: &[u32], s: &[u8], flags: &[u8; 256], row: usize, place: usize) 
         return taken(0, 0, 0, 0);
     }
     if w.escaped {
+        return escaped(types, s, row, place, w.next, w.count);
+    }
+    if 32767 < w.count {
         return taken(0, 0, 0, 0);
     }
     if Row::at(types, row).is_base64() {
@@ -143,4 +148,19 @@ fn octets(types: &[u32], s: &[u8], flags: &[u8; 256], row: usize, place: usize) 
         return taken(0, 0, 0, 0);
     }
     taken(w.next, place as u32, n as u32, n)
+}
+
+// One in which something is escaped, of n bytes: how many octets it has, and 2^31 more.
+fn escaped(types: &[u32], s: &[u8], row: usize, place: usize, next: usize, n: usize) -> Words
+    requires { ⌜ (length (now s) ≤ 65536) × (place ≤ 65536) × (n ≤ 65536) ⌝ }
+    ensures { λ r. ⌜ (0 < r .next → OctetsTaken (now (types .entry)) (now (s .entry)) row place next n r) ⌝ }
+{
+    let mut none = [0u8; 1];
+    let Found::Octets(m) = octets_at(types, s, &mut none, row, place, 0) else {
+        return taken(0, 0, 0, 0);
+    };
+    if n < m {
+        return taken(0, 0, 0, 0);
+    }
+    taken(next, place as u32, m as u32 + ESCAPED, m)
 }

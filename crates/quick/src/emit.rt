@@ -1,5 +1,6 @@
 // The walk over the tape, which stores rows and pool.
 use crate::bare::ESCAPED;
+use crate::coded::octets_at;
 use crate::store::put_row;
 use crate::store::put_text;
 use spelled::put::put_base64;
@@ -57,21 +58,27 @@ fn string(
     let w = Row::at(types, row);
     let a = tape[top];
     let b = tape[top + 1];
+    if kind_of(types, row) == Row::UTF8_STRING {
+        let n = b % ESCAPED;
+        put_row(rows, slot, Row::UTF8_STRING, offset as u32, n, 1);
+        put_text(s, pool, a, b, offset);
+        return offset + wide(n);
+    }
+    if ESCAPED <= b {
+        let n = b - ESCAPED;
+        put_row(rows, slot, Row::OCTET_STRING, offset as u32, n, 1);
+        octets_at(types, s, pool, row, wide(a), offset);
+        return offset + wide(n);
+    }
     if w.is_base64() {
         let n = b % 65536;
         put_row(rows, slot, Row::OCTET_STRING, offset as u32, n, 1);
         put_base64(s, wide(a) + 1, wide(b / 65536), pool, offset);
         return offset + wide(n);
     }
-    if kind_of(types, row) == Row::OCTET_STRING {
-        put_row(rows, slot, Row::OCTET_STRING, offset as u32, b, 1);
-        put_hex(s, wide(a) + 1, wide(b), pool, offset);
-        return offset + wide(b);
-    }
-    let n = b % ESCAPED;
-    put_row(rows, slot, Row::UTF8_STRING, offset as u32, n, 1);
-    put_text(s, pool, a, b, offset);
-    offset + wide(n)
+    put_row(rows, slot, Row::OCTET_STRING, offset as u32, b, 1);
+    put_hex(s, wide(a) + 1, wide(b), pool, offset);
+    offset + wide(b)
 }
 
 // Stores the value of the type at `row` that stands from `top` on, from the slot and the offset on; the offset after it.

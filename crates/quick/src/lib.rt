@@ -1,6 +1,7 @@
 // A reading that only succeeds: one walk over the text notes the value on a tape, a second walk over the tape stores rows and pool.
 // What it does not take it answers by the place 0; the general calls read that. So its contracts say only what a success means.
 pub mod bare; // bare.rt: a value without parts
+pub mod coded; // coded.rt: octets with escapes
 pub mod emit; // emit.rt: the walk over the tape
 pub mod member; // member.rt: members that are absent
 pub mod name; // name.rt: the name of a member
