@@ -4,8 +4,8 @@
    Each returns 0, or the number of document 01's refusal.
 
    What is lent. Every pointer comes with its length and is lent for the call alone; nothing is kept or allocated.
-   A length counts elements of the pointer's type: for types, rows and values 32-bit numbers, for amounts 64-bit numbers,
-   for names, text and pool bytes. The caller owes what a slice in Rust owes:
+   A length counts elements of the pointer's type: for types, rows and values 32-bit numbers, for amounts, ends and
+   tells 64-bit numbers, for names, text and pool bytes. The caller owes what a slice in Rust owes:
    - no pointer is null, also where its length is 0, and each is aligned for its type;
    - the memory is readable, and writable where the pointer is not const;
    - a buffer that is not const overlaps no other.
@@ -18,6 +18,7 @@
      success of    first              second
      check_table   0                  0
      read          value rows         pool bytes
+     read_each     texts answered     0
      write         text bytes         0
      a refusal     its place, row     its second amount,
                    or first amount    0 if it has none            */
@@ -49,6 +50,9 @@ enum attrywind_kind {
 /* 32-bit numbers to a row. */
 enum { ATTRYWIND_TYPE_FIELDS = 8, ATTRYWIND_VALUE_FIELDS = 4 };
 
+/* 64-bit numbers that attrywind_read_each tells of a text. */
+enum { ATTRYWIND_TOLD = 5 };
+
 /* Document 01's refusal numbers. */
 enum attrywind_refusal {
     ATTRYWIND_TYPE_TABLE = 1,
@@ -76,6 +80,24 @@ uint32_t attrywind_check_table(const uint32_t *types, size_t types_len, const ui
 uint32_t attrywind_read(const uint32_t *types, size_t types_len, const uint8_t *names, size_t names_len,
                         const uint8_t *text, size_t text_len, uint32_t *rows, size_t rows_len, uint8_t *pool,
                         size_t pool_len, uint64_t *amounts, size_t amounts_len);
+
+/* Reads many texts by one type table, which is judged once. The texts stand one after another in `texts`; `ends` says where
+   each ends, and it begins where the one before it ends. Their rows and their pool bytes are stored one after another in
+   `rows` and `pool`; in each value table strings are counted from the start of its own part of the pool. Of each text five
+   numbers are told in `tells`:
+
+     0          0, or the number of its refusal
+     1, 2       its two amounts, as attrywind_read gives them
+     3          where its rows end, counted in rows: they begin where those of the text before it end
+     4          where its pool bytes end
+
+   Each text is answered as attrywind_read answers it, given the room that those before it leave. A refused text takes up
+   no room, and the next one is read. One that finds no room (14) is the last: lend more and go on with it. So is the last
+   one of which there is room to tell. Returns 0 and in the first amount how many texts are answered, or 1 with no text read. */
+uint32_t attrywind_read_each(const uint32_t *types, size_t types_len, const uint8_t *names, size_t names_len,
+                             const uint8_t *texts, size_t texts_len, const uint64_t *ends, size_t ends_len,
+                             uint32_t *rows, size_t rows_len, uint8_t *pool, size_t pool_len, uint64_t *tells,
+                             size_t tells_len, uint64_t *amounts, size_t amounts_len);
 
 /* Writes the one text of a value table to `text`. */
 uint32_t attrywind_write(const uint32_t *types, size_t types_len, const uint8_t *names, size_t names_len,

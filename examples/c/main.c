@@ -76,6 +76,40 @@ static void read_senders(const char *folder, struct table spring, struct value h
     }
 }
 
+/* The senders' texts and a refused one between them, in one call, with room for `values` bookings. */
+static void read_at_once(const char *folder, struct table spring, struct value house, size_t values)
+{
+    static uint8_t texts[8192], pool[4096];
+    static uint32_t rows[4096];
+    const char *const names[] = { senders[0], refused[5], senders[1], senders[2] };
+    uint64_t ends[COUNT(names)], tells[COUNT(names) * ATTRYWIND_TOLD];
+    size_t length = 0;
+    for (size_t i = 0; i < COUNT(names); i++) {
+        struct bytes text = load_file(folder, names[i]);
+        memcpy(texts + length, text.start, text.length);
+        length += text.length;
+        ends[i] = length;
+        free((void *)text.start);
+    }
+    struct answer a = read_each(spring, (struct bytes){ texts, length }, (struct wide){ ends, COUNT(ends) },
+                                (struct room_numbers){ rows, values * house.numbers },
+                                (struct room_bytes){ pool, sizeof pool }, (struct room_wide){ tells, COUNT(tells) });
+    need("reading at once", a, (struct bytes){ NULL, 0 });
+    printf("\nfour texts at once, with room for %zu bookings: %" PRIu64 " answered\n", values, a.first);
+    uint64_t row = 0, byte = 0;
+    for (size_t i = 0; i < a.first; i++) {
+        const uint64_t *told = tells + i * ATTRYWIND_TOLD;
+        struct value v = { rows + row * ATTRYWIND_VALUE_FIELDS, (told[3] - row) * ATTRYWIND_VALUE_FIELDS, pool + byte,
+                           told[4] - byte };
+        if (told[0] != 0)
+            printf("%s: refusal %" PRIu64 "\n", names[i], told[0]);
+        else
+            printf("%s: %s\n", names[i], same(house, v) ? "the same rows and pool" : "OTHER ROWS OR POOL");
+        row = told[3];
+        byte = told[4];
+    }
+}
+
 static void write_house(struct table spring, struct value v)
 {
     static uint8_t text[65536];
@@ -208,6 +242,8 @@ int main(int argc, char **argv)
     printf("spring.hex: a good type table of %zu rows\n", spring.types.length / ATTRYWIND_TYPE_FIELDS);
     struct value house = read_house(argv[1], spring);
     read_senders(argv[1], spring, house);
+    read_at_once(argv[1], spring, house, 3);
+    read_at_once(argv[1], spring, house, 2);
     write_house(spring, house);
     refuse_texts(argv[1], spring);
     refuse_calls(spring, house);

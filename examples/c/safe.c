@@ -36,12 +36,14 @@ static bool sound(const struct lent *all, size_t count)
 }
 
 /* What stands in for a null start: never read or written, since its length is 0. */
-static uint32_t nothing;
+static uint64_t nothing;
 
 static const uint8_t *b(struct bytes m) { return m.start ? m.start : (const uint8_t *)&nothing; }
-static const uint32_t *n(struct numbers m) { return m.start ? m.start : &nothing; }
+static const uint32_t *n(struct numbers m) { return m.start ? m.start : (const uint32_t *)&nothing; }
 static uint8_t *rb(struct room_bytes m) { return m.start ? m.start : (uint8_t *)&nothing; }
-static uint32_t *rn(struct room_numbers m) { return m.start ? m.start : &nothing; }
+static uint32_t *rn(struct room_numbers m) { return m.start ? m.start : (uint32_t *)&nothing; }
+static const uint64_t *w(struct wide m) { return m.start ? m.start : &nothing; }
+static uint64_t *rw(struct room_wide m) { return m.start ? m.start : &nothing; }
 
 #define LENT(m, written) { (m).start, (m).length, sizeof *(m).start, written }
 #define COUNT(a) (sizeof(a) / sizeof *(a))
@@ -70,6 +72,20 @@ struct answer read_text(struct table t, struct bytes text, struct room_numbers r
         return bad_call();
     uint32_t number = attrywind_read(n(t.types), t.types.length, b(t.names), t.names.length, b(text), text.length,
                                      rn(rows), rows.length, rb(pool), pool.length, amounts, 2);
+    return (struct answer){ number, amounts[0], amounts[1] };
+}
+
+struct answer read_each(struct table t, struct bytes texts, struct wide ends, struct room_numbers rows,
+                        struct room_bytes pool, struct room_wide tells)
+{
+    uint64_t amounts[2] = { 0, 0 };
+    struct lent all[] = { LENT(t.types, false), LENT(t.names, false), LENT(texts, false), LENT(ends, false),
+                          LENT(rows, true), LENT(pool, true), LENT(tells, true) };
+    if (!sound(all, COUNT(all)))
+        return bad_call();
+    uint32_t number = attrywind_read_each(n(t.types), t.types.length, b(t.names), t.names.length, b(texts),
+                                          texts.length, w(ends), ends.length, rn(rows), rows.length, rb(pool),
+                                          pool.length, rw(tells), tells.length, amounts, 2);
     return (struct answer){ number, amounts[0], amounts[1] };
 }
 

@@ -20,6 +20,12 @@ struct answer { uint32_t number; uint64_t first, second; };
 
 struct answer check_table(struct table t);
 struct answer read_text(struct table t, struct bytes text, struct room_numbers rows, struct room_bytes pool);
+/* Many texts, of which `ends` says where each ends; `tells` is room for ATTRYWIND_TOLD numbers for each. */
+struct wide { const uint64_t *start; size_t length; };
+struct room_wide { uint64_t *start; size_t length; };
+struct answer read_each(struct table t, struct bytes texts, struct wide ends, struct room_numbers rows,
+                        struct room_bytes pool, struct room_wide tells);
+
 struct answer write_value(struct table t, struct numbers values, struct bytes pool, struct room_bytes text);
 
 /* A value table with its own memory: made by read_whole, given back by free_value. */

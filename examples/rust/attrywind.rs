@@ -19,6 +19,9 @@ pub mod kind {
 pub const TYPE_FIELDS: usize = 8;
 pub const VALUE_FIELDS: usize = 4;
 
+/// Numbers that `attrywind_read_each` tells of a text.
+const TOLD: usize = 5;
+
 /// Refusal 14: lent room too small.
 const LENT_ROOM: u32 = 14;
 
@@ -30,6 +33,11 @@ extern "C" {
     fn attrywind_read(
         types: *const u32, types_len: usize, names: *const u8, names_len: usize, text: *const u8, text_len: usize,
         rows: *mut u32, rows_len: usize, pool: *mut u8, pool_len: usize, amounts: *mut u64, amounts_len: usize,
+    ) -> u32;
+    fn attrywind_read_each(
+        types: *const u32, types_len: usize, names: *const u8, names_len: usize, texts: *const u8, texts_len: usize,
+        ends: *const u64, ends_len: usize, rows: *mut u32, rows_len: usize, pool: *mut u8, pool_len: usize,
+        tells: *mut u64, tells_len: usize, amounts: *mut u64, amounts_len: usize,
     ) -> u32;
     fn attrywind_write(
         types: *const u32, types_len: usize, names: *const u8, names_len: usize, values: *const u32, values_len: usize,
@@ -90,6 +98,34 @@ impl Table {
             )
         };
         answer(number, amounts)
+    }
+
+    /// Reads the texts that stand one after another in `texts` and end at `ends`, and hands over what came of each: its
+    /// value, as slices of the room, or its refusal. One that finds no room is the last.
+    pub fn read_each<'a>(
+        &self, texts: &[u8], ends: &[u64], rows: &'a mut [u32], pool: &'a mut [u8],
+    ) -> Result<Vec<Result<(&'a [u32], &'a [u8]), Refusal>>, Refusal> {
+        let mut tells = vec![0; ends.len() * TOLD];
+        let mut amounts = [0; 2];
+        // SAFETY: as in `read_into`; `tells` is this function's own.
+        let number = unsafe {
+            attrywind_read_each(
+                self.types.as_ptr(), self.types.len(), self.names.as_ptr(), self.names.len(),
+                texts.as_ptr(), texts.len(), ends.as_ptr(), ends.len(), rows.as_mut_ptr(), rows.len(),
+                pool.as_mut_ptr(), pool.len(), tells.as_mut_ptr(), tells.len(), amounts.as_mut_ptr(), amounts.len(),
+            )
+        };
+        let (count, _) = answer(number, amounts)?;
+        let (rows, pool): (&'a [u32], &'a [u8]) = (rows, pool);
+        let (mut row, mut byte) = (0, 0);
+        Ok(tells.chunks(TOLD).take(count).map(|told| {
+            let (from, start) = (row, byte);
+            (row, byte) = (told[3] as usize * VALUE_FIELDS, told[4] as usize);
+            match told[0] {
+                0 => Ok((&rows[from..row], &pool[start..byte])),
+                number => Err(Refusal { number: number as u32, first: told[1], second: told[2] }),
+            }
+        }).collect())
     }
 
     /// How many bytes of the room were used.

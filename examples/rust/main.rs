@@ -60,6 +60,27 @@ fn read_senders(folder: &Path, spring: &Table, house: &Value) -> Result<(), Faul
     Ok(())
 }
 
+/// The senders' texts and a refused one between them, in one call, with room for `values` bookings.
+fn read_at_once(folder: &Path, spring: &Table, house: &Value, values: usize) -> Result<(), Fault> {
+    let names = [SENDERS[0], REFUSED[5], SENDERS[1], SENDERS[2]];
+    let (mut texts, mut ends) = (vec![], vec![]);
+    for name in names {
+        texts.extend(load::file(folder, name)?);
+        ends.push(texts.len() as u64);
+    }
+    let (mut rows, mut pool) = (vec![0; values * house.rows.len()], vec![0; 4096]);
+    let answers = need("reading at once", spring.read_each(&texts, &ends, &mut rows, &mut pool))?;
+    println!("\nfour texts at once, with room for {values} bookings: {} answered", answers.len());
+    for (name, answer) in names.iter().zip(answers) {
+        match answer {
+            Err(refusal) => println!("{name}: refusal {}", refusal.number),
+            Ok((rows, pool)) if rows == house.rows && pool == house.pool => println!("{name}: the same rows and pool"),
+            Ok(_) => println!("{name}: OTHER ROWS OR POOL"),
+        }
+    }
+    Ok(())
+}
+
 fn write_house(spring: &Table, house: &Value) -> Result<(), Fault> {
     let text = need("writing", spring.write(house))?;
     println!("\nwritten again: {} bytes\n{}", text.len(), String::from_utf8(text)?);
@@ -132,6 +153,8 @@ fn main() -> Result<(), Fault> {
     println!("spring.hex: a good type table of {} rows", spring.types.len() / TYPE_FIELDS);
     let house = read_house(folder, &spring)?;
     read_senders(folder, &spring, &house)?;
+    read_at_once(folder, &spring, &house, 3)?;
+    read_at_once(folder, &spring, &house, 2)?;
     write_house(&spring, &house)?;
     refuse_texts(folder, &spring)?;
     refuse_calls(&spring, &house);

@@ -11,6 +11,7 @@ use Rattle.jer.specs.declared.Refusal.the-variants.{AtByte, AtRow, Amounts}
 use Rattle.jer.specs.declared.Judged.{Judged}
 use Rattle.jer.specs.declared.Reading.{Reading}
 use Rattle.jer.specs.declared.Reading.the-variants as reading
+use Rattle.jer.specs.declared.Readings.{Readings}
 use Rattle.jer.specs.declared.Writing.{Writing}
 use Rattle.jer.specs.declared.Writing.the-variants as writing
 use Rattle.jer.specs.Table.{Table}
@@ -18,8 +19,8 @@ use Rattle.jer.specs.Answer.{valuesOf}
 use Rattle.jer.specs.Contracts.{ReadCall, WriteCall}
 use Rattle.jer.proofs.MeansReads.{cause-range}
 use Rattle.promises.proofs.Outcomes.{read-untouched, write-untouched}
-use Rattle.promises.proofs.Demand1.{table-determined, read-determined, write-determined}
-use Rattle.capi.specs.Answers.{ofTable, ofReading, ofWriting, amountsBy, TableFromC, ReadFromC, WriteFromC}
+use Rattle.promises.proofs.Demand1.{table-determined, read-determined, each-determined, write-determined}
+use Rattle.capi.specs.Answers.{ofTable, ofReading, ofReadings, ofWriting, amountsBy, TableFromC, ReadFromC, EachFromC, WriteFromC}
 
 pub table-from-c : {t : Table} {amounts : List ℕ} {r u : ℕ} {a b : List ℕ} → TableFromC t amounts r a → TableFromC t amounts u b → (r ≡ u) × (a ≡ b)
 table-from-c {t} {amounts} x y =
@@ -32,6 +33,13 @@ read-from-c {amounts = amounts} x y =
     let same = read-determined (x .call) (y .call) in
     let is = same .0 in
     (x .number ∙ ap (λ (z : Reading). (ofReading z) .number) is ∙ sym (y .number), same .1, same .2, x .told ∙ ap (λ (z : Reading). amountsBy amounts (ofReading z)) is ∙ sym (y .told))
+
+pub each-from-c : {t : Table} {texts ends rows pool tells amounts : List ℕ} {r u : ℕ} {a b c d e f g h : List ℕ} → EachFromC t texts ends rows pool tells amounts r a b c d
+    → EachFromC t texts ends rows pool tells amounts u e f g h → (r ≡ u) × (a ≡ e) × (b ≡ f) × (c ≡ g) × (d ≡ h)
+each-from-c {amounts = amounts} x y =
+    let same = each-determined (x .call) (y .call) in
+    let is = same .0 in
+    (x .number ∙ ap (λ (z : Readings). (ofReadings z) .number) is ∙ sym (y .number), same .1, same .2, same .3, x .told ∙ ap (λ (z : Readings). amountsBy amounts (ofReadings z)) is ∙ sym (y .told))
 
 pub write-from-c : {t : Table} {ns pool text amounts : List ℕ} {r u : ℕ} {a b c d : List ℕ} → WriteFromC t ns pool text amounts r a b → WriteFromC t ns pool text amounts u c d
     → (r ≡ u) × (a ≡ c) × (b ≡ d)

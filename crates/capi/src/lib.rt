@@ -10,7 +10,6 @@ use reading::each::read_each;
 ghost use mathlib.Core.Path.{_≡_};
 ghost use Rattle.jer.specs.Answer.{valuesOf};
 ghost use Rattle.jer.specs.Table.{table};
-ghost use Rattle.slices.specs.Lent.{tableIn, before, after};
 ghost use Rattle.capi.specs.Answers.{amountsAfter, amountsBy, TableFromC, ReadFromC, EachFromC, WriteFromC};
 
 // Stores two amounts, if there is room for both.
@@ -80,7 +79,7 @@ pub extern "C" fn attrywind_read_each(
     tells: &mut [u64],
     amounts: &mut [u64],
 ) -> u32
-    ensures { λ r. ⌜ EachFromC (tableIn types names) (before texts) (before ends) (before rows) (before pool) (before tells) (before amounts) r (after rows) (after pool) (after tells) (after amounts) ⌝ }
+    ensures { λ r. ⌜ EachFromC (table (now (types .entry)) (now (names .entry))) (now (texts .entry)) (now (ends .entry)) (now (rows .entry)) (now (pool .entry)) (now (tells .entry)) (now (amounts .entry)) r (now (rows .exit)) (now (pool .exit)) (now (tells .exit)) (now (amounts .exit)) ⌝ }
 {
     match read_each(types, names, texts, ends, rows, pool, tells) {
         Readings::Refused(e) => refused(amounts, e),

@@ -156,7 +156,7 @@ pub fn read_each(
     pool: &mut [u8],
     tells: &mut [u64],
 ) -> Readings
-    ensures { λ r. ⌜ EachCall (tableIn types names) (before texts) (before ends) (before rows) (before pool) (before tells) r (after rows) (after pool) (after tells) ⌝ }
+    ensures { λ r. ⌜ EachCall (table (now (types .entry)) (now (names .entry))) (now (texts .entry)) (now (ends .entry)) (now (rows .entry)) (now (pool .entry)) (now (tells .entry)) r (now (rows .exit)) (now (pool .exit)) (now (tells .exit)) ⌝ }
 {
     match types::check(types, names) {
         Judged::Refused(e) => Readings::Refused(e),
