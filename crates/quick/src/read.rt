@@ -57,12 +57,12 @@ fn middle(types: &[u32], names: &[u8], s: &[u8], rows: &mut [u32], pool: &mut [u
     over(types, names, s, &mut tape, rows, pool)
 }
 
-// Over a tape of 128 KB.
+// Over a tape of 96,000 bytes.
 fn large(types: &[u32], names: &[u8], s: &[u8], rows: &mut [u32], pool: &mut [u8]) -> Reply
     requires { ⌜ TableCall (table (now types) (now names)) judged.Good × (length (now s) ≤ 65536) ⌝ }
     ensures { λ r. ⌜ Replied (table (now (types .entry)) (now (names .entry))) (now (s .entry)) (now (rows .entry)) (now (pool .entry)) r (now (rows .exit)) (now (pool .exit)) ⌝ }
 {
-    let mut tape = [0u32; 32768];
+    let mut tape = [0u32; 24000];
     over(types, names, s, &mut tape, rows, pool)
 }
 
