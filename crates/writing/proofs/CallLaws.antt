@@ -26,10 +26,11 @@ use Rattle.jer.specs.Write.{write}
 use Rattle.jer.specs.Calls.{tableOf, goodTable, judgedBy, tableJudged, over, writeText, amount, writeAnswer, textAfter}
 use Rattle.jer.proofs.ValidSane.{valid-sane}
 use Rattle.octets.proofs.AmountLaws.{amount-within}
-use Rattle.writing.specs.declared.taken.Taken.{Taken}
-use Rattle.writing.specs.Text.{Puts, valueText, Stored, Writes, Wrapped, valueWritten, Answers}
-use Rattle.writing.proofs.PutLaws.{fits}
-use Rattle.writing.proofs.TextLaws.{Value, NoValue, text-of}
+use Rattle.written.specs.declared.taken.Taken.{Taken}
+use Rattle.written.specs.Text.{Puts, valueText, Stored, Writes, Wrapped}
+use Rattle.written.proofs.PutLaws.{fits}
+use Rattle.written.proofs.TextLaws.{Value, NoValue, text-of}
+use Rattle.writing.specs.Call.{valueWritten, Answers}
 
 -- ---- 1
 

@@ -1,23 +1,17 @@
-// The text of a value: the value table judged and written in one walk, which is made twice, to measure and to store.
-// The contract of `write` is `jer`'s Contracts.antt; of the calls inside, what they store and answer (specs/Text.antt).
-mod rows; // rows.rt: the rows of the value table
-mod taken; // taken.rt: what one value answers
-mod put; // put.rt: pieces of text, from a place on
-mod leaf; // leaf.rt: a value of one row
-mod value; // value.rt: a value of any type
-
+// The call that writes: type table and value table judged, the text measured, and stored in the text that is lent.
 use jer::Judged;
 use jer::Limit;
 use jer::Refusal;
 use jer::Which;
 use jer::Writing;
-use taken::Taken;
 use types::check;
-use value::judged;
-use value::value;
+use written::taken::Taken;
+use written::value::judged;
+use written::value::value;
 ghost use Rattle.jer.specs.Contracts.{WriteCall};
 ghost use Rattle.jer.specs.Table.{table};
-ghost use Rattle.writing.specs.Text.{Wrapped, valueWritten, Answers};
+ghost use Rattle.written.specs.Text.{Wrapped};
+ghost use Rattle.writing.specs.Call.{valueWritten, Answers};
 
 // The one text of the value table, stored from the start of `text`. A refusal leaves it as it was.
 pub fn write(types: &[u32], names: &[u8], values: &[u32], pool: &[u8], text: &mut [u8]) -> Writing

@@ -1,10 +1,10 @@
--- Made by tools/answers.py from answers/write_value.ans: edit that. 37b15d0a6e392565
+-- Made by tools/answers.py from answers/write_value.ans: edit that. 73db1297d90e6cbb
 use mathlib.Core.Path.{refl}
 use borrow.Author.Tests.{not-true, not-false}
 use Rattle.jer.specs.Judge.{rowsIn}
 use Rattle.jer.specs.Write.{write}
 use Rattle.jer.specs.Table.{table}
-use Rattle.writing.proofs.TextLaws.{value-got, value-wrong}
+use Rattle.written.proofs.TextLaws.{value-got, value-wrong}
 use Rattle.writing.proofs.CallLaws.{answers-as, refuses, too-long, too-small, written, value-bad, left-over, all-taken, end-of, stored-again}
 use borrow.Author.Needs.{needs}
 use Rattle.writing.proofs.write_value.Statement.{statement}

@@ -1,0 +1,19 @@
+-- The call, once the type table is good.
+use Prim.Native.Nat.{ℕ}
+use mathlib.Core.Path.{_≡_}
+use mathlib.Core.List.{List}
+use lib.ListN.{length}
+use Rattle.jer.specs.Table.{Table}
+use Rattle.jer.specs.Judge.{judge}
+use Rattle.jer.specs.Write.{write}
+use Rattle.jer.specs.Answer.{Res, ok, bind}
+use Rattle.jer.specs.Calls.{writeAnswer, textAfter}
+use Rattle.jer.specs.declared.Writing.{Writing}
+
+unfoldable pub valueWritten : Table → List ℕ → List ℕ → Res (List ℕ)
+valueWritten t ns pool = bind (judge t ns pool) (λ v. ok (write v t 0))
+
+-- what `jer` says of a written text: the answer a, and the lent text, before and after
+pub record Answers (x : Res (List ℕ)) (text₀ text₁ : List ℕ) (a : Writing) : Type 0 where
+  pub answer : a ≡ writeAnswer (length text₀) x
+  pub text : text₁ ≡ textAfter text₀ x

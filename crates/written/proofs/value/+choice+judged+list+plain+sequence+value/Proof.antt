@@ -1,0 +1,800 @@
+-- Made by tools/answers.py from answers/value/+choice+judged+list+plain+sequence+value.ans: edit that. 4bcf2a297c433f75
+use Prim.Native.Nat.{ℕ, _<_, _+_, _-_, _*_}
+use mathlib.Core.Path.{_≡_, refl, sym, ap, _∙_}
+use native.Mathlib.Omega.{arith}
+use lib.ListN.{length, drop}
+use borrow.Author.Tests.{not-true, not-false}
+use Rattle.jer.specs.Table.{elementOf, countOf, isUnwrapped, table}
+use Rattle.jer.specs.Judge.{rowsIn}
+use Rattle.written.specs.Rows.{valueRow}
+use Rattle.written.proofs.TextLaws.{gives-wrong, writes-is, writes-as, writes-none, value-got, value-wrong}
+use Rattle.written.proofs.ListLaws.{Items, items-start, items-next, items-wrong, items-end}
+use Rattle.written.proofs.SequenceLaws.{Members, null-is, members-start, members-absent, members-null, members-part, members-wrong, members-end}
+use Rattle.written.proofs.ValueLaws.{right-is, text-none, row-text, plain-other, plain-deep, plain-b, plain-kind, plain-position, plain-seq, plain-list, plain-choice, choice-ends, choice-wrong, unwrapped-bad, chosen-plain, unwrapped-ends, unwrapped-wrong}
+use borrow.Author.Needs.{needs}
+use borrow.Fn.Kinds.{In}
+use borrow.Fn.PlainCycle.{Measures, is, falls, and}
+use Rattle.written.proofs.value.choice.Reads as choice
+use Rattle.written.proofs.value.choice.Kinds as choice-kinds
+use Rattle.written.proofs.value.+choice+judged+list+plain+sequence+value.Lts-choice as choice-lts
+use Rattle.written.proofs.value.judged.Reads as judged
+use Rattle.written.proofs.value.judged.Kinds as judged-kinds
+use Rattle.written.proofs.value.+choice+judged+list+plain+sequence+value.Lts-judged as judged-lts
+use Rattle.written.proofs.value.list.Reads as list
+use Rattle.written.proofs.value.list.Kinds as list-kinds
+use Rattle.written.proofs.value.+choice+judged+list+plain+sequence+value.Lts-list as list-lts
+use Rattle.written.proofs.value.plain.Reads as plain
+use Rattle.written.proofs.value.plain.Kinds as plain-kinds
+use Rattle.written.proofs.value.+choice+judged+list+plain+sequence+value.Lts-plain as plain-lts
+use Rattle.written.proofs.value.sequence.Reads as sequence
+use Rattle.written.proofs.value.sequence.Kinds as sequence-kinds
+use Rattle.written.proofs.value.+choice+judged+list+plain+sequence+value.Lts-sequence as sequence-lts
+use Rattle.written.proofs.value.value.Reads as value
+use Rattle.written.proofs.value.value.Kinds as value-kinds
+use Rattle.written.proofs.value.+choice+judged+list+plain+sequence+value.Lts-value as value-lts
+use Rattle.types.proofs.row.Row.at.Reads as at-reads
+use Rattle.types.proofs.row.Row.is_array.Reads as is-array-reads
+use Rattle.types.proofs.row.Row.is_unwrapped.Reads as is-unwrapped-reads
+use Rattle.types.proofs.row.count_of.Reads as count-of-reads
+use Rattle.types.proofs.row.element_of.Reads as element-of-reads
+use Rattle.types.proofs.row.kind_of.Reads as kind-of-reads
+use Rattle.types.proofs.row.member_row.Reads as member-row-reads
+use Rattle.types.proofs.row.name_in.Reads as name-in-reads
+use Rattle.types.proofs.row.type_at.Reads as type-at-reads
+use Rattle.written.proofs.leaf.leaf.Reads as leaf-reads
+use Rattle.written.proofs.put.kept_after.Reads as kept-after-reads
+use Rattle.written.proofs.put.put_byte.Reads as put-byte-reads
+use Rattle.written.proofs.put.put_closing.Reads as put-closing-reads
+use Rattle.written.proofs.put.put_comma.Reads as put-comma-reads
+use Rattle.written.proofs.put.put_lead.Reads as put-lead-reads
+use Rattle.written.proofs.put.put_name.Reads as put-name-reads
+use Rattle.written.proofs.put.put_opening.Reads as put-opening-reads
+use Rattle.written.proofs.rows.absent_at.Reads as absent-at-reads
+use Rattle.written.proofs.rows.null_at.Reads as null-at-reads
+use Rattle.written.proofs.rows.row_at.Reads as row-at-reads
+use Rattle.written.proofs.taken.ended.Reads as ended-reads
+use Rattle.written.proofs.value.+choice+judged+list+plain+sequence+value.{statement}
+use Rattle.written.proofs.value.+choice+judged+list+plain+sequence+value.Tie.{close}
+
+abbrev μ-choice : Measures 5 choice-kinds.ps ℕ
+μ-choice κs a = a .1 .1 .1 .1 .1 .1 .1 .1 .1 .1 .0 * 4 + 3
+
+abbrev μ-judged : Measures 4 judged-kinds.ps ℕ
+μ-judged κs a = a .1 .1 .1 .1 .1 .1 .1 .0 * 4 + 2
+
+abbrev μ-list : Measures 5 list-kinds.ps ℕ
+μ-list κs a = a .1 .1 .1 .1 .1 .1 .1 .1 .1 .1 .0 * 4 + 3
+
+abbrev μ-plain : Measures 5 plain-kinds.ps ℕ
+μ-plain κs a = a .1 .1 .1 .1 .1 .1 .1 .1 .1 .0 * 4
+
+abbrev μ-sequence : Measures 5 sequence-kinds.ps ℕ
+μ-sequence κs a = a .1 .1 .1 .1 .1 .1 .1 .1 .1 .1 .0 * 4 + 3
+
+abbrev μ-value : Measures 5 value-kinds.ps ℕ
+μ-value κs a = a .1 .1 .1 .1 .1 .1 .1 .1 .1 .0 * 4 + 1
+
+abbrev choice-at : ℕ → In 5 choice-kinds.ps
+choice-at t = and 5 choice-kinds.ps (is 5 choice-kinds.ps μ-choice t) choice.Pre
+
+abbrev choice-below : ℕ → In 5 choice-kinds.ps
+choice-below t = and 5 choice-kinds.ps (falls 5 choice-kinds.ps _<_ μ-choice t) choice.Pre
+
+abbrev judged-at : ℕ → In 4 judged-kinds.ps
+judged-at t = and 4 judged-kinds.ps (is 4 judged-kinds.ps μ-judged t) judged.Pre
+
+abbrev judged-below : ℕ → In 4 judged-kinds.ps
+judged-below t = and 4 judged-kinds.ps (falls 4 judged-kinds.ps _<_ μ-judged t) judged.Pre
+
+abbrev list-at : ℕ → In 5 list-kinds.ps
+list-at t = and 5 list-kinds.ps (is 5 list-kinds.ps μ-list t) list.Pre
+
+abbrev list-below : ℕ → In 5 list-kinds.ps
+list-below t = and 5 list-kinds.ps (falls 5 list-kinds.ps _<_ μ-list t) list.Pre
+
+abbrev plain-at : ℕ → In 5 plain-kinds.ps
+plain-at t = and 5 plain-kinds.ps (is 5 plain-kinds.ps μ-plain t) plain.Pre
+
+abbrev plain-below : ℕ → In 5 plain-kinds.ps
+plain-below t = and 5 plain-kinds.ps (falls 5 plain-kinds.ps _<_ μ-plain t) plain.Pre
+
+abbrev sequence-at : ℕ → In 5 sequence-kinds.ps
+sequence-at t = and 5 sequence-kinds.ps (is 5 sequence-kinds.ps μ-sequence t) sequence.Pre
+
+abbrev sequence-below : ℕ → In 5 sequence-kinds.ps
+sequence-below t = and 5 sequence-kinds.ps (falls 5 sequence-kinds.ps _<_ μ-sequence t) sequence.Pre
+
+abbrev value-at : ℕ → In 5 value-kinds.ps
+value-at t = and 5 value-kinds.ps (is 5 value-kinds.ps μ-value t) value.Pre
+
+abbrev value-below : ℕ → In 5 value-kinds.ps
+value-below t = and 5 value-kinds.ps (falls 5 value-kinds.ps _<_ μ-value t) value.Pre
+
+abbrev choice-calls : ℕ → choice-lts.Claims
+choice-calls t = (put-byte-reads.Asked, put-byte-reads.Learnt, member-row-reads.Asked, member-row-reads.Learnt, name-in-reads.Asked, name-in-reads.Learnt, put-name-reads.Asked, put-name-reads.Learnt, type-at-reads.Asked, type-at-reads.Learnt, value-below t, value.Post, ended-reads.Asked, ended-reads.Learnt)
+
+abbrev judged-calls : ℕ → judged-lts.Claims
+judged-calls t = (value-below t, value.Post)
+
+abbrev list-calls : ℕ → list-lts.Claims
+list-calls t = (element-of-reads.Asked, element-of-reads.Learnt, put-byte-reads.Asked, put-byte-reads.Learnt, put-comma-reads.Asked, put-comma-reads.Learnt, value-below t, value.Post, ended-reads.Asked, ended-reads.Learnt)
+
+abbrev plain-calls : ℕ → plain-lts.Claims
+plain-calls t = (row-at-reads.Asked, row-at-reads.Learnt, kind-of-reads.Asked, kind-of-reads.Learnt, leaf-reads.Asked, leaf-reads.Learnt, sequence-below t, sequence.Post, list-below t, list.Post, count-of-reads.Asked, count-of-reads.Learnt, choice-below t, choice.Post)
+
+abbrev sequence-calls : ℕ → sequence-lts.Claims
+sequence-calls t = (at-reads.Asked, at-reads.Learnt, is-array-reads.Asked, is-array-reads.Learnt, count-of-reads.Asked, count-of-reads.Learnt, put-opening-reads.Asked, put-opening-reads.Learnt, type-at-reads.Asked, type-at-reads.Learnt, absent-at-reads.Asked, absent-at-reads.Learnt, null-at-reads.Asked, null-at-reads.Learnt, judged-below t, judged.Post, put-lead-reads.Asked, put-lead-reads.Learnt, value-below t, value.Post, kept-after-reads.Asked, kept-after-reads.Learnt, put-closing-reads.Asked, put-closing-reads.Learnt, ended-reads.Asked, ended-reads.Learnt)
+
+abbrev value-calls : ℕ → value-lts.Claims
+value-calls t = (at-reads.Asked, at-reads.Learnt, is-unwrapped-reads.Asked, is-unwrapped-reads.Learnt, plain-below t, plain.Post, row-at-reads.Asked, row-at-reads.Learnt, count-of-reads.Asked, count-of-reads.Learnt, type-at-reads.Asked, type-at-reads.Learnt, ended-reads.Asked, ended-reads.Learnt)
+
+choice-put-byte-requires : (t : ℕ) → choice-lts.Need-put-byte-requires (choice-calls t) (choice-at t) choice.Post
+choice-put-byte-requires t c κs = search needs
+
+choice-member-row-requires : (t : ℕ) → choice-lts.Need-member-row-requires (choice-calls t) (choice-at t) choice.Post
+choice-member-row-requires t c κs = search needs
+
+choice-name-in-requires : (t : ℕ) → choice-lts.Need-name-in-requires (choice-calls t) (choice-at t) choice.Post
+choice-name-in-requires t c κs = search needs
+
+choice-put-name-requires : (t : ℕ) → choice-lts.Need-put-name-requires (choice-calls t) (choice-at t) choice.Post
+choice-put-name-requires t c κs = search needs
+
+choice-type-at-requires : (t : ℕ) → choice-lts.Need-type-at-requires (choice-calls t) (choice-at t) choice.Post
+choice-type-at-requires t c κs = search needs
+
+choice-add-value : (t : ℕ) → choice-lts.Need-add-value (choice-calls t) (choice-at t) choice.Post
+choice-add-value t c = search needs
+
+choice-value-requires : (t : ℕ) → choice-lts.Need-value-requires (choice-calls t) (choice-at t) choice.Post
+choice-value-requires t c κs = search needs
+
+choice-enum-known-b : (t : ℕ) → choice-lts.Need-enum-known-b (choice-calls t) (choice-at t) choice.Post
+choice-enum-known-b t c = search needs
+
+choice-enum-known-next : (t : ℕ) → choice-lts.Need-enum-known-next (choice-calls t) (choice-at t) choice.Post
+choice-enum-known-next t c = search needs
+
+choice-put-byte-requires-2 : (t : ℕ) → choice-lts.Need-put-byte-requires-2 (choice-calls t) (choice-at t) choice.Post
+choice-put-byte-requires-2 t c κs = search needs
+
+choice-ended-requires : (t : ℕ) → choice-lts.Need-ended-requires (choice-calls t) (choice-at t) choice.Post
+choice-ended-requires t c κs = search needs
+
+choice-same-length : (t : ℕ) → choice-lts.Need-same-length (choice-calls t) (choice-at t) choice.Post
+choice-same-length t c = search needs
+
+choice-returns : (t : ℕ) → choice-lts.Need-returns (choice-calls t) (choice-at t) choice.Post
+choice-returns t c =
+    let a = c .before .before .before .before .before .before .before .before .before .before .before .before .before .before .before .before .before .before .before .before .before .before .before .args in
+    let rows = rowsIn (a .values .now) in
+    gives-wrong (choice-wrong _ _ _ rows _ (a .slot) _ (valueRow (a .w)) (value-wrong rows (c .before .before .before .before .before .before .before .type-at .ensures (a .names .now)) (a .slot + 1) (c .before .before .before .before .before .value .ensures) (c .before .b .given .1)))
+
+choice-same-length-2 : (t : ℕ) → choice-lts.Need-same-length-2 (choice-calls t) (choice-at t) choice.Post
+choice-same-length-2 t c = omega (arith, c .before .before .before .put-byte2 .kept .0, c .before .before .before .before .before .before .before .before .before .before .value .kept .1 .1 .1 .1 .0, c .before .before .before .before .before .before .before .before .before .before .before .before .before .before .before .put-name .kept .0, c .before .before .before .before .before .before .before .before .before .before .before .before .before .before .before .before .before .before .before .before .before .put-byte .kept .0)
+
+choice-returns-2 : (t : ℕ) → choice-lts.Need-returns-2 (choice-calls t) (choice-at t) choice.Post
+choice-returns-2 t c =
+    let a = c .before .before .before .before .before .before .before .before .before .before .before .before .before .before .before .before .before .before .before .before .before .before .before .before .before .before .before .before .args in
+    let rows = rowsIn (a .values .now) in
+    let v = value-got rows (c .before .before .before .before .before .before .before .before .before .before .before .before .type-at .ensures (a .names .now)) (a .slot + 1) (c .before .before .before .before .before .before .before .before .before .before .value .ensures) (c .before .before .before .before .before .before .next .given .1) in
+    writes-is (c .ended .ensures) (choice-ends _ _ _ rows _ (a .slot) _ (valueRow (a .w)) (c .before .before .before .before .before .before .before .before .before .before .before .before .before .before .before .before .before .before .before .before .before .before .before .before .before .before .before .before .pre .1 .2) (c .before .before .before .before .before .before .before .before .before .before .before .before .before .before .before .before .before .before .before .before .before .put-byte .ensures) (c .before .before .before .before .before .before .before .before .before .before .before .before .before .before .before .before .before .member-row .ensures (a .names .now)) (c .before .before .before .before .before .before .before .before .before .before .before .before .before .before .before .before .name-in .ensures) (c .before .before .before .before .before .before .before .before .before .before .before .before .before .before .before .put-name .ensures) v (c .before .before .before .put-byte2 .ensures))
+
+judged-slice-aggregate-value : (t : ℕ) → judged-lts.Need-slice-aggregate-value (judged-calls t) (judged-at t) judged.Post
+judged-slice-aggregate-value t c = search needs
+
+judged-value-requires : (t : ℕ) → judged-lts.Need-value-requires (judged-calls t) (judged-at t) judged.Post
+judged-value-requires t c κs = (omega arith, c .before .before .before .before .before .pre .1)
+
+judged-returns : (t : ℕ) → judged-lts.Need-returns (judged-calls t) (judged-at t) judged.Post
+judged-returns t c = writes-none (c .before .value .ensures)
+
+abbrev list-Inv-loop : list-lts.InvT-loop
+list-Inv-loop types names values pool text₀ w row slot offset place depth e i₀ next₀ used₀ p₀ text i next used p = (e ≡ elementOf (table types names) row) × (length text ≡ length text₀) × Items depth (table types names) pool (rowsIn values) (valueRow w) row slot offset p₀ text₀ text i next used p
+
+abbrev list-μ-loop : list-lts.MeasureT-loop
+list-μ-loop types names values pool text₀ w row slot offset place depth e i₀ next₀ used₀ p₀ text i next used p = w .a - i
+
+list-element-of-requires : (t : ℕ) → list-lts.Need-element-of-requires (list-calls t) (list-at t) list.Post list-Inv-loop list-μ-loop
+list-element-of-requires t c κs = search needs
+
+list-add-next : (t : ℕ) → list-lts.Need-add-next (list-calls t) (list-at t) list.Post list-Inv-loop list-μ-loop
+list-add-next t c = search needs
+
+list-put-byte-requires : (t : ℕ) → list-lts.Need-put-byte-requires (list-calls t) (list-at t) list.Post list-Inv-loop list-μ-loop
+list-put-byte-requires t c κs = search needs
+
+list-loop-holds : (t : ℕ) → list-lts.Need-loop-holds (list-calls t) (list-at t) list.Post list-Inv-loop list-μ-loop
+list-loop-holds t c =
+    let a = c .before .before .before .before .before .before .before .before .before .before .args in
+    (c .before .before .before .before .element-of .ensures (a .names .now), refl, items-start (omega arith))
+
+list-put-comma-requires : (t : ℕ) → list-lts.Need-put-comma-requires (list-calls t) (list-at t) list.Post list-Inv-loop list-μ-loop
+list-put-comma-requires t c κs = search needs
+
+list-value-requires : (t : ℕ) → list-lts.Need-value-requires (list-calls t) (list-at t) list.Post list-Inv-loop list-μ-loop
+list-value-requires t c κs = search needs
+
+list-enum-known-b : (t : ℕ) → list-lts.Need-enum-known-b (list-calls t) (list-at t) list.Post list-Inv-loop list-μ-loop
+list-enum-known-b t c = search needs
+
+list-same-length : (t : ℕ) → list-lts.Need-same-length (list-calls t) (list-at t) list.Post list-Inv-loop list-μ-loop
+list-same-length t c = search needs
+
+list-returns : (t : ℕ) → list-lts.Need-returns (list-calls t) (list-at t) list.Post list-Inv-loop list-μ-loop
+list-returns t c =
+    let a = c .before .before .before .before .before .before .before .before .before .before .before .before .before .before .before .before .before .before .before .before .before .before .before .before .args in
+    let inv = c .before .before .before .before .before .before .before .before .before .before .before .before .before .loop .inv in
+    gives-wrong (items-wrong (inv .2) (c .before .before .before .before .before .before .before .before .before .before .before .if1 .taken) (value-wrong (rowsIn (a .values .now)) (inv .0) (c .before .before .before .before .before .before .before .before .before .before .before .before .before .loop .next) (c .before .before .before .before .before .value .ensures) (c .before .b .given .1)))
+
+list-enum-known-n : (t : ℕ) → list-lts.Need-enum-known-n (list-calls t) (list-at t) list.Post list-Inv-loop list-μ-loop
+list-enum-known-n t c = search needs
+
+list-add-i : (t : ℕ) → list-lts.Need-add-i (list-calls t) (list-at t) list.Post list-Inv-loop list-μ-loop
+list-add-i t c = omega (arith, c .before .before .before .before .before .before .before .before .before .before .before .if1 .taken)
+
+list-loop-less : (t : ℕ) → list-lts.Need-loop-less (list-calls t) (list-at t) list.Post list-Inv-loop list-μ-loop
+list-loop-less t c = search needs
+
+list-loop-again : (t : ℕ) → list-lts.Need-loop-again (list-calls t) (list-at t) list.Post list-Inv-loop list-μ-loop
+list-loop-again t c =
+    let a = c .before .before .before .before .before .before .before .before .before .before .before .before .before .before .before .before .before .before .before .before .before .before .before .before .args in
+    let inv = c .before .before .before .before .before .before .before .before .before .before .before .before .before .loop .inv in
+    let v = value-got (rowsIn (a .values .now)) (inv .0) (c .before .before .before .before .before .before .before .before .before .before .before .before .before .loop .next) (c .before .before .before .before .before .value .ensures) (c .before .n .given .1) in
+    (inv .0, search needs, items-next (inv .2) (c .before .before .before .before .before .before .before .before .before .before .before .if1 .taken) (c .before .before .before .before .before .before .before .before .before .put-comma .ensures) v)
+
+list-put-byte-requires-2 : (t : ℕ) → list-lts.Need-put-byte-requires-2 (list-calls t) (list-at t) list.Post list-Inv-loop list-μ-loop
+list-put-byte-requires-2 t c κs = search needs
+
+list-ended-requires : (t : ℕ) → list-lts.Need-ended-requires (list-calls t) (list-at t) list.Post list-Inv-loop list-μ-loop
+list-ended-requires t c κs = search needs
+
+list-same-length-2 : (t : ℕ) → list-lts.Need-same-length-2 (list-calls t) (list-at t) list.Post list-Inv-loop list-μ-loop
+list-same-length-2 t c = search needs
+
+list-returns-2 : (t : ℕ) → list-lts.Need-returns-2 (list-calls t) (list-at t) list.Post list-Inv-loop list-μ-loop
+list-returns-2 t c =
+    let inv = c .before .before .before .before .before .before .before .loop .inv in
+    writes-is (c .ended .ensures) (items-end (inv .2) (c .before .before .before .before .before .if1 .left) (c .before .before .before .before .before .before .before .before .before .before .put-byte .ensures) (c .before .before .before .put-byte2 .ensures))
+
+plain-row-at-requires : (t : ℕ) → plain-lts.Need-row-at-requires (plain-calls t) (plain-at t) plain.Post
+plain-row-at-requires t c κs = search needs
+
+plain-enum-known-w : (t : ℕ) → plain-lts.Need-enum-known-w (plain-calls t) (plain-at t) plain.Post
+plain-enum-known-w t c = search needs
+
+plain-enum-told : (t : ℕ) → plain-lts.Need-enum-told (plain-calls t) (plain-at t) plain.Post
+plain-enum-told t c = search needs
+
+plain-returns : (t : ℕ) → plain-lts.Need-returns (plain-calls t) (plain-at t) plain.Post
+plain-returns t c =
+    let a = c .before .before .before .before .before .before .before .before .args in
+    gives-wrong (text-none _ _ _ _ (a .slot) _ (rw (c .enum-told .given .1) at (c .before .before .row-at .ensures)))
+
+plain-kind-of-requires : (t : ℕ) → plain-lts.Need-kind-of-requires (plain-calls t) (plain-at t) plain.Post
+plain-kind-of-requires t c κs = search needs
+
+plain-returns-2 : (t : ℕ) → plain-lts.Need-returns-2 (plain-calls t) (plain-at t) plain.Post
+plain-returns-2 t c =
+    let a = c .before .before .before .before .before .before .before .before .before .before .before .args in
+    let t = table (a .types .now) (a .names .now) in
+    let w = c .before .before .before .w .given .0 .0 in
+    let found = rw (c .before .before .before .w .given .1) at (c .before .before .before .before .before .row-at .ensures) in
+    let kind = (c .before .kind-of .ensures (a .names .now)) in
+    gives-wrong (plain-other (a .depth) t (a .pool .now) (a .row) (w .kind) (w .a) (w .b) (w .size) (a .slot) (a .offset) (c .before .before .before .before .before .before .before .before .before .before .before .pre .1 .1) (found .0) (λ e. c .if1 .taken (e ∙ sym kind)))
+
+plain-leaf-requires : (t : ℕ) → plain-lts.Need-leaf-requires (plain-calls t) (plain-at t) plain.Post
+plain-leaf-requires t c κs =
+    let a = c .before .before .before .before .before .before .before .before .before .before .before .before .before .args in
+    let t = table (a .types .now) (a .names .now) in
+    let w = c .before .before .before .before .before .w .given .0 .0 in
+    let found = rw (c .before .before .before .before .before .w .given .1) at (c .before .before .before .before .before .before .before .row-at .ensures) in
+    let kind = (c .before .before .before .kind-of .ensures (a .names .now)) in
+    (c .before .before .if1 .left ∙ kind, omega (arith, c .before .if2 .taken), found .2)
+
+plain-same-length : (t : ℕ) → plain-lts.Need-same-length (plain-calls t) (plain-at t) plain.Post
+plain-same-length t c = search needs
+
+plain-returns-3 : (t : ℕ) → plain-lts.Need-returns-3 (plain-calls t) (plain-at t) plain.Post
+plain-returns-3 t c =
+    let a = c .before .before .before .before .before .before .before .before .before .before .before .before .before .before .before .before .args in
+    let t = table (a .types .now) (a .names .now) in
+    let w = c .before .before .before .before .before .before .before .before .w .given .0 .0 in
+    let found = rw (c .before .before .before .before .before .before .before .before .w .given .1) at (c .before .before .before .before .before .before .before .before .before .before .row-at .ensures) in
+    writes-as (row-text (a .depth) t (a .pool .now) (a .row) (w .kind) (w .a) (w .b) (w .size) (a .slot) (a .offset) (c .before .before .before .before .before .before .before .before .before .before .before .before .before .before .before .before .pre .1 .1) (found .0)) (c .before .before .leaf .ensures _ _)
+
+plain-returns-4 : (t : ℕ) → plain-lts.Need-returns-4 (plain-calls t) (plain-at t) plain.Post
+plain-returns-4 t c =
+    let a = c .before .before .before .before .before .before .before .before .before .before .before .before .before .args in
+    let t = table (a .types .now) (a .names .now) in
+    let w = c .before .before .before .before .before .w .given .0 .0 in
+    let found = rw (c .before .before .before .before .before .w .given .1) at (c .before .before .before .before .before .before .before .row-at .ensures) in
+    gives-wrong (plain-deep (a .depth) t (a .pool .now) (a .row) (w .kind) (w .a) (w .b) (w .size) (a .slot) (a .offset) (c .before .before .before .before .before .before .before .before .before .before .before .before .before .pre .1 .1) (found .0) (c .before .if2 .left) (c .if3 .taken))
+
+plain-returns-5 : (t : ℕ) → plain-lts.Need-returns-5 (plain-calls t) (plain-at t) plain.Post
+plain-returns-5 t c =
+    let a = c .before .before .before .before .before .before .before .before .before .before .before .before .before .before .before .args in
+    let t = table (a .types .now) (a .names .now) in
+    let w = c .before .before .before .before .before .before .before .w .given .0 .0 in
+    let found = rw (c .before .before .before .before .before .before .before .w .given .1) at (c .before .before .before .before .before .before .before .before .before .row-at .ensures) in
+    gives-wrong (plain-b (a .depth) t (a .pool .now) (a .row) (w .kind) (w .a) (w .b) (w .size) (a .slot) (a .offset) (c .before .before .before .before .before .before .before .before .before .before .before .before .before .before .before .pre .1 .1) (found .0) (c .before .before .before .if2 .left) (c .if4 .taken))
+
+plain-sub-sequence : (t : ℕ) → plain-lts.Need-sub-sequence (plain-calls t) (plain-at t) plain.Post
+plain-sub-sequence t c = search needs
+
+plain-sequence-requires : (t : ℕ) → plain-lts.Need-sequence-requires (plain-calls t) (plain-at t) plain.Post
+plain-sequence-requires t c κs =
+    let a = c .before .before .before .before .before .before .before .before .before .before .before .before .before .before .before .before .before .args in
+    let t = table (a .types .now) (a .names .now) in
+    let w = c .before .before .before .before .before .before .before .before .before .w .given .0 .0 in
+    let found = rw (c .before .before .before .before .before .before .before .before .before .w .given .1) at (c .before .before .before .before .before .before .before .before .before .before .before .row-at .ensures) in
+    (omega arith, (c .before .before .before .before .before .before .before .before .before .before .before .before .before .before .before .before .before .pre .1 .0, found .1))
+
+plain-same-length-2 : (t : ℕ) → plain-lts.Need-same-length-2 (plain-calls t) (plain-at t) plain.Post
+plain-same-length-2 t c = search needs
+
+plain-returns-6 : (t : ℕ) → plain-lts.Need-returns-6 (plain-calls t) (plain-at t) plain.Post
+plain-returns-6 t c =
+    let a = c .before .before .before .before .before .before .before .before .before .before .before .before .before .before .before .before .before .before .before .before .args in
+    let t = table (a .types .now) (a .names .now) in
+    let w = c .before .before .before .before .before .before .before .before .before .before .before .before .w .given .0 .0 in
+    let found = rw (c .before .before .before .before .before .before .before .before .before .before .before .before .w .given .1) at (c .before .before .before .before .before .before .before .before .before .before .before .before .before .before .row-at .ensures) in
+    let kind = (c .before .before .before .before .before .before .before .before .before .before .kind-of .ensures (a .names .now)) in
+    writes-as (plain-seq (a .depth) t (a .pool .now) (a .row) (w .kind) (w .a) (w .b) (w .size) (a .slot) (a .offset) (c .before .before .before .before .before .before .before .before .before .before .before .before .before .before .before .before .before .before .before .before .pre .1 .1) (found .0) (c .before .before .before .before .before .before .before .if3 .left) (c .before .before .before .before .before .before .before .before .before .if1 .left ∙ kind) (c .before .before .before .before .before .if4 .left) (c .before .before .before .before .if5 .taken)) (c .before .before .sequence .ensures)
+
+plain-sub-list : (t : ℕ) → plain-lts.Need-sub-list (plain-calls t) (plain-at t) plain.Post
+plain-sub-list t c = search needs
+
+plain-list-requires : (t : ℕ) → plain-lts.Need-list-requires (plain-calls t) (plain-at t) plain.Post
+plain-list-requires t c κs =
+    let a = c .before .before .before .before .before .before .before .before .before .before .before .before .before .before .before .before .before .before .args in
+    let t = table (a .types .now) (a .names .now) in
+    let w = c .before .before .before .before .before .before .before .before .before .before .w .given .0 .0 in
+    let found = rw (c .before .before .before .before .before .before .before .before .before .before .w .given .1) at (c .before .before .before .before .before .before .before .before .before .before .before .before .row-at .ensures) in
+    (omega arith, (c .before .before .before .before .before .before .before .before .before .before .before .before .before .before .before .before .before .before .pre .1 .0, found .1))
+
+plain-same-length-3 : (t : ℕ) → plain-lts.Need-same-length-3 (plain-calls t) (plain-at t) plain.Post
+plain-same-length-3 t c = search needs
+
+plain-returns-7 : (t : ℕ) → plain-lts.Need-returns-7 (plain-calls t) (plain-at t) plain.Post
+plain-returns-7 t c =
+    let a = c .before .before .before .before .before .before .before .before .before .before .before .before .before .before .before .before .before .before .before .before .before .args in
+    let t = table (a .types .now) (a .names .now) in
+    let w = c .before .before .before .before .before .before .before .before .before .before .before .before .before .w .given .0 .0 in
+    let found = rw (c .before .before .before .before .before .before .before .before .before .before .before .before .before .w .given .1) at (c .before .before .before .before .before .before .before .before .before .before .before .before .before .before .before .row-at .ensures) in
+    let kind = (c .before .before .before .before .before .before .before .before .before .before .before .kind-of .ensures (a .names .now)) in
+    writes-as (plain-list (a .depth) t (a .pool .now) (a .row) (w .kind) (w .a) (w .b) (w .size) (a .slot) (a .offset) (c .before .before .before .before .before .before .before .before .before .before .before .before .before .before .before .before .before .before .before .before .before .pre .1 .1) (found .0) (c .before .before .before .before .before .before .before .before .if3 .left) (c .before .before .before .before .before .before .before .before .before .before .if1 .left ∙ kind) (c .before .before .before .before .before .before .if4 .left) (c .before .before .before .before .if6 .taken)) (c .before .before .list .ensures)
+
+plain-returns-8 : (t : ℕ) → plain-lts.Need-returns-8 (plain-calls t) (plain-at t) plain.Post
+plain-returns-8 t c =
+    let a = c .before .before .before .before .before .before .before .before .before .before .before .before .before .before .before .before .before .before .args in
+    let t = table (a .types .now) (a .names .now) in
+    let w = c .before .before .before .before .before .before .before .before .before .before .w .given .0 .0 in
+    let found = rw (c .before .before .before .before .before .before .before .before .before .before .w .given .1) at (c .before .before .before .before .before .before .before .before .before .before .before .before .row-at .ensures) in
+    gives-wrong (plain-kind (a .depth) t (a .pool .now) (a .row) (w .kind) (w .a) (w .b) (w .size) (a .slot) (a .offset) (c .before .before .before .before .before .before .before .before .before .before .before .before .before .before .before .before .before .before .pre .1 .1) (found .0) (c .before .before .before .before .before .before .if2 .left) (c .before .before .if5 .left) (c .before .if6 .left) (c .if7 .taken))
+
+plain-count-of-requires : (t : ℕ) → plain-lts.Need-count-of-requires (plain-calls t) (plain-at t) plain.Post
+plain-count-of-requires t c κs = search needs
+
+plain-returns-9 : (t : ℕ) → plain-lts.Need-returns-9 (plain-calls t) (plain-at t) plain.Post
+plain-returns-9 t c =
+    let a = c .before .before .before .before .before .before .before .before .before .before .before .before .before .before .before .before .before .before .before .before .before .args in
+    let t = table (a .types .now) (a .names .now) in
+    let w = c .before .before .before .before .before .before .before .before .before .before .before .before .before .w .given .0 .0 in
+    let found = rw (c .before .before .before .before .before .before .before .before .before .before .before .before .before .w .given .1) at (c .before .before .before .before .before .before .before .before .before .before .before .before .before .before .before .row-at .ensures) in
+    gives-wrong (plain-position (a .depth) t (a .pool .now) (a .row) (w .kind) (w .a) (w .b) (w .size) (a .slot) (a .offset) (c .before .before .before .before .before .before .before .before .before .before .before .before .before .before .before .before .before .before .before .before .before .pre .1 .1) (found .0) (c .before .before .before .before .before .before .before .before .before .if2 .left) (c .before .before .before .before .before .if5 .left) (c .before .before .before .before .if6 .left) (omega (arith, c .before .before .count-of .ensures (a .names .now), c .if8 .taken)))
+
+plain-sub-choice : (t : ℕ) → plain-lts.Need-sub-choice (plain-calls t) (plain-at t) plain.Post
+plain-sub-choice t c = search needs
+
+plain-choice-requires : (t : ℕ) → plain-lts.Need-choice-requires (plain-calls t) (plain-at t) plain.Post
+plain-choice-requires t c κs =
+    let a = c .before .before .before .before .before .before .before .before .before .before .before .before .before .before .before .before .before .before .before .before .before .before .args in
+    let t = table (a .types .now) (a .names .now) in
+    let w = c .before .before .before .before .before .before .before .before .before .before .before .before .before .before .w .given .0 .0 in
+    let found = rw (c .before .before .before .before .before .before .before .before .before .before .before .before .before .before .w .given .1) at (c .before .before .before .before .before .before .before .before .before .before .before .before .before .before .before .before .row-at .ensures) in
+    (omega arith, (c .before .before .before .before .before .before .before .before .before .before .before .before .before .before .before .before .before .before .before .before .before .before .pre .1 .0, found .1, c .before .before .before .before .before .before .before .before .before .before .before .before .before .before .before .before .before .before .before .before .before .before .pre .1 .1))
+
+plain-same-length-4 : (t : ℕ) → plain-lts.Need-same-length-4 (plain-calls t) (plain-at t) plain.Post
+plain-same-length-4 t c = search needs
+
+plain-returns-10 : (t : ℕ) → plain-lts.Need-returns-10 (plain-calls t) (plain-at t) plain.Post
+plain-returns-10 t c =
+    let a = c .before .before .before .before .before .before .before .before .before .before .before .before .before .before .before .before .before .before .before .before .before .before .before .before .before .args in
+    let t = table (a .types .now) (a .names .now) in
+    let w = c .before .before .before .before .before .before .before .before .before .before .before .before .before .before .before .before .before .w .given .0 .0 in
+    let found = rw (c .before .before .before .before .before .before .before .before .before .before .before .before .before .before .before .before .before .w .given .1) at (c .before .before .before .before .before .before .before .before .before .before .before .before .before .before .before .before .before .before .before .row-at .ensures) in
+    let kind = (c .before .before .before .before .before .before .before .before .before .before .before .before .before .before .before .kind-of .ensures (a .names .now)) in
+    writes-as (plain-choice (a .depth) t (a .pool .now) (a .row) (w .kind) (w .a) (w .b) (w .size) (a .slot) (a .offset) (c .before .before .before .before .before .before .before .before .before .before .before .before .before .before .before .before .before .before .before .before .before .before .before .before .before .pre .1 .1) (found .0) (c .before .before .before .before .before .before .before .before .before .before .before .before .if3 .left) (c .before .before .before .before .before .before .before .before .before .before .before .before .before .before .if1 .left ∙ kind) (c .before .before .before .before .before .before .before .before .before .before .if4 .left) (c .before .before .before .before .before .before .before .if7 .left) (omega (arith, c .before .before .before .before .before .before .count-of .ensures (a .names .now), c .before .before .before .before .if8 .left))) (c .before .before .choice .ensures)
+
+abbrev sequence-Inv-loop : sequence-lts.InvT-loop
+sequence-Inv-loop types names values pool text₀ w row slot offset place depth array count i₀ present₀ kept₀ next₀ used₀ p₀ text i present kept next used p = (count ≡ countOf (table types names) row) × (count < 4294967296) × (length text ≡ length text₀) × Members depth (table types names) pool (rowsIn values) (valueRow w) row slot offset p₀ array text₀ text i present kept next used p
+
+abbrev sequence-μ-loop : sequence-lts.MeasureT-loop
+sequence-μ-loop types names values pool text₀ w row slot offset place depth array count i₀ present₀ kept₀ next₀ used₀ p₀ text i present kept next used p = count - i
+
+sequence-at-requires : (t : ℕ) → sequence-lts.Need-at-requires (sequence-calls t) (sequence-at t) sequence.Post sequence-Inv-loop sequence-μ-loop
+sequence-at-requires t c κs = search needs
+
+sequence-is-array-requires : (t : ℕ) → sequence-lts.Need-is-array-requires (sequence-calls t) (sequence-at t) sequence.Post sequence-Inv-loop sequence-μ-loop
+sequence-is-array-requires t c κs = search needs
+
+sequence-count-of-requires : (t : ℕ) → sequence-lts.Need-count-of-requires (sequence-calls t) (sequence-at t) sequence.Post sequence-Inv-loop sequence-μ-loop
+sequence-count-of-requires t c κs = search needs
+
+sequence-add-next : (t : ℕ) → sequence-lts.Need-add-next (sequence-calls t) (sequence-at t) sequence.Post sequence-Inv-loop sequence-μ-loop
+sequence-add-next t c = search needs
+
+sequence-put-opening-requires : (t : ℕ) → sequence-lts.Need-put-opening-requires (sequence-calls t) (sequence-at t) sequence.Post sequence-Inv-loop sequence-μ-loop
+sequence-put-opening-requires t c κs = search needs
+
+sequence-loop-holds : (t : ℕ) → sequence-lts.Need-loop-holds (sequence-calls t) (sequence-at t) sequence.Post sequence-Inv-loop sequence-μ-loop
+sequence-loop-holds t c =
+    let a = c .before .before .before .before .before .before .before .before .before .before .before .before .args in
+    let t = table (a .types .now) (a .names .now) in
+    (c .before .before .before .before .count-of .ensures (a .names .now), omega arith, refl, members-start (sym (c .before .before .before .before .before .is-array .ensures t (a .row) (c .before .before .before .before .before .before .at .ensures (a .names .now)))) (omega arith))
+
+sequence-type-at-requires : (t : ℕ) → sequence-lts.Need-type-at-requires (sequence-calls t) (sequence-at t) sequence.Post sequence-Inv-loop sequence-μ-loop
+sequence-type-at-requires t c κs = search needs
+
+sequence-absent-at-requires : (t : ℕ) → sequence-lts.Need-absent-at-requires (sequence-calls t) (sequence-at t) sequence.Post sequence-Inv-loop sequence-μ-loop
+sequence-absent-at-requires t c κs = search needs
+
+sequence-add-next-2 : (t : ℕ) → sequence-lts.Need-add-next-2 (sequence-calls t) (sequence-at t) sequence.Post sequence-Inv-loop sequence-μ-loop
+sequence-add-next-2 t c = omega (arith, c .before .absent-at .ensures .1 (c .if1 .taken))
+
+sequence-add-i : (t : ℕ) → sequence-lts.Need-add-i (sequence-calls t) (sequence-at t) sequence.Post sequence-Inv-loop sequence-μ-loop
+sequence-add-i t c = search needs
+
+sequence-loop-less : (t : ℕ) → sequence-lts.Need-loop-less (sequence-calls t) (sequence-at t) sequence.Post sequence-Inv-loop sequence-μ-loop
+sequence-loop-less t c = search needs
+
+sequence-loop-again : (t : ℕ) → sequence-lts.Need-loop-again (sequence-calls t) (sequence-at t) sequence.Post sequence-Inv-loop sequence-μ-loop
+sequence-loop-again t c =
+    let a = c .before .before .before .before .before .before .before .before .before .before .before .before .before .before .before .before .before .args in
+    let inv = c .before .before .before .before .loop .inv in
+    let rows = rowsIn (a .values .now) in
+    let inside = rw (inv .0) at (c .before .before .before .loop-test .taken) in
+    (inv .0, inv .1, inv .2, members-absent (inv .3) inside (sym (c .before .absent-at .ensures .0 (a .names .now)) ∙ c .if1 .taken))
+
+sequence-null-at-requires : (t : ℕ) → sequence-lts.Need-null-at-requires (sequence-calls t) (sequence-at t) sequence.Post sequence-Inv-loop sequence-μ-loop
+sequence-null-at-requires t c κs = search needs
+
+sequence-judged-requires : (t : ℕ) → sequence-lts.Need-judged-requires (sequence-calls t) (sequence-at t) sequence.Post sequence-Inv-loop sequence-μ-loop
+sequence-judged-requires t c κs = (omega (arith, c .before .before .before .before .before .before .before .before .before .before .before .before .before .before .before .before .before .before .before .pre .0), c .before .before .before .before .before .before .before .before .before .before .before .before .before .before .before .before .before .before .before .pre .1 .0)
+
+sequence-enum-known-t : (t : ℕ) → sequence-lts.Need-enum-known-t (sequence-calls t) (sequence-at t) sequence.Post sequence-Inv-loop sequence-μ-loop
+sequence-enum-known-t t c = search needs
+
+sequence-enum-told : (t : ℕ) → sequence-lts.Need-enum-told (sequence-calls t) (sequence-at t) sequence.Post sequence-Inv-loop sequence-μ-loop
+sequence-enum-told t c = search needs
+
+sequence-same-length : (t : ℕ) → sequence-lts.Need-same-length (sequence-calls t) (sequence-at t) sequence.Post sequence-Inv-loop sequence-μ-loop
+sequence-same-length t c = search needs
+
+sequence-returns : (t : ℕ) → sequence-lts.Need-returns (sequence-calls t) (sequence-at t) sequence.Post sequence-Inv-loop sequence-μ-loop
+sequence-returns t c =
+    let a = c .before .before .before .before .before .before .before .before .before .before .before .before .before .before .before .before .before .before .before .before .before .before .args in
+    let inv = c .before .before .before .before .before .before .before .before .before .loop .inv in
+    let absent = sym (c .before .before .before .before .before .before .absent-at .ensures .0 (a .names .now)) ∙ c .before .before .before .before .before .if1 .left in
+    let rows = rowsIn (a .values .now) in
+    let inside = rw (inv .0) at (c .before .before .before .before .before .before .before .before .loop-test .taken) in
+    writes-is (c .enum-told .given .1) (gives-wrong (members-wrong (inv .3) inside absent (value-wrong rows (c .before .before .before .before .before .before .before .type-at .ensures (a .names .now)) (c .before .before .before .before .before .before .before .before .before .loop .next) (c .before .before .judged .ensures) (c .enum-told .given .1))))
+
+sequence-add-present : (t : ℕ) → sequence-lts.Need-add-present (sequence-calls t) (sequence-at t) sequence.Post sequence-Inv-loop sequence-μ-loop
+sequence-add-present t c = search needs
+
+sequence-add-i-2 : (t : ℕ) → sequence-lts.Need-add-i-2 (sequence-calls t) (sequence-at t) sequence.Post sequence-Inv-loop sequence-μ-loop
+sequence-add-i-2 t c = search needs
+
+sequence-loop-less-2 : (t : ℕ) → sequence-lts.Need-loop-less-2 (sequence-calls t) (sequence-at t) sequence.Post sequence-Inv-loop sequence-μ-loop
+sequence-loop-less-2 t c = search needs
+
+sequence-loop-again-2 : (t : ℕ) → sequence-lts.Need-loop-again-2 (sequence-calls t) (sequence-at t) sequence.Post sequence-Inv-loop sequence-μ-loop
+sequence-loop-again-2 t c =
+    let a = c .before .before .before .before .before .before .before .before .before .before .before .before .before .before .before .before .before .before .before .before .before .before .before .args in
+    let inv = c .before .before .before .before .before .before .before .before .before .before .loop .inv in
+    let absent = sym (c .before .before .before .before .before .before .before .absent-at .ensures .0 (a .names .now)) ∙ c .before .before .before .before .before .before .if1 .left in
+    let rows = rowsIn (a .values .now) in
+    let inside = rw (inv .0) at (c .before .before .before .before .before .before .before .before .before .loop-test .taken) in
+    let null = null-is (table (a .types .now) (a .names .now)) (drop (c .before .before .before .before .before .before .before .before .before .before .loop .next) rows) (c .before .before .before .before .before .before .before .before .before .before .before .before .before .before .before .before .is-array .result) (c .before .before .before .before .before .before .before .before .type-at .ensures (a .names .now)) (c .before .before .before .before .before .null-at .ensures (a .names .now)) (c .before .before .before .before .if2 .taken) in
+    let v = value-got rows (c .before .before .before .before .before .before .before .before .type-at .ensures (a .names .now)) (c .before .before .before .before .before .before .before .before .before .before .loop .next) (c .before .before .before .judged .ensures) (c .before .t .given .1) in
+    (inv .0, inv .1, inv .2, members-null (inv .3) inside absent (c .before .before .before .before .before .before .before .before .before .before .before .before .before .before .before .before .before .before .before .before .before .before .before .pre .1 .0) v null)
+
+sequence-put-lead-requires : (t : ℕ) → sequence-lts.Need-put-lead-requires (sequence-calls t) (sequence-at t) sequence.Post sequence-Inv-loop sequence-μ-loop
+sequence-put-lead-requires t c κs = search needs
+
+sequence-value-requires : (t : ℕ) → sequence-lts.Need-value-requires (sequence-calls t) (sequence-at t) sequence.Post sequence-Inv-loop sequence-μ-loop
+sequence-value-requires t c κs = (omega (arith, c .before .before .before .before .before .before .before .before .before .before .before .before .before .before .before .before .before .before .before .before .before .before .before .before .pre .0), c .before .before .before .before .before .before .before .before .before .before .before .before .before .before .before .before .before .before .before .before .before .before .before .before .pre .1 .0)
+
+sequence-enum-known-t-2 : (t : ℕ) → sequence-lts.Need-enum-known-t-2 (sequence-calls t) (sequence-at t) sequence.Post sequence-Inv-loop sequence-μ-loop
+sequence-enum-known-t-2 t c = search needs
+
+sequence-enum-told-2 : (t : ℕ) → sequence-lts.Need-enum-told-2 (sequence-calls t) (sequence-at t) sequence.Post sequence-Inv-loop sequence-μ-loop
+sequence-enum-told-2 t c = search needs
+
+sequence-same-length-2 : (t : ℕ) → sequence-lts.Need-same-length-2 (sequence-calls t) (sequence-at t) sequence.Post sequence-Inv-loop sequence-μ-loop
+sequence-same-length-2 t c = search needs
+
+sequence-returns-2 : (t : ℕ) → sequence-lts.Need-returns-2 (sequence-calls t) (sequence-at t) sequence.Post sequence-Inv-loop sequence-μ-loop
+sequence-returns-2 t c =
+    let a = c .before .before .before .before .before .before .before .before .before .before .before .before .before .before .before .before .before .before .before .before .before .before .before .before .before .before .before .before .before .args in
+    let inv = c .before .before .before .before .before .before .before .before .before .before .before .before .before .before .before .before .loop .inv in
+    let absent = sym (c .before .before .before .before .before .before .before .before .before .before .before .before .before .absent-at .ensures .0 (a .names .now)) ∙ c .before .before .before .before .before .before .before .before .before .before .before .before .if1 .left in
+    let rows = rowsIn (a .values .now) in
+    let inside = rw (inv .0) at (c .before .before .before .before .before .before .before .before .before .before .before .before .before .before .before .loop-test .taken) in
+    writes-is (c .enum-told2 .given .1) (gives-wrong (members-wrong (inv .3) inside absent (value-wrong rows (c .before .before .before .before .before .before .before .before .before .before .before .before .before .before .type-at .ensures (a .names .now)) (c .before .before .before .before .before .before .before .before .before .before .before .before .before .before .before .before .loop .next) (c .before .before .before .before .value .ensures) (c .enum-told2 .given .1))))
+
+sequence-kept-after-requires : (t : ℕ) → sequence-lts.Need-kept-after-requires (sequence-calls t) (sequence-at t) sequence.Post sequence-Inv-loop sequence-μ-loop
+sequence-kept-after-requires t c κs = omega (arith, c .before .before .before .before .before .before .before .before .before .before .before .before .before .before .before .before .loop-test .taken, c .before .before .before .before .before .before .before .before .before .before .before .before .before .before .before .before .before .loop .inv .1, c .before .before .before .before .before .before .before .before .before .before .before .before .before .before .before .before .before .loop .inv .3 .few)
+
+sequence-add-present-2 : (t : ℕ) → sequence-lts.Need-add-present-2 (sequence-calls t) (sequence-at t) sequence.Post sequence-Inv-loop sequence-μ-loop
+sequence-add-present-2 t c = omega (arith, c .before .before .before .before .before .before .before .before .before .before .before .before .before .before .before .before .before .loop-test .taken, c .before .before .before .before .before .before .before .before .before .before .before .before .before .before .before .before .before .before .loop .inv .1, c .before .before .before .before .before .before .before .before .before .before .before .before .before .before .before .before .before .before .loop .inv .3 .some)
+
+sequence-add-i-3 : (t : ℕ) → sequence-lts.Need-add-i-3 (sequence-calls t) (sequence-at t) sequence.Post sequence-Inv-loop sequence-μ-loop
+sequence-add-i-3 t c = omega (arith, c .before .before .before .before .before .before .before .before .before .before .before .before .before .before .before .before .before .loop-test .taken, c .before .before .before .before .before .before .before .before .before .before .before .before .before .before .before .before .before .before .loop .inv .1)
+
+sequence-loop-less-3 : (t : ℕ) → sequence-lts.Need-loop-less-3 (sequence-calls t) (sequence-at t) sequence.Post sequence-Inv-loop sequence-μ-loop
+sequence-loop-less-3 t c = search needs
+
+sequence-loop-again-3 : (t : ℕ) → sequence-lts.Need-loop-again-3 (sequence-calls t) (sequence-at t) sequence.Post sequence-Inv-loop sequence-μ-loop
+sequence-loop-again-3 t c =
+    let a = c .before .before .before .before .before .before .before .before .before .before .before .before .before .before .before .before .before .before .before .before .before .before .before .before .before .before .before .before .before .before .before .args in
+    let inv = c .before .before .before .before .before .before .before .before .before .before .before .before .before .before .before .before .before .before .loop .inv in
+    let absent = sym (c .before .before .before .before .before .before .before .before .before .before .before .before .before .before .before .absent-at .ensures .0 (a .names .now)) ∙ c .before .before .before .before .before .before .before .before .before .before .before .before .before .before .if1 .left in
+    let rows = rowsIn (a .values .now) in
+    let inside = rw (inv .0) at (c .before .before .before .before .before .before .before .before .before .before .before .before .before .before .before .before .before .loop-test .taken) in
+    let null = null-is (table (a .types .now) (a .names .now)) (drop (c .before .before .before .before .before .before .before .before .before .before .before .before .before .before .before .before .before .before .loop .next) rows) (c .before .before .before .before .before .before .before .before .before .before .before .before .before .before .before .before .before .before .before .before .before .before .before .before .is-array .result) (c .before .before .before .before .before .before .before .before .before .before .before .before .before .before .before .before .type-at .ensures (a .names .now)) (c .before .before .before .before .before .before .before .before .before .before .before .before .before .null-at .ensures (a .names .now)) (c .before .before .before .before .before .before .before .before .before .before .before .before .if2 .left) in
+    let v = value-got rows (c .before .before .before .before .before .before .before .before .before .before .before .before .before .before .before .before .type-at .ensures (a .names .now)) (c .before .before .before .before .before .before .before .before .before .before .before .before .before .before .before .before .before .before .loop .next) (c .before .before .before .before .before .before .value .ensures) (c .before .before .t2 .given .1) in
+    (inv .0, inv .1, c .before .before .before .before .before .before .value .kept .1 .1 .1 .1 .0 ∙ c .before .before .before .before .before .before .before .before .before .before .put-lead .kept .1 .1 .0 ∙ inv .2, rw (c .kept-after .ensures) (members-part (inv .3) inside absent (c .before .before .before .before .before .before .before .before .before .before .before .before .before .before .before .before .before .before .before .before .before .before .before .before .before .before .before .before .before .before .before .pre .1 .0) v null (c .before .before .before .before .before .before .before .before .before .before .put-lead .ensures)))
+
+sequence-put-closing-requires : (t : ℕ) → sequence-lts.Need-put-closing-requires (sequence-calls t) (sequence-at t) sequence.Post sequence-Inv-loop sequence-μ-loop
+sequence-put-closing-requires t c κs = search needs
+
+sequence-ended-requires : (t : ℕ) → sequence-lts.Need-ended-requires (sequence-calls t) (sequence-at t) sequence.Post sequence-Inv-loop sequence-μ-loop
+sequence-ended-requires t c κs = search needs
+
+sequence-same-length-3 : (t : ℕ) → sequence-lts.Need-same-length-3 (sequence-calls t) (sequence-at t) sequence.Post sequence-Inv-loop sequence-μ-loop
+sequence-same-length-3 t c = search needs
+
+sequence-returns-3 : (t : ℕ) → sequence-lts.Need-returns-3 (sequence-calls t) (sequence-at t) sequence.Post sequence-Inv-loop sequence-μ-loop
+sequence-returns-3 t c =
+    let inv = c .before .before .before .before .before .before .before .loop .inv in
+    writes-is (c .ended .ensures) (members-end (inv .3) (rw (inv .0) at (c .before .before .before .before .before .before .loop-test .left)) (c .before .before .before .before .before .before .before .before .before .before .put-opening .ensures) (c .before .before .before .before .put-closing .ensures))
+
+value-at-requires : (t : ℕ) → value-lts.Need-at-requires (value-calls t) (value-at t) value.Post
+value-at-requires t c κs = search needs
+
+value-is-unwrapped-requires : (t : ℕ) → value-lts.Need-is-unwrapped-requires (value-calls t) (value-at t) value.Post
+value-is-unwrapped-requires t c κs = search needs
+
+value-plain-requires : (t : ℕ) → value-lts.Need-plain-requires (value-calls t) (value-at t) value.Post
+value-plain-requires t c κs =
+    let a = c .before .before .before .before .before .before .before .before .before .args in
+    let t = table (a .types .now) (a .names .now) in
+    let rows = rowsIn (a .values .now) in
+    (omega arith, (c .before .before .before .before .before .before .before .before .before .pre .1, sym (c .before .before .is-unwrapped .ensures t (a .row) (c .before .before .before .at .ensures (a .names .now))) ∙ not-true _ (c .before .if1 .taken)))
+
+value-same-length : (t : ℕ) → value-lts.Need-same-length (value-calls t) (value-at t) value.Post
+value-same-length t c = search needs
+
+value-returns : (t : ℕ) → value-lts.Need-returns (value-calls t) (value-at t) value.Post
+value-returns t c = search needs
+
+value-row-at-requires : (t : ℕ) → value-lts.Need-row-at-requires (value-calls t) (value-at t) value.Post
+value-row-at-requires t c κs = search needs
+
+value-enum-known-w : (t : ℕ) → value-lts.Need-enum-known-w (value-calls t) (value-at t) value.Post
+value-enum-known-w t c = search needs
+
+value-enum-told : (t : ℕ) → value-lts.Need-enum-told (value-calls t) (value-at t) value.Post
+value-enum-told t c = search needs
+
+value-returns-2 : (t : ℕ) → value-lts.Need-returns-2 (value-calls t) (value-at t) value.Post
+value-returns-2 t c =
+    let a = c .before .before .before .before .before .before .before .before .before .before .before .args in
+    gives-wrong (text-none _ _ _ _ (a .slot) _ (rw (c .enum-told .given .1) at (c .before .before .row-at .ensures)))
+
+value-count-of-requires : (t : ℕ) → value-lts.Need-count-of-requires (value-calls t) (value-at t) value.Post
+value-count-of-requires t c κs = search needs
+
+value-returns-3 : (t : ℕ) → value-lts.Need-returns-3 (value-calls t) (value-at t) value.Post
+value-returns-3 t c =
+    let a = c .before .before .before .before .before .before .before .before .before .before .before .before .before .before .before .before .before .args in
+    let t = table (a .types .now) (a .names .now) in
+    let rows = rowsIn (a .values .now) in
+    let unwrapped = sym (c .before .before .before .before .before .before .before .before .before .before .is-unwrapped .ensures t (a .row) (c .before .before .before .before .before .before .before .before .before .before .before .at .ensures (a .names .now))) ∙ not-false _ (c .before .before .before .before .before .before .before .before .before .if1 .left) in
+    let w = c .before .before .before .before .before .before .w .given .0 .0 in
+    let found = rw (c .before .before .before .before .before .before .w .given .1) at (c .before .before .before .before .before .before .before .before .row-at .ensures) in
+    let right = right-is (w .kind) (w .a) (w .b) (c .before .before .before .count-of .ensures (a .names .now)) (not-true _ (c .if2 .taken)) in
+    gives-wrong (unwrapped-bad (a .depth) t (a .pool .now) rows (a .row) (a .slot) (a .offset) (valueRow w) unwrapped (found .0) right)
+
+value-type-at-requires : (t : ℕ) → value-lts.Need-type-at-requires (value-calls t) (value-at t) value.Post
+value-type-at-requires t c κs = search needs
+
+value-add-plain : (t : ℕ) → value-lts.Need-add-plain (value-calls t) (value-at t) value.Post
+value-add-plain t c =
+    let w = c .before .before .before .before .before .before .before .before .w .given .0 .0 in
+    let found = rw (c .before .before .before .before .before .before .before .before .w .given .1) at (c .before .before .before .before .before .before .before .before .before .before .row-at .ensures) in
+    omega (arith, found .2)
+
+value-plain-requires-2 : (t : ℕ) → value-lts.Need-plain-requires-2 (value-calls t) (value-at t) value.Post
+value-plain-requires-2 t c κs =
+    let a = c .before .before .before .before .before .before .before .before .before .before .before .before .before .before .before .before .before .before .before .args in
+    let t = table (a .types .now) (a .names .now) in
+    let rows = rowsIn (a .values .now) in
+    let unwrapped = sym (c .before .before .before .before .before .before .before .before .before .before .before .before .is-unwrapped .ensures t (a .row) (c .before .before .before .before .before .before .before .before .before .before .before .before .before .at .ensures (a .names .now))) ∙ not-false _ (c .before .before .before .before .before .before .before .before .before .before .before .if1 .left) in
+    let w = c .before .before .before .before .before .before .before .before .w .given .0 .0 in
+    let found = rw (c .before .before .before .before .before .before .before .before .w .given .1) at (c .before .before .before .before .before .before .before .before .before .before .row-at .ensures) in
+    let right = right-is (w .kind) (w .a) (w .b) (c .before .before .before .before .before .count-of .ensures (a .names .now)) (not-false _ (c .before .before .if2 .left)) in
+    (omega (arith, c .before .before .before .before .before .before .before .before .before .before .before .before .before .before .before .before .before .before .before .pre .0), (c .before .before .before .before .before .before .before .before .before .before .before .before .before .before .before .before .before .before .before .pre .1, ap (isUnwrapped t) (c .before .type-at .ensures (a .names .now)) ∙ chosen-plain (a .depth) t (a .pool .now) rows (a .row) (a .slot) (a .offset) (valueRow w) unwrapped (found .0) (c .before .before .before .before .before .before .before .before .before .before .before .before .before .before .before .before .before .before .before .pre .1) right))
+
+value-enum-known-b : (t : ℕ) → value-lts.Need-enum-known-b (value-calls t) (value-at t) value.Post
+value-enum-known-b t c = search needs
+
+value-enum-known-next : (t : ℕ) → value-lts.Need-enum-known-next (value-calls t) (value-at t) value.Post
+value-enum-known-next t c = search needs
+
+value-ended-requires : (t : ℕ) → value-lts.Need-ended-requires (value-calls t) (value-at t) value.Post
+value-ended-requires t c κs = search needs
+
+value-same-length-2 : (t : ℕ) → value-lts.Need-same-length-2 (value-calls t) (value-at t) value.Post
+value-same-length-2 t c = search needs
+
+value-returns-4 : (t : ℕ) → value-lts.Need-returns-4 (value-calls t) (value-at t) value.Post
+value-returns-4 t c =
+    let a = c .before .before .before .before .before .before .before .before .before .before .before .before .before .before .before .before .before .before .before .before .before .before .before .before .before .args in
+    let t = table (a .types .now) (a .names .now) in
+    let rows = rowsIn (a .values .now) in
+    let unwrapped = sym (c .before .before .before .before .before .before .before .before .before .before .before .before .before .before .before .before .before .before .is-unwrapped .ensures t (a .row) (c .before .before .before .before .before .before .before .before .before .before .before .before .before .before .before .before .before .before .before .at .ensures (a .names .now))) ∙ not-false _ (c .before .before .before .before .before .before .before .before .before .before .before .before .before .before .before .before .before .if1 .left) in
+    let w = c .before .before .before .before .before .before .before .before .before .before .before .before .before .before .w .given .0 .0 in
+    let found = rw (c .before .before .before .before .before .before .before .before .before .before .before .before .before .before .w .given .1) at (c .before .before .before .before .before .before .before .before .before .before .before .before .before .before .before .before .row-at .ensures) in
+    let right = right-is (w .kind) (w .a) (w .b) (c .before .before .before .before .before .before .before .before .before .before .before .count-of .ensures (a .names .now)) (not-false _ (c .before .before .before .before .before .before .before .before .if2 .left)) in
+    gives-wrong (unwrapped-wrong (a .depth) t (a .pool .now) rows (a .row) (a .slot) (a .offset) (valueRow w) unwrapped (found .0) (c .before .before .before .before .before .before .before .before .before .before .before .before .before .before .before .before .before .before .before .before .before .before .before .before .before .pre .1) right (value-wrong rows (c .before .before .before .before .before .before .before .type-at .ensures (a .names .now)) (a .slot + 1) (c .before .before .before .before .before .plain2 .ensures) (c .before .b .given .1)))
+
+value-same-length-3 : (t : ℕ) → value-lts.Need-same-length-3 (value-calls t) (value-at t) value.Post
+value-same-length-3 t c = search needs
+
+value-returns-5 : (t : ℕ) → value-lts.Need-returns-5 (value-calls t) (value-at t) value.Post
+value-returns-5 t c =
+    let a = c .before .before .before .before .before .before .before .before .before .before .before .before .before .before .before .before .before .before .before .before .before .before .before .before .before .before .args in
+    let t = table (a .types .now) (a .names .now) in
+    let rows = rowsIn (a .values .now) in
+    let unwrapped = sym (c .before .before .before .before .before .before .before .before .before .before .before .before .before .before .before .before .before .before .before .is-unwrapped .ensures t (a .row) (c .before .before .before .before .before .before .before .before .before .before .before .before .before .before .before .before .before .before .before .before .at .ensures (a .names .now))) ∙ not-false _ (c .before .before .before .before .before .before .before .before .before .before .before .before .before .before .before .before .before .before .if1 .left) in
+    let w = c .before .before .before .before .before .before .before .before .before .before .before .before .before .before .before .w .given .0 .0 in
+    let found = rw (c .before .before .before .before .before .before .before .before .before .before .before .before .before .before .before .w .given .1) at (c .before .before .before .before .before .before .before .before .before .before .before .before .before .before .before .before .before .row-at .ensures) in
+    let right = right-is (w .kind) (w .a) (w .b) (c .before .before .before .before .before .before .before .before .before .before .before .before .count-of .ensures (a .names .now)) (not-false _ (c .before .before .before .before .before .before .before .before .before .if2 .left)) in
+    writes-is (c .ended .ensures) (unwrapped-ends (a .depth) t (a .pool .now) rows (a .row) (a .slot) (a .offset) (valueRow w) unwrapped (found .0) (c .before .before .before .before .before .before .before .before .before .before .before .before .before .before .before .before .before .before .before .before .before .before .before .before .before .before .pre .1) right (value-got rows (c .before .before .before .before .before .before .before .before .type-at .ensures (a .names .now)) (a .slot + 1) (c .before .before .before .before .before .before .plain2 .ensures) (c .before .before .next .given .1)))
+
+pub +choice+judged+list+plain+sequence+value-spec : {M : Type 1} → statement M
++choice+judged+list+plain+sequence+value-spec =
+    close μ-choice μ-judged μ-list μ-plain μ-sequence μ-value
+    (λ t. choice-lts.spec (choice-calls t) (choice-at t) choice.Post
+    (choice-put-byte-requires t)
+    (choice-member-row-requires t)
+    (choice-name-in-requires t)
+    (choice-put-name-requires t)
+    (choice-type-at-requires t)
+    (choice-add-value t)
+    (choice-value-requires t)
+    (choice-enum-known-b t)
+    (choice-enum-known-next t)
+    (choice-put-byte-requires-2 t)
+    (choice-ended-requires t)
+    (choice-same-length t)
+    (choice-returns t)
+    (choice-same-length-2 t)
+    (choice-returns-2 t))
+    (λ t. judged-lts.spec (judged-calls t) (judged-at t) judged.Post
+    (judged-slice-aggregate-value t)
+    (judged-value-requires t)
+    (judged-returns t))
+    (λ t. list-lts.spec (list-calls t) (list-at t) list.Post
+    list-Inv-loop
+    list-μ-loop
+    (list-element-of-requires t)
+    (list-add-next t)
+    (list-put-byte-requires t)
+    (list-loop-holds t)
+    (list-put-comma-requires t)
+    (list-value-requires t)
+    (list-enum-known-b t)
+    (list-same-length t)
+    (list-returns t)
+    (list-enum-known-n t)
+    (list-add-i t)
+    (list-loop-less t)
+    (list-loop-again t)
+    (list-put-byte-requires-2 t)
+    (list-ended-requires t)
+    (list-same-length-2 t)
+    (list-returns-2 t))
+    (λ t. plain-lts.spec (plain-calls t) (plain-at t) plain.Post
+    (plain-row-at-requires t)
+    (plain-enum-known-w t)
+    (plain-enum-told t)
+    (plain-returns t)
+    (plain-kind-of-requires t)
+    (plain-returns-2 t)
+    (plain-leaf-requires t)
+    (plain-same-length t)
+    (plain-returns-3 t)
+    (plain-returns-4 t)
+    (plain-returns-5 t)
+    (plain-sub-sequence t)
+    (plain-sequence-requires t)
+    (plain-same-length-2 t)
+    (plain-returns-6 t)
+    (plain-sub-list t)
+    (plain-list-requires t)
+    (plain-same-length-3 t)
+    (plain-returns-7 t)
+    (plain-returns-8 t)
+    (plain-count-of-requires t)
+    (plain-returns-9 t)
+    (plain-sub-choice t)
+    (plain-choice-requires t)
+    (plain-same-length-4 t)
+    (plain-returns-10 t))
+    (λ t. sequence-lts.spec (sequence-calls t) (sequence-at t) sequence.Post
+    sequence-Inv-loop
+    sequence-μ-loop
+    (sequence-at-requires t)
+    (sequence-is-array-requires t)
+    (sequence-count-of-requires t)
+    (sequence-add-next t)
+    (sequence-put-opening-requires t)
+    (sequence-loop-holds t)
+    (sequence-type-at-requires t)
+    (sequence-absent-at-requires t)
+    (sequence-add-next-2 t)
+    (sequence-add-i t)
+    (sequence-loop-less t)
+    (sequence-loop-again t)
+    (sequence-null-at-requires t)
+    (sequence-judged-requires t)
+    (sequence-enum-known-t t)
+    (sequence-enum-told t)
+    (sequence-same-length t)
+    (sequence-returns t)
+    (sequence-add-present t)
+    (sequence-add-i-2 t)
+    (sequence-loop-less-2 t)
+    (sequence-loop-again-2 t)
+    (sequence-put-lead-requires t)
+    (sequence-value-requires t)
+    (sequence-enum-known-t-2 t)
+    (sequence-enum-told-2 t)
+    (sequence-same-length-2 t)
+    (sequence-returns-2 t)
+    (sequence-kept-after-requires t)
+    (sequence-add-present-2 t)
+    (sequence-add-i-3 t)
+    (sequence-loop-less-3 t)
+    (sequence-loop-again-3 t)
+    (sequence-put-closing-requires t)
+    (sequence-ended-requires t)
+    (sequence-same-length-3 t)
+    (sequence-returns-3 t))
+    λ t. value-lts.spec (value-calls t) (value-at t) value.Post
+    (value-at-requires t)
+    (value-is-unwrapped-requires t)
+    (value-plain-requires t)
+    (value-same-length t)
+    (value-returns t)
+    (value-row-at-requires t)
+    (value-enum-known-w t)
+    (value-enum-told t)
+    (value-returns-2 t)
+    (value-count-of-requires t)
+    (value-returns-3 t)
+    (value-type-at-requires t)
+    (value-add-plain t)
+    (value-plain-requires-2 t)
+    (value-enum-known-b t)
+    (value-enum-known-next t)
+    (value-ended-requires t)
+    (value-same-length-2 t)
+    (value-returns-4 t)
+    (value-same-length-3 t)
+    (value-returns-5 t)

@@ -1,0 +1,213 @@
+// Pieces of text, stored from a place on as far as there is room. Each call hands back the place after its piece; a place that would pass 2^64-1 is 2^64-1.
+use octets::amount;
+use octets::encode;
+use octets::escape;
+use octets::integer;
+use slices::put;
+use types::row::member_row;
+use types::row::name_in;
+ghost use mathlib.Core.Path.{_≡_};
+ghost use mathlib.Core.List.{[], _∷_};
+ghost use Prim.Native.Nat.{_+_, _-_, _*_, _^_, _≤_, _<_};
+ghost use lib.ListN.{length};
+ghost use lib.Seq.{sets};
+ghost use Rattle.jer.specs.Write.{nullText, boolText, intText, quotes};
+ghost use Rattle.jer.specs.Calls.{amount};
+ghost use Rattle.jer.specs.Table.{table};
+ghost use Rattle.written.specs.Text.{Puts, spelled, comma, nulls, nameText, lead, opening, closing, keptAfter};
+
+// The place b bytes after a.
+pub fn add(a: usize, b: usize) -> usize
+    ensures { λ r. ⌜ r ≡ amount (a + b) ⌝ }
+{
+    amount::add(a as u64, b as u64) as usize
+}
+
+pub fn put_byte(text: &mut [u8], k: usize, b: u8) -> usize
+    ensures { λ e. ⌜ Puts (b ∷ []) k (now (text .entry)) (now (text .exit)) e ⌝ }
+{
+    put(text, k, b);
+    add(k, 1)
+}
+
+pub fn put_bytes(text: &mut [u8], k: usize, s: &[u8]) -> usize
+    ensures { λ e. ⌜ Puts (now (s .entry)) k (now (text .entry)) (now (text .exit)) e ⌝ }
+{
+    let mut p = k;
+    let mut j = 0;
+    while j < s.len() {
+        p = put_byte(text, p, s[j]);
+        j += 1;
+    }
+    p
+}
+
+// A comma before all but the first part.
+pub fn put_comma(text: &mut [u8], k: usize, n: u32) -> usize
+    ensures { λ e. ⌜ Puts (comma n) k (now (text .entry)) (now (text .exit)) e ⌝ }
+{
+    if n == 0 {
+        return k;
+    }
+    put_byte(text, k, 0x2C)
+}
+
+pub fn put_null(text: &mut [u8], k: usize) -> usize
+    ensures { λ e. ⌜ Puts nullText k (now (text .entry)) (now (text .exit)) e ⌝ }
+{
+    put_bytes(text, k, b"null")
+}
+
+// Null for each element from n on and before i.
+pub fn put_nulls(text: &mut [u8], k: usize, n: u32, i: u32) -> usize
+    ensures { λ e. ⌜ Puts (nulls n (i - n)) k (now (text .entry)) (now (text .exit)) e ⌝ }
+{
+    let mut p = k;
+    let mut j = n;
+    while j < i {
+        let start = put_comma(text, p, j);
+        p = put_null(text, start);
+        j += 1;
+    }
+    p
+}
+
+pub fn put_bool(text: &mut [u8], k: usize, b: bool) -> usize
+    ensures { λ e. ⌜ Puts (boolText b) k (now (text .entry)) (now (text .exit)) e ⌝ }
+{
+    if b {
+        return put_bytes(text, k, b"true");
+    }
+    put_bytes(text, k, b"false")
+}
+
+pub fn put_integer(text: &mut [u8], k: usize, low: u32, high: u32) -> usize
+    ensures { λ e. ⌜ Puts (intText (high * 2 ^ 32 + low)) k (now (text .entry)) (now (text .exit)) e ⌝ }
+{
+    let end = add(k, integer::integer_len(low, high) as usize);
+    if end <= json::TEXT {
+        integer::put_integer(text, k, low, high);
+        return end;
+    }
+    end
+}
+
+// How the bytes of a string are spelled.
+pub enum Form {
+    // As they are, escaped where they must be.
+    Escaped,
+    Hexadecimal,
+    Base64,
+}
+
+fn spelled_len(form: Form, s: &[u8]) -> usize
+    ensures { λ n. ⌜ n ≡ amount (length (spelled form (now (s .entry)))) ⌝ }
+{
+    match form {
+        Form::Escaped => escape::escapes_len(s) as usize,
+        Form::Hexadecimal => encode::hex_len(s) as usize,
+        Form::Base64 => encode::base64_len(s) as usize,
+    }
+}
+
+// Where a string from k on ends.
+fn end_of(k: usize, form: Form, s: &[u8]) -> usize
+    ensures { λ e. ⌜ e ≡ amount (k + length (spelled form (now (s .entry)))) ⌝ }
+{
+    add(k, spelled_len(form, s))
+}
+
+fn store(text: &mut [u8], k: usize, form: Form, s: &[u8]) -> usize
+    requires { ⌜ (k ≤ 65536) × (length (now s) ≤ 65536) ⌝ }
+    ensures { λ n. ⌜ n ≡ length (spelled form (now (s .entry))) ⌝ }
+    ensures { λ _. ⌜ now (text .exit) ≡ sets (now (text .entry)) k (spelled form (now (s .entry))) ⌝ }
+{
+    match form {
+        Form::Escaped => escape::put_escapes(text, k, s),
+        Form::Hexadecimal => encode::put_hex(text, k, s),
+        Form::Base64 => encode::put_base64(text, k, s),
+    }
+}
+
+// Where there is no room, or the string is sure to end past the house size, it is only measured.
+fn put_spelled(text: &mut [u8], k: usize, form: Form, s: &[u8]) -> usize
+    ensures { λ e. ⌜ Puts (spelled form (now (s .entry))) k (now (text .entry)) (now (text .exit)) e ⌝ }
+{
+    if text.len() <= k {
+        return end_of(k, form, s);
+    }
+    if json::TEXT < k {
+        return end_of(k, form, s);
+    }
+    if json::TEXT < s.len() {
+        return end_of(k, form, s);
+    }
+    let n = store(text, k, form, s);
+    add(k, n)
+}
+
+// A string in quotation marks.
+pub fn put_string(text: &mut [u8], k: usize, form: Form, s: &[u8]) -> usize
+    ensures { λ e. ⌜ Puts (quotes (spelled form (now (s .entry)))) k (now (text .entry)) (now (text .exit)) e ⌝ }
+{
+    let start = put_byte(text, k, 0x22);
+    let end = put_spelled(text, start, form, s);
+    put_byte(text, end, 0x22)
+}
+
+// A member's name and the colon.
+pub fn put_name(text: &mut [u8], k: usize, name: &[u8]) -> usize
+    ensures { λ e. ⌜ Puts (nameText (now (name .entry))) k (now (text .entry)) (now (text .exit)) e ⌝ }
+{
+    let end = put_string(text, k, Form::Escaped, name);
+    put_byte(text, end, 0x3A)
+}
+
+// What stands before the member at i of the type at r, with n parts written: in an ARRAY the nulls that are due, else its name.
+pub fn put_lead(
+    types: &[u32],
+    names: &[u8],
+    text: &mut [u8],
+    r: usize,
+    i: u32,
+    n: u32,
+    k: usize,
+    array: bool,
+) -> usize
+    ensures { λ e. ⌜ Puts (lead array (table (now (types .entry)) (now (names .entry))) r i n) k (now (text .entry)) (now (text .exit)) e ⌝ }
+{
+    if array {
+        let start = put_nulls(text, k, n, i);
+        return put_comma(text, start, i);
+    }
+    let start = put_comma(text, k, n);
+    put_name(text, start, name_in(types, names, member_row(types, r, i)))
+}
+
+// The bracket of an ARRAY or an object, opened.
+pub fn put_opening(text: &mut [u8], k: usize, array: bool) -> usize
+    ensures { λ e. ⌜ Puts (opening array ∷ []) k (now (text .entry)) (now (text .exit)) e ⌝ }
+{
+    if array {
+        return put_byte(text, k, 0x5B);
+    }
+    put_byte(text, k, 0x7B)
+}
+
+// And closed.
+pub fn put_closing(text: &mut [u8], k: usize, array: bool) -> usize
+    ensures { λ e. ⌜ Puts (closing array ∷ []) k (now (text .entry)) (now (text .exit)) e ⌝ }
+{
+    if array {
+        return put_byte(text, k, 0x5D);
+    }
+    put_byte(text, k, 0x7D)
+}
+
+// How many parts are written once the member at i is, after n.
+pub fn kept_after(array: bool, i: u32, n: u32) -> u32
+    requires { ⌜ (i < 4294967295) × (n < 4294967295) ⌝ }
+    ensures { λ m. ⌜ m ≡ keptAfter array i n ⌝ }
+{
+    if array { i + 1 } else { n + 1 }
+}
