@@ -1,12 +1,12 @@
 -- The call from outside: document 01's order of refusals, 1, 12, 13, 14.
 use mathlib.Core.Path.{_≡_, refl, sym, ap, _∙_}
-use mathlib.Core.List.{List, _++_}
+use mathlib.Core.List.{List, [], _∷_, _++_}
 use mathlib.Core.Bool.{Bool, true, false, _&&_}
 use mathlib.Core.Option.{Option, none, some}
-use Prim.Native.Nat.{ℕ, _+_, _*_, _/_, _%_, _≤_, _<_}
+use Prim.Native.Nat.{ℕ, zero, suc, _+_, _*_, _/_, _%_, _≤_, _<_}
 use native.Mathlib.Omega.{arith}
 use lib.Dec.{eqb, leb}
-use lib.ListN.{length, drop}
+use lib.ListN.{length, drop, take}
 use lib.Seq.{sets, sets-eq}
 use borrow.Author.Tests.{eq-eqb, ne-eqb, eqb-true, eqb-false, le-leb, lt-leb, leb-true, leb-false}
 use Rattle.jer.specs.declared.Which.the-variants.{ValueTable}
@@ -144,6 +144,28 @@ module _ (t : Table) (ns pool : List ℕ) where
 -- where it ends, from the start of the text
 pub end-of : {s : List ℕ} {l m : List ℕ} {e : ℕ} → Puts s 0 l m e → e ≡ amount (length s)
 end-of {s} f = f .ends ∙ ap amount (let z : 0 + length s ≡ length s = omega arith in z)
+
+-- ---- copied
+
+front-is : (s x : List ℕ) → take (length s) (s ++ x) ≡ s
+front-is [] x = refl
+front-is (b ∷ s) x = ap (λ (l : List ℕ). b ∷ l) (front-is s x)
+
+-- a text that was put into room of its own, and the front c of the room into the lent text
+pub copied : {s c : List ℕ} {l m : List ℕ} (l₁ : List ℕ) {m₁ : List ℕ} {e : ℕ} → Puts s 0 l m e → e ≤ 65536 → e ≤ length l → c ≡ take e (drop 0 m) → m₁ ≡ sets l₁ 0 c → m₁ ≡ sets l₁ 0 s
+copied {s} {c} {l} {m} l₁ {m₁} {e} p b r f g =
+    let n : e ≡ length s = end-is l s (end-of p) b in
+    let w : m ≡ s ++ drop (0 + length s) l = p .stands (omega arith) ∙ sets-eq s l 0 (omega arith) in
+    let d : take e m ≡ s = ap (λ (i : ℕ). take i m) n ∙ ap (take (length s)) w ∙ front-is s (drop (0 + length s) l) in
+    g ∙ ap (sets l₁ 0) (f ∙ d)
+
+pub front-few : (e : ℕ) {c : List ℕ} (m : List ℕ) → c ≡ take e (drop 0 m) → length c ≤ e
+front-few e m f = rw f (few e m)
+  where
+    few : (e : ℕ) (l : List ℕ) → length (take e l) ≤ e
+    few zero l = omega arith
+    few (suc e) [] = omega arith
+    few (suc e) (x ∷ l) = let h = few e l in omega arith
 
 -- the same value once more
 pub stored-again : (t : Table) (ns pool : List ℕ) {k q o e : ℕ} {l m l₁ m₁ : List ℕ} {a : Taken} (v : Value 32 t pool (rowsIn ns) 0 0 0 k l m q o e) → Writes (valueText 32 t pool (drop 0 (rowsIn ns)) 0 0 0) 0 l₁ m₁ a → e ≡ amount (length (write (v .what) t 0)) → e ≤ 65536 → m₁ ≡ sets l₁ 0 (write (v .what) t 0)

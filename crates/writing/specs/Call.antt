@@ -3,6 +3,7 @@ use Prim.Native.Nat.{ℕ}
 use mathlib.Core.Path.{_≡_}
 use mathlib.Core.List.{List}
 use lib.ListN.{length}
+use Rattle.slices.specs.Lent.{Lent, before, after, tableIn}
 use Rattle.jer.specs.Table.{Table}
 use Rattle.jer.specs.Judge.{judge}
 use Rattle.jer.specs.Write.{write}
@@ -17,3 +18,7 @@ valueWritten t ns pool = bind (judge t ns pool) (λ v. ok (write v t 0))
 pub record Answers (x : Res (List ℕ)) (text₀ text₁ : List ℕ) (a : Writing) : Type 0 where
   pub answer : a ≡ writeAnswer (length text₀) x
   pub text : text₁ ≡ textAfter text₀ x
+
+-- the text of the value table, in the lent text
+abbrev pub WritesText : Lent → Lent → Lent → Lent → Lent → Writing → Type 0
+WritesText types names values pool text r = Answers (valueWritten (tableIn types names) (before values) (before pool)) (before text) (after text) r

@@ -30,6 +30,18 @@ pub fn put_byte(text: &mut [u8], k: usize, b: u8) -> usize
     add(k, 1)
 }
 
+// The bytes of s, for which there is room.
+pub fn copy(text: &mut [u8], k: usize, s: &[u8])
+    requires { ⌜ k + length (now s) ≤ length (now text) ⌝ }
+    ensures { λ _. ⌜ now (text .exit) ≡ sets (now (text .entry)) k (now (s .entry)) ⌝ }
+{
+    let mut j = 0;
+    while j < s.len() {
+        text[k + j] = s[j];
+        j += 1;
+    }
+}
+
 pub fn put_bytes(text: &mut [u8], k: usize, s: &[u8]) -> usize
     ensures { λ e. ⌜ Puts (now (s .entry)) k (now (text .entry)) (now (text .exit)) e ⌝ }
 {

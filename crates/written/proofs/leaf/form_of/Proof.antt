@@ -1,4 +1,4 @@
--- Made by tools/answers.py from answers/leaf/form_of.ans: edit that. 6e8349dd31044324
+-- Made by tools/answers.py from answers/leaf/form_of.ans: edit that. f7e3661aca9bdf31
 use Rattle.jer.specs.Table.{table}
 use Rattle.types.proofs.RowLaws.{kind-of}
 use Rattle.written.proofs.LeafLaws.{form-text, form-base64, form-hex}

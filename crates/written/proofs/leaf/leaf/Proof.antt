@@ -1,4 +1,4 @@
--- Made by tools/answers.py from answers/leaf/leaf.ans: edit that. c3203bae06b5209c
+-- Made by tools/answers.py from answers/leaf/leaf.ans: edit that. 128d486304b743ba
 use Rattle.jer.specs.Table.{table}
 use Rattle.written.proofs.LeafLaws.{bool-ends, int-ends, enum-ends, null-ends}
 use borrow.Author.Needs.{needs}

@@ -1,4 +1,4 @@
--- Made by tools/answers.py from answers/leaf/string.ans: edit that. c33dcedcde786905
+-- Made by tools/answers.py from answers/leaf/string.ans: edit that. 67d6eb47e68dfd12
 use Rattle.jer.specs.Table.{table}
 use Rattle.written.proofs.LeafLaws.{string-ends}
 use borrow.Author.Needs.{needs}

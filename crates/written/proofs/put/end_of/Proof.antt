@@ -1,4 +1,4 @@
--- Made by tools/answers.py from answers/put/end_of.ans: edit that. 8320826d00e0c3c2
+-- Made by tools/answers.py from answers/put/end_of.ans: edit that. 465c585f196236eb
 use lib.ListN.{length}
 use Rattle.written.specs.Text.{spelled}
 use Rattle.written.proofs.PutLaws.{measured}

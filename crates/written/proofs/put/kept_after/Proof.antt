@@ -1,4 +1,4 @@
--- Made by tools/answers.py from answers/put/kept_after.ans: edit that. 5b7e098c0210aa45
+-- Made by tools/answers.py from answers/put/kept_after.ans: edit that. ff08a1dc88810fa4
 use native.Mathlib.Numerals.{add-one}
 use Rattle.written.specs.Text.{keptAfter}
 use borrow.Author.Needs.{needs}

@@ -1,4 +1,4 @@
--- Made by tools/answers.py from answers/put/put_bool.ans: edit that. 4154114af21168df
+-- Made by tools/answers.py from answers/put/put_bool.ans: edit that. 1e1cc66e22a77508
 use Rattle.jer.specs.Write.{boolText}
 use borrow.Author.Needs.{needs}
 use Rattle.written.proofs.put.put_bool.Statement.{statement}

@@ -1,4 +1,4 @@
--- Made by tools/answers.py from answers/put/put_bytes.ans: edit that. 88f9eceb5076f545
+-- Made by tools/answers.py from answers/put/put_bytes.ans: edit that. 74d60f973ebaa3f6
 use mathlib.Core.Path.{refl}
 use native.Mathlib.Omega.{arith}
 use Rattle.written.proofs.PutLaws.{puts-none, puts-next, puts-all}

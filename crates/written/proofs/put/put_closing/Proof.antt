@@ -1,4 +1,4 @@
--- Made by tools/answers.py from answers/put/put_closing.ans: edit that. fe6102690a023fa6
+-- Made by tools/answers.py from answers/put/put_closing.ans: edit that. c62e114742ffc763
 use Rattle.written.specs.Text.{closing}
 use borrow.Author.Needs.{needs}
 use Rattle.written.proofs.put.put_closing.Statement.{statement}

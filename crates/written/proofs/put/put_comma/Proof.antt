@@ -1,4 +1,4 @@
--- Made by tools/answers.py from answers/put/put_comma.ans: edit that. db20543d944bf09c
+-- Made by tools/answers.py from answers/put/put_comma.ans: edit that. b51f4b7248409146
 use native.Mathlib.Omega.{arith}
 use Rattle.written.proofs.PutLaws.{no-comma, a-comma}
 use borrow.Author.Needs.{needs}

@@ -1,4 +1,4 @@
--- Made by tools/answers.py from answers/put/put_integer.ans: edit that. 7a5a5a659c50c052
+-- Made by tools/answers.py from answers/put/put_integer.ans: edit that. dbf30489d5730dd4
 use Prim.Native.Nat.{_+_, _*_, _^_}
 use native.Mathlib.Omega.{arith}
 use Rattle.jer.specs.Write.{intText}

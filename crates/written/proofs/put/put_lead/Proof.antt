@@ -1,4 +1,4 @@
--- Made by tools/answers.py from answers/put/put_lead.ans: edit that. 852b812012515651
+-- Made by tools/answers.py from answers/put/put_lead.ans: edit that. 8fc480056b678d70
 use Rattle.written.proofs.PutLaws.{leads-array, leads-object}
 use borrow.Author.Needs.{needs}
 use Rattle.written.proofs.put.put_lead.Statement.{statement}

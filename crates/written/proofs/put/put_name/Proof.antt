@@ -1,4 +1,4 @@
--- Made by tools/answers.py from answers/put/put_name.ans: edit that. bd44a18c9da8b661
+-- Made by tools/answers.py from answers/put/put_name.ans: edit that. 4c0c38ffaa300d8b
 use Rattle.jer.specs.Write.{stringText}
 use Rattle.written.specs.Text.{spelled, nameText}
 use Rattle.written.proofs.PutLaws.{puts-append}

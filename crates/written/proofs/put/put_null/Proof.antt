@@ -1,4 +1,4 @@
--- Made by tools/answers.py from answers/put/put_null.ans: edit that. 74ca76577594d218
+-- Made by tools/answers.py from answers/put/put_null.ans: edit that. 093df88632de9844
 use Rattle.jer.specs.Write.{nullText}
 use borrow.Author.Needs.{needs}
 use Rattle.written.proofs.put.put_null.Statement.{statement}

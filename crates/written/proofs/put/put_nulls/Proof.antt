@@ -1,4 +1,4 @@
--- Made by tools/answers.py from answers/put/put_nulls.ans: edit that. 4173058a9f211bd7
+-- Made by tools/answers.py from answers/put/put_nulls.ans: edit that. 3522cde887dfe5f4
 use mathlib.Core.Path.{refl}
 use native.Mathlib.Omega.{arith}
 use Rattle.written.proofs.PutLaws.{puts-nulls-none, puts-null, puts-nulls}

@@ -1,4 +1,4 @@
--- Made by tools/answers.py from answers/put/put_opening.ans: edit that. 74699b6f7e587f04
+-- Made by tools/answers.py from answers/put/put_opening.ans: edit that. f24b89601dfcd82b
 use Rattle.written.specs.Text.{opening}
 use borrow.Author.Needs.{needs}
 use Rattle.written.proofs.put.put_opening.Statement.{statement}

@@ -1,4 +1,4 @@
--- Made by tools/answers.py from answers/put/put_spelled.ans: edit that. 52f93204fccbddaf
+-- Made by tools/answers.py from answers/put/put_spelled.ans: edit that. aa6f57dd704ac122
 use native.Mathlib.Omega.{arith}
 use Rattle.written.specs.Text.{spelled}
 use Rattle.written.proofs.PutLaws.{counted, puts-stored, puts-nowhere, puts-past, spelled-few}

@@ -1,4 +1,4 @@
--- Made by tools/answers.py from answers/put/put_string.ans: edit that. 4bdaf4aaefe88b10
+-- Made by tools/answers.py from answers/put/put_string.ans: edit that. d16f94d4cf252efb
 use Rattle.jer.specs.Write.{quotes}
 use Rattle.written.proofs.PutLaws.{puts-append}
 use borrow.Author.Needs.{needs}

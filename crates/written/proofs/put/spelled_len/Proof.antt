@@ -1,4 +1,4 @@
--- Made by tools/answers.py from answers/put/spelled_len.ans: edit that. 9c77aecc59e9d70f
+-- Made by tools/answers.py from answers/put/spelled_len.ans: edit that. d8f891338117311f
 use Rattle.written.specs.Text.{spelled}
 use borrow.Author.Needs.{needs}
 use Rattle.written.proofs.put.spelled_len.Statement.{statement}

@@ -1,4 +1,4 @@
--- Made by tools/answers.py from answers/put/store.ans: edit that. 5939092496e7bf03
+-- Made by tools/answers.py from answers/put/store.ans: edit that. 93c8add590c02797
 use native.Mathlib.Omega.{arith}
 use Rattle.written.specs.Text.{spelled}
 use Rattle.written.proofs.PutLaws.{spelled-few}

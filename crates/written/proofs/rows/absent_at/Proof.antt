@@ -1,4 +1,4 @@
--- Made by tools/answers.py from answers/rows/absent_at.ans: edit that. 83495115902b1d54
+-- Made by tools/answers.py from answers/rows/absent_at.ans: edit that. 082596b087c69524
 use Rattle.jer.specs.Table.{table}
 use Rattle.written.proofs.RowLaws.{never, absent-row, absent-none}
 use borrow.Author.Needs.{needs}

@@ -1,4 +1,4 @@
--- Made by tools/answers.py from answers/rows/null_at.ans: edit that. e9ac17c387ddbe5e
+-- Made by tools/answers.py from answers/rows/null_at.ans: edit that. a56327f6d0a45daa
 use Rattle.jer.specs.Table.{table}
 use Rattle.types.proofs.RowLaws.{kind-of}
 use Rattle.written.proofs.RowLaws.{null-row, null-none}

@@ -1,4 +1,4 @@
--- Made by tools/answers.py from answers/rows/row_at.ans: edit that. de6232c10411fa77
+-- Made by tools/answers.py from answers/rows/row_at.ans: edit that. cdce445ddfb4af93
 use native.Mathlib.Omega.{arith}
 use Rattle.written.proofs.RowLaws.{rows-past, rows-at}
 use borrow.Author.Needs.{needs}

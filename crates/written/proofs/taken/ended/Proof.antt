@@ -1,4 +1,4 @@
--- Made by tools/answers.py from answers/taken/ended.ans: edit that. 922af2709f6744eb
+-- Made by tools/answers.py from answers/taken/ended.ans: edit that. 04696c14c2e36500
 use Rattle.written.proofs.TextLaws.{ended-right, ended-wrong}
 use borrow.Author.Needs.{needs}
 use Rattle.written.proofs.taken.ended.Statement.{statement}

@@ -1,4 +1,4 @@
--- Made by tools/answers.py from answers/value/+choice+judged+list+plain+sequence+value.ans: edit that. 4bcf2a297c433f75
+-- Made by tools/answers.py from answers/value/+choice+judged+list+plain+sequence+value.ans: edit that. 672b5195be87de0b
 use Prim.Native.Nat.{ℕ, _<_, _+_, _-_, _*_}
 use mathlib.Core.Path.{_≡_, refl, sym, ap, _∙_}
 use native.Mathlib.Omega.{arith}

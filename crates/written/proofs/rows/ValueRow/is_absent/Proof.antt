@@ -1,4 +1,4 @@
--- Made by tools/answers.py from answers/rows/ValueRow/is_absent.ans: edit that. 9e40d51955140ffb
+-- Made by tools/answers.py from answers/rows/ValueRow/is_absent.ans: edit that. 256d8ef8808c026d
 use mathlib.Core.Path.{refl}
 use Rattle.jer.specs.Judge.{isAbsent}
 use Rattle.written.proofs.rows.ValueRow.is_absent.Statement.{statement}
