@@ -6,6 +6,7 @@ use jer::Which;
 use jer::Writing;
 use slices::part;
 use types::check;
+use written::literal;
 use written::put::copy;
 use written::taken::Taken;
 use written::value::value;
@@ -78,7 +79,20 @@ fn through(
     requires { ⌜ Wrapped (table (now types) (now names)) ⌝ }
     ensures { λ r. ⌜ WritesText types names values pool text r ⌝ }
 {
-    match value(types, names, values, pool, room, 0, 0, 0, 0, json::BRACKETS) {
+    let literal = literal::table();
+    match value(
+        &literal,
+        types,
+        names,
+        values,
+        pool,
+        room,
+        0,
+        0,
+        0,
+        0,
+        json::BRACKETS,
+    ) {
         Taken::Wrong(slot) => Writing::Refused(Refusal::AtRow(Which::ValueTable, slot)),
         Taken::Took { next, used, end } => {
             let rows = (values.len() % 4 == 0) & (values.len() / 4 == next);
@@ -95,7 +109,19 @@ fn through(
                 copy(text, 0, part(room, 0, end));
                 return Writing::Written(end);
             }
-            value(types, names, values, pool, text, 0, 0, 0, 0, json::BRACKETS);
+            value(
+                &literal,
+                types,
+                names,
+                values,
+                pool,
+                text,
+                0,
+                0,
+                0,
+                0,
+                json::BRACKETS,
+            );
             Writing::Written(end)
         }
     }

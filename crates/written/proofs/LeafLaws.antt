@@ -107,10 +107,10 @@ module _ (i : Option Taker) (t : Table) (pool : List ℕ) (r a b n : ℕ) (ws : 
   unfolding write
   int-ends h p g = row-ends i t pool r (row kind a b n) ws q o _ (vInt (b * 2 ^ 32 + a)) (row-int i t pool r a b n ws q o y h) (one-row true n q) p g
 
-  pub enum-ends : {c j : ℕ} {s : List ℕ} → kind ≡ 2 → c ≡ countOf t r → j ≡ memberRow t r a → s ≡ nameIn t j → Puts (quotes (spelled Escaped s)) k l m e → x ≡ endedAs ((ltb a c && eqb b 0) && eqb n (q + 1 - q)) q (q + 1) o e → Writes (textOf (λ v. write v t r) (takeRow i t pool r (row kind a b n) ws q o)) k l m x
-  unfolding write stringText spelled nameAt
+  pub enum-ends : {c j : ℕ} {s : List ℕ} → kind ≡ 2 → c ≡ countOf t r → j ≡ memberRow t r a → s ≡ nameIn t j → Puts (stringText s) k l m e → x ≡ endedAs ((ltb a c && eqb b 0) && eqb n (q + 1 - q)) q (q + 1) o e → Writes (textOf (λ v. write v t r) (takeRow i t pool r (row kind a b n) ws q o)) k l m x
+  unfolding write nameAt
   enum-ends {c} h d u v p g =
-      let f = puts-as (ap (λ (z : List ℕ). quotes (spelled Escaped z)) (v ∙ ap (nameIn t) u)) p in
+      let f = puts-as (ap stringText (v ∙ ap (nameIn t) u)) p in
       row-ends i t pool r (row kind a b n) ws q o _ (vEnum a) (row-enum i t pool r a b n ws q o y h) (ap (λ (z : ℕ). ltb a z && (eqb b 0 && eqb n 1)) (sym d) ∙ and-assoc (ltb a c) (eqb b 0) (eqb n 1) ∙ one-row (ltb a c && eqb b 0) n q) f g
 
   pub null-ends : kind ≡ 3 → Puts nullText k l m e → x ≡ endedAs ((eqb a 0 && eqb b 0) && eqb n (q + 1 - q)) q (q + 1) o e → Writes (textOf (λ v. write v t r) (takeRow i t pool r (row kind a b n) ws q o)) k l m x
@@ -171,3 +171,25 @@ module _ (i : Option Taker) (t : Table) (pool : List ℕ) (r a b n : ℕ) (ws : 
       moved : (c : Bool) (used : ℕ) → (c ≡ true → used ≡ o + b) → endedAs c q (q + 1) used e ≡ endedAs c q (suc q) (o + b) e
       moved true used z = rw (add-one q, z refl)
       moved false used z = refl
+
+and-true : (b : Bool) → b ≡ (b && true)
+and-true true = refl
+and-true false = refl
+
+flagged : (n q used e : ℕ) {x : Taken} {z w : Bool} → z ≡ w → x ≡ endedAs (z && eqb n (q + 1 - q)) q (q + 1) used e → x ≡ endedAs (w && eqb n (q + 1 - q)) q (q + 1) used e
+flagged n q used e h g = g ∙ ap (λ (z : Bool). endedAs (z && eqb n (q + 1 - q)) q (q + 1) used e) h
+
+module _ (i : Option Taker) (t : Table) (pool : List ℕ) (r a b n : ℕ) (ws : List ValueRow) (q o : ℕ) {kind : ℕ} (y : kind ≡ kindOf t r) {k e : ℕ} {l m : List ℕ} {x : Taken} {c d used : ℕ} {s : List ℕ}
+    (fa : a < 4294967296) (fb : b < 4294967296) (ca : c ≡ a) (db : d ≡ b) (ss : s ≡ take d (drop o pool)) (us : used ≡ amount (o + d)) where
+  pub octets-ends : {g : Form} → kind ≡ 4 → g ≡ formOf t r → Puts (quotes (spelled g s)) k l m e → x ≡ endedAs ((eqb c o && leb (c + d) (length pool)) && eqb n (q + 1 - q)) q (q + 1) used e → Writes (textOf (λ v. write v t r) (takeRow i t pool r (row kind a b n) ws q o)) k l m x
+  octets-ends h f p g =
+      let inside = eqb c o && leb (c + d) (length pool) in
+      let z : inside ≡ (inside && (eqb kind 4 || utf8 s)) = rw (eq-eqb kind 4 h) (and-true (eqb c o && leb (c + d) (length pool))) in
+      string-ends i t pool r a b n ws q o y (omega arith) (omega arith) fa fb ca db ss f refl us p (flagged n q used e z g)
+
+  pub chars-ends : {u : Bool} → kind ≡ 5 → u ≡ utf8 s → Puts (stringText s) k l m e → x ≡ endedAs (((eqb c o && leb (c + d) (length pool)) && u) && eqb n (q + 1 - q)) q (q + 1) used e → Writes (textOf (λ v. write v t r) (takeRow i t pool r (row kind a b n) ws q o)) k l m x
+  unfolding stringText spelled
+  chars-ends {u} h f p g =
+      let inside = eqb c o && leb (c + d) (length pool) in
+      let z : (inside && u) ≡ (inside && (eqb kind 4 || u)) = rw (ne-eqb kind 4 (λ v. omega arith)) in
+      string-ends i t pool r a b n ws q o y (omega arith) (omega arith) fa fb ca db ss (form-text t r y h) f us p (flagged n q used e z g)

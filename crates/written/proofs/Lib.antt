@@ -9,3 +9,5 @@ pub mod PartLaws
 pub mod SequenceLaws
 pub mod ValueLaws
 pub mod LeafLaws
+pub mod LiteralLaws
+pub mod StartLaws

@@ -1,13 +1,16 @@
 -- The rows of a value table, by their numbers.
-use mathlib.Core.Path.{_≡_, refl}
+use mathlib.Core.Path.{_≡_, refl, sym, ap, _∙_}
 use mathlib.Core.List.{List, [], _∷_}
 use mathlib.Core.Bool.{Bool, true, false, _&&_, _||_}
 use Prim.Native.Nat.{ℕ, zero, suc, _+_, _*_, _/_, _<_, _≤_}
 use native.Mathlib.Omega.{arith}
 use lib.Dec.{eqb}
-use lib.ListN.{length, getD}
+use borrow.Author.Tests.{ne-eqb}
+use lib.ListN.{length, getD, take, drop}
 use lib.Seq.{drop-nil}
-use Rattle.jer.specs.Table.{Table, kindOf, isUnwrapped, typeAt, mayBeAbsent}
+use Rattle.jer.specs.Table.{Table, kindOf, isUnwrapped, firstOf, countOf, rootOf, memberRow, typeAt, nameIn, mayBeAbsent}
+use Rattle.types.specs.Rows.{rowOf}
+use Rattle.types.specs.declared.row.Row.{Row}
 use Rattle.jer.specs.Rows.{ValueRow, row}
 use Rattle.jer.specs.Judge.{isAbsent, rowsIn}
 use Rattle.written.specs.Rows.{rowsFrom, absentNext, nullNext}
@@ -38,6 +41,10 @@ rows-at (k ∷ a ∷ b ∷ n ∷ ns) (suc q) h =
 pub never : {A : Type 0} → _≡_ {A = Bool} false true → A
 never e = absurd (let z : _≡_ {A = ℕ} 0 1 = cc in omega arith)
 
+and-false : (b : Bool) → (b && false) ≡ false
+and-false true = refl
+and-false false = refl
+
 module _ (t : Table) (r i : ℕ) {ws : List ValueRow} where
   pub absent-row : {w : ValueRow} {us : List ValueRow} {m a : Bool} → ws ≡ w ∷ us → m ≡ mayBeAbsent t r i → a ≡ isAbsent w → (m && a) ≡ absentNext t r i ws
   unfolding absentNext
@@ -47,6 +54,10 @@ module _ (t : Table) (r i : ℕ) {ws : List ValueRow} where
   unfolding absentNext
   absent-none e = rw e
 
+  pub absent-other : {w : ValueRow} {us : List ValueRow} → ws ≡ w ∷ us → (w .kind ≡ 15 → ⊥) → false ≡ absentNext t r i ws
+  unfolding absentNext isAbsent
+  absent-other {w} e h = rw e (sym (ap (λ (b : Bool). mayBeAbsent t r i && b) (rw (ne-eqb (w .kind) 15 h)) ∙ and-false (mayBeAbsent t r i)))
+
 module _ (t : Table) (r : ℕ) {ws : List ValueRow} where
   pub null-row : {w : ValueRow} {us : List ValueRow} {k c m : ℕ} {u : Bool} → ws ≡ w ∷ us → k ≡ kindOf t r → u ≡ isUnwrapped t r → c ≡ kindOf t m → m ≡ typeAt t r (w .a) → (eqb k 3 || (u && eqb c 3)) ≡ nullNext t r ws
   unfolding nullNext
@@ -55,3 +66,26 @@ module _ (t : Table) (r : ℕ) {ws : List ValueRow} where
   pub null-none : ws ≡ [] → false ≡ nullNext t r ws
   unfolding nullNext
   null-none e = rw e
+
+-- of an element, and of a member of an object
+pub null-element : {a b c : Bool} → a ≡ true → b ≡ c → b ≡ (a && c)
+null-element h e = rw h e
+
+pub null-member : {a : Bool} (c : Bool) → a ≡ false → false ≡ (a && c)
+null-member c h = rw h
+
+-- ---- the row of a member
+
+module _ (t : Table) (r i : ℕ) {w : Row} where
+  pub member-is : {x y : ℕ} → w ≡ rowOf t (x + y) → x ≡ firstOf t r → y ≡ i → w ≡ rowOf t (memberRow t r i)
+  unfolding memberRow
+  member-is e f g = rw (← f, ← g) e
+
+  module _ (e : w ≡ rowOf t (memberRow t r i)) where
+    pub member-type : {x : ℕ} → x ≡ w .first → x ≡ typeAt t r i
+    unfolding typeAt firstOf
+    member-type f = f ∙ ap (λ (v : Row). v .first) e
+
+    pub member-name : {x y : ℕ} {s : List ℕ} → x ≡ w .members → y ≡ w .root → s ≡ take y (drop x (t .names)) → s ≡ nameIn t (memberRow t r i)
+    unfolding nameIn countOf rootOf
+    member-name f g h = h ∙ rw (f ∙ ap (λ (v : Row). v .members) e, g ∙ ap (λ (v : Row). v .root) e)

@@ -24,8 +24,8 @@ use Rattle.written.proofs.TextLaws.{Value, NoValue, value-none, then-as
 use Rattle.written.proofs.PartLaws.{after, whole, enclosed, whole-start, whole-end, whole-absent, whole-null, whole-part, after-length, after-kept, lead-joined}
 
 -- whether an ARRAY's element is null, by what the code asked
-pub null-is : (t : Table) (ws : List ValueRow) (b : Bool) {e x : ℕ} {n c : Bool} → e ≡ x → n ≡ nullNext t e ws → (b && n) ≡ c → (b && nullNext t x ws) ≡ c
-null-is t ws b f g h = rw (← f, ← g) h
+pub null-is : (t : Table) (ws : List ValueRow) (b : Bool) {e x : ℕ} {n c : Bool} → e ≡ x → n ≡ (b && nullNext t e ws) → n ≡ c → (b && nullNext t x ws) ≡ c
+null-is t ws b f g h = rw (← f) (sym g ∙ h)
 
 -- ---- what the members give
 

@@ -8,7 +8,9 @@ use lib.Dec.{eqb}
 use lib.ListN.{length}
 use lib.Seq.{sets}
 use Rattle.slices.specs.Lent.{Lent, before, after, tableIn}
-use Rattle.jer.specs.Table.{Table, UTF8String, kindOf, isBase64, isUnwrapped, countOf, typeAt, nameAt}
+use Rattle.jer.specs.Table.{Table, table, memberRow, UTF8String, kindOf, isBase64, isUnwrapped, countOf, typeAt, nameAt}
+use Rattle.types.specs.Rows.{rowOf}
+use Rattle.types.specs.declared.row.Row.{Row}
 use Rattle.jer.specs.Value.{Val}
 use Rattle.jer.specs.Rows.{ValueRow}
 use Rattle.jer.specs.Judge.{Took, took, wrong, andThen, Taker, takeRow, takeValue}
@@ -54,6 +56,10 @@ pub record Writes (x : Took (List ℕ)) (k : ℕ) (before after : List ℕ) (a :
 abbrev pub Wrapped : Table → Type 0
 Wrapped t = (r i : ℕ) → isUnwrapped t r ≡ true → i < countOf t r → isUnwrapped t (typeAt t r i) ≡ false
 
+-- the kind of the type at r, which is not UNWRAPPED
+abbrev pub PlainRow : Table → ℕ → ℕ → Type 0
+PlainRow t kind r = (kind ≡ kindOf t r) × (isUnwrapped t r ≡ false)
+
 -- ---- strings
 
 unfoldable pub spelled : Form → List ℕ → List ℕ
@@ -84,6 +90,11 @@ nameText name = stringText name ++ (0x3A ∷ [])
 unfoldable pub lead : Bool → Table → ℕ → ℕ → ℕ → List ℕ
 lead true t r i n = nulls n (i - n) ++ comma i
 lead false t r i n = comma n ++ nameText (nameAt t r i)
+
+-- it is put, for a member whose row is `member`
+abbrev pub Leads : Bool → List ℕ → Lent → Row → ℕ → ℕ → ℕ → ℕ → Lent → ℕ → Type 0
+Leads array types names member r i n k text e =
+    member ≡ rowOf (table types (before names)) (memberRow (table types (before names)) r i) → Puts (lead array (table types (before names)) r i n) k (before text) (after text) e
 
 -- ---- the end of a bracket
 

@@ -2,6 +2,7 @@
 use crate::put::Form;
 use crate::put::add;
 use crate::put::put_bool;
+use crate::put::put_chars;
 use crate::put::put_integer;
 use crate::put::put_null;
 use crate::put::put_string;
@@ -16,28 +17,27 @@ use types::row::member_row;
 use types::row::name_in;
 use types::row::wide;
 ghost use mathlib.Core.Path.{_≡_};
+ghost use mathlib.Core.Bool.{true};
 ghost use mathlib.Core.List.{List};
 ghost use Prim.Native.Nat.{ℕ, _≤_, _<_};
 ghost use Rattle.jer.specs.Table.{kindOf, table};
+ghost use Rattle.json.specs.Utf8.{utf8};
+ghost use Rattle.written.specs.Literal.{IsLiteral};
 ghost use Rattle.written.specs.Rows.{valueRow};
-ghost use Rattle.written.specs.Text.{formOf, Writes, WritesLeaf};
+ghost use Rattle.written.specs.Text.{formOf, WritesLeaf};
 
-// How a string of the type at `row` is spelled.
+// How octets of the type at `row` are spelled.
 fn form_of(types: &[u32], row: usize) -> Form
-    ensures { λ f. ⌜ ((ns : List ℕ) → f ≡ formOf (table (now (types .entry)) ns) row) ⌝ }
+    ensures { λ f. ⌜ ((ns : List ℕ) → kindOf (table (now (types .entry)) ns) row ≡ 4 → f ≡ formOf (table (now (types .entry)) ns) row) ⌝ }
 {
-    let type_row = Row::at(types, row);
-    if type_row.kind == Row::UTF8_STRING {
-        return Form::Escaped;
-    }
-    if type_row.is_base64() {
+    if Row::at(types, row).is_base64() {
         return Form::Base64;
     }
     Form::Hexadecimal
 }
 
-// An OCTET STRING or UTF8String, from where the pool has got to.
-fn string(
+// An OCTET STRING, from where the pool has got to.
+fn octets(
     types: &[u32],
     names: &[u8],
     pool: &[u8],
@@ -48,7 +48,7 @@ fn string(
     offset: usize,
     place: usize,
 ) -> Taken
-    requires { ⌜ (w .kind ≡ kindOf (table (now types) (now names)) row) × (4 ≤ w .kind) × (w .kind ≤ 5) × (slot < 18446744073709551615) ⌝ }
+    requires { ⌜ (w .kind ≡ kindOf (table (now types) (now names)) row) × (w .kind ≡ 4) × (slot < 18446744073709551615) ⌝ }
     ensures { λ a. ⌜ WritesLeaf types names pool row (valueRow w) slot offset place text a ⌝ }
 {
     let start = wide(w.a);
@@ -56,11 +56,23 @@ fn string(
     let s = part(pool, offset, len);
     let end = put_string(text, place, form_of(types, row), s);
     let inside = (start == offset) & (start + len <= pool.len());
-    let good = inside & ((w.kind == Row::OCTET_STRING) | utf8(s));
-    ended(good, w.size, slot, slot + 1, add(offset, len), end)
+    ended(inside, w.size, slot, slot + 1, add(offset, len), end)
 }
 
-pub fn leaf(
+// s is UTF-8. Where it is known to be ASCII, it is not looked at.
+fn is_utf8(ascii: bool, s: &[u8]) -> bool
+    requires { ⌜ (ascii ≡ true → utf8 (now s) ≡ true) ⌝ }
+    ensures { λ b. ⌜ b ≡ utf8 (now (s .entry)) ⌝ }
+{
+    if ascii {
+        return true;
+    }
+    utf8(s)
+}
+
+// A UTF8String, from where the pool has got to.
+fn string(
+    literal: &[u8; 256],
     types: &[u32],
     names: &[u8],
     pool: &[u8],
@@ -71,7 +83,31 @@ pub fn leaf(
     offset: usize,
     place: usize,
 ) -> Taken
-    requires { ⌜ (w .kind ≡ kindOf (table (now types) (now names)) row) × (w .kind ≤ 5) × (slot < 18446744073709551615) ⌝ }
+    requires { ⌜ (w .kind ≡ kindOf (table (now types) (now names)) row) × (w .kind ≡ 5) × (slot < 18446744073709551615) × IsLiteral (now literal) ⌝ }
+    ensures { λ a. ⌜ WritesLeaf types names pool row (valueRow w) slot offset place text a ⌝ }
+{
+    let start = wide(w.a);
+    let len = wide(w.b);
+    let s = part(pool, offset, len);
+    let chars = put_chars(literal, text, place, s);
+    let inside = (start == offset) & (start + len <= pool.len());
+    let good = inside & is_utf8(chars.ascii, s);
+    ended(good, w.size, slot, slot + 1, add(offset, len), chars.end)
+}
+
+pub fn leaf(
+    literal: &[u8; 256],
+    types: &[u32],
+    names: &[u8],
+    pool: &[u8],
+    text: &mut [u8],
+    w: ValueRow,
+    row: usize,
+    slot: usize,
+    offset: usize,
+    place: usize,
+) -> Taken
+    requires { ⌜ (w .kind ≡ kindOf (table (now types) (now names)) row) × (w .kind ≤ 5) × (slot < 18446744073709551615) × IsLiteral (now literal) ⌝ }
     ensures { λ a. ⌜ WritesLeaf types names pool row (valueRow w) slot offset place text a ⌝ }
 {
     let kind = w.kind;
@@ -86,20 +122,32 @@ pub fn leaf(
         }
         Row::ENUMERATED => {
             let name = name_in(types, names, member_row(types, row, w.a));
-            let end = put_string(text, place, Form::Escaped, name);
+            let chars = put_chars(literal, text, place, name);
             ended(
                 (w.a < count_of(types, row)) & (w.b == 0),
                 w.size,
                 slot,
                 slot + 1,
                 offset,
-                end,
+                chars.end,
             )
         }
         Row::NULL => {
             let end = put_null(text, place);
             ended((w.a == 0) & (w.b == 0), w.size, slot, slot + 1, offset, end)
         }
-        _ => string(types, names, pool, text, w, row, slot, offset, place),
+        Row::OCTET_STRING => octets(types, names, pool, text, w, row, slot, offset, place),
+        _ => string(
+            literal,
+            types,
+            names,
+            pool,
+            text,
+            w,
+            row,
+            slot,
+            offset,
+            place,
+        ),
     }
 }

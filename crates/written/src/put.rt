@@ -3,18 +3,21 @@ use octets::amount;
 use octets::encode;
 use octets::escape;
 use octets::integer;
+use slices::part;
 use slices::put;
-use types::row::member_row;
-use types::row::name_in;
+use types::row::Row;
+use types::row::wide;
 ghost use mathlib.Core.Path.{_≡_};
-ghost use mathlib.Core.List.{[], _∷_};
-ghost use Prim.Native.Nat.{_+_, _-_, _*_, _^_, _≤_, _<_};
+ghost use mathlib.Core.Bool.{true};
+ghost use mathlib.Core.List.{List, [], _∷_};
+ghost use Prim.Native.Nat.{ℕ, _+_, _-_, _*_, _^_, _≤_, _<_};
 ghost use lib.ListN.{length};
 ghost use lib.Seq.{sets};
-ghost use Rattle.jer.specs.Write.{nullText, boolText, intText, quotes};
+ghost use Rattle.jer.specs.Write.{nullText, boolText, intText, quotes, stringText};
 ghost use Rattle.jer.specs.Calls.{amount};
-ghost use Rattle.jer.specs.Table.{table};
-ghost use Rattle.written.specs.Text.{Puts, spelled, comma, nulls, nameText, lead, opening, closing, keptAfter};
+ghost use Rattle.json.specs.Utf8.{utf8};
+ghost use Rattle.written.specs.Literal.{IsLiteral, PutsLiteral};
+ghost use Rattle.written.specs.Text.{Puts, Leads, spelled, comma, nulls, nameText, opening, closing, keptAfter};
 
 // The place b bytes after a.
 pub fn add(a: usize, b: usize) -> usize
@@ -42,9 +45,33 @@ pub fn copy(text: &mut [u8], k: usize, s: &[u8])
     }
 }
 
+// There are n bytes from k on in room for so many.
+fn has_room(room: usize, k: usize, n: usize) -> bool
+    ensures { λ b. ⌜ (b ≡ true → k + n ≤ room) ⌝ }
+{
+    if room < k {
+        return false;
+    }
+    n <= room - k
+}
+
+// The same with two quotation marks.
+fn has_quoted(room: usize, k: usize, n: usize) -> bool
+    ensures { λ b. ⌜ (b ≡ true → k + n + 2 ≤ room) ⌝ }
+{
+    if room < 2 {
+        return false;
+    }
+    has_room(room - 2, k, n)
+}
+
 pub fn put_bytes(text: &mut [u8], k: usize, s: &[u8]) -> usize
     ensures { λ e. ⌜ Puts (now (s .entry)) k (now (text .entry)) (now (text .exit)) e ⌝ }
 {
+    if has_room(text.len(), k, s.len()) {
+        copy(text, k, s);
+        return k + s.len();
+    }
     let mut p = k;
     let mut j = 0;
     while j < s.len() {
@@ -96,12 +123,11 @@ pub fn put_bool(text: &mut [u8], k: usize, b: bool) -> usize
 pub fn put_integer(text: &mut [u8], k: usize, low: u32, high: u32) -> usize
     ensures { λ e. ⌜ Puts (intText (high * 2 ^ 32 + low)) k (now (text .entry)) (now (text .exit)) e ⌝ }
 {
-    let end = add(k, integer::integer_len(low, high) as usize);
-    if end <= json::TEXT {
-        integer::put_integer(text, k, low, high);
-        return end;
+    if k <= json::TEXT {
+        let n = integer::put_integer(text, k, low, high);
+        return add(k, n);
     }
-    end
+    add(k, integer::integer_len(low, high) as usize)
 }
 
 // How the bytes of a string are spelled.
@@ -167,33 +193,88 @@ pub fn put_string(text: &mut [u8], k: usize, form: Form, s: &[u8]) -> usize
     put_byte(text, end, 0x22)
 }
 
-// A member's name and the colon.
-pub fn put_name(text: &mut [u8], k: usize, name: &[u8]) -> usize
-    ensures { λ e. ⌜ Puts (nameText (now (name .entry))) k (now (text .entry)) (now (text .exit)) e ⌝ }
+// The bytes of s, for which there is room, up to the first that does not stand for itself. Returns how many they are.
+fn put_literal(literal: &[u8; 256], text: &mut [u8], k: usize, s: &[u8]) -> usize
+    requires { ⌜ IsLiteral (now literal) × (k + length (now s) ≤ length (now text)) ⌝ }
+    ensures { λ n. ⌜ PutsLiteral (now (s .entry)) k (now (text .entry)) (now (text .exit)) n ⌝ }
 {
-    let end = put_string(text, k, Form::Escaped, name);
-    put_byte(text, end, 0x3A)
+    let mut j = 0;
+    while j < s.len() {
+        let b = s[j];
+        if literal[b as usize] != 0x2E {
+            return j;
+        }
+        text[k + j] = b;
+        j += 1;
+    }
+    j
 }
 
-// What stands before the member at i of the type at r, with n parts written: in an ARRAY the nulls that are due, else its name.
+// Where a string of characters ends, and whether they are known to be ASCII.
+pub struct Chars {
+    pub end: usize,
+    pub ascii: bool,
+}
+
+// A string of characters in quotation marks: byte by byte if they stand for themselves, else once more with its escapes.
+pub fn put_chars(literal: &[u8; 256], text: &mut [u8], k: usize, s: &[u8]) -> Chars
+    requires { ⌜ IsLiteral (now literal) ⌝ }
+    ensures { λ c. ⌜ Puts (stringText (now (s .entry))) k (now (text .entry)) (now (text .exit)) (c .end) ⌝ }
+    ensures { λ c. ⌜ (c .ascii ≡ true → utf8 (now (s .entry)) ≡ true) ⌝ }
+{
+    if !has_quoted(text.len(), k, s.len()) {
+        let end = put_string(text, k, Form::Escaped, s);
+        return Chars {
+            end: end,
+            ascii: false,
+        };
+    }
+    text[k] = 0x22;
+    let n = put_literal(literal, text, k + 1, s);
+    if n < s.len() {
+        let end = put_string(text, k, Form::Escaped, s);
+        return Chars {
+            end: end,
+            ascii: false,
+        };
+    }
+    text[k + 1 + n] = 0x22;
+    Chars {
+        end: k + n + 2,
+        ascii: true,
+    }
+}
+
+// A member's name and the colon.
+pub fn put_name(literal: &[u8; 256], text: &mut [u8], k: usize, name: &[u8]) -> usize
+    requires { ⌜ IsLiteral (now literal) ⌝ }
+    ensures { λ e. ⌜ Puts (nameText (now (name .entry))) k (now (text .entry)) (now (text .exit)) e ⌝ }
+{
+    let chars = put_chars(literal, text, k, name);
+    put_byte(text, chars.end, 0x3A)
+}
+
+// What stands before the member at i, whose row is `member`, with n parts written: in an ARRAY the nulls that are due, else its name.
 pub fn put_lead(
-    types: &[u32],
+    literal: &[u8; 256],
     names: &[u8],
     text: &mut [u8],
-    r: usize,
+    member: Row,
     i: u32,
     n: u32,
     k: usize,
     array: bool,
 ) -> usize
-    ensures { λ e. ⌜ Puts (lead array (table (now (types .entry)) (now (names .entry))) r i n) k (now (text .entry)) (now (text .exit)) e ⌝ }
+    requires { ⌜ IsLiteral (now literal) ⌝ }
+    ensures { λ e. ⌜ ((types : List ℕ) (r : ℕ) → Leads array types names member r i n k text e) ⌝ }
 {
     if array {
         let start = put_nulls(text, k, n, i);
         return put_comma(text, start, i);
     }
     let start = put_comma(text, k, n);
-    put_name(text, start, name_in(types, names, member_row(types, r, i)))
+    let name = part(names, wide(member.members), wide(member.root));
+    put_name(literal, text, start, name)
 }
 
 // The bracket of an ARRAY or an object, opened.

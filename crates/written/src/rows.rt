@@ -2,14 +2,15 @@
 use types::row::Row;
 use types::row::kind_of;
 use types::row::may_be_absent;
+use types::row::row_in;
 use types::row::type_at;
 ghost use mathlib.Core.Path.{_≡_};
-ghost use mathlib.Core.Bool.{true};
+ghost use mathlib.Core.Bool.{true, _&&_};
 ghost use mathlib.Core.List.{List};
 ghost use Prim.Native.Nat.{ℕ, _<_};
-ghost use lib.ListN.{length};
 ghost use Rattle.jer.specs.Judge.{isAbsent};
 ghost use Rattle.jer.specs.Table.{table};
+ghost use Rattle.types.specs.Rows.{rowOf};
 ghost use Rattle.written.specs.Rows.{valueRow, rowsFrom, Finds, absentNext, nullNext};
 
 pub struct ValueRow {
@@ -52,16 +53,21 @@ impl ValueRow {
 // The member at i of the type at r is absent, by the row q.
 pub fn absent_at(types: &[u32], values: &[u32], r: usize, i: u32, q: usize) -> bool
     ensures { λ b. ⌜ ((ns : List ℕ) → b ≡ absentNext (table (now (types .entry)) ns) r i (rowsFrom (now (values .entry)) q)) ⌝ }
-    ensures { λ b. ⌜ (b ≡ true → q < length (now (values .entry))) ⌝ }
+    ensures { λ b. ⌜ (b ≡ true → q < 18446744073709551615) ⌝ }
 {
     match row_at(values, q) {
-        Found::Row(w) => may_be_absent(types, r, i) & w.is_absent(),
+        Found::Row(w) => {
+            if w.kind != 15 {
+                return false;
+            }
+            may_be_absent(types, r, i) & w.is_absent()
+        }
         Found::End => false,
     }
 }
 
 // A value of the type at r that begins at the row q, if it is right, is null.
-pub fn null_at(types: &[u32], values: &[u32], r: usize, q: usize) -> bool
+fn null_at(types: &[u32], values: &[u32], r: usize, q: usize) -> bool
     ensures { λ b. ⌜ ((ns : List ℕ) → b ≡ nullNext (table (now (types .entry)) ns) r (rowsFrom (now (values .entry)) q)) ⌝ }
 {
     match row_at(values, q) {
@@ -72,4 +78,24 @@ pub fn null_at(types: &[u32], values: &[u32], r: usize, q: usize) -> bool
         }
         Found::End => false,
     }
+}
+
+// An element of the type at r is null, by the row q; a member of an object is written in any case.
+pub fn null_in(array: bool, types: &[u32], values: &[u32], r: usize, q: usize) -> bool
+    ensures { λ b. ⌜ ((ns : List ℕ) → b ≡ (array && nullNext (table (now (types .entry)) ns) r (rowsFrom (now (values .entry)) q))) ⌝ }
+{
+    if array {
+        return null_at(types, values, r, q);
+    }
+    false
+}
+
+// Row r of the type table, with one test for all its fields.
+pub fn type_row(types: &[u32], r: usize) -> Row
+    ensures { λ w. ⌜ ((ns : List ℕ) → w ≡ rowOf (table (now (types .entry)) ns) r) ⌝ }
+{
+    if r < types.len() / 8 {
+        return row_in(types, r);
+    }
+    Row::at(types, r)
 }

@@ -10,17 +10,20 @@ use crate::put::put_opening;
 use crate::rows::Found;
 use crate::rows::ValueRow;
 use crate::rows::absent_at;
-use crate::rows::null_at;
+use crate::rows::null_in;
 use crate::rows::row_at;
+use crate::rows::type_row;
+use crate::start::closed;
+use crate::start::start_of;
 use crate::taken::Taken;
 use crate::taken::ended;
 use types::row::Row;
 use types::row::count_of;
 use types::row::element_of;
-use types::row::kind_of;
 use types::row::member_row;
 use types::row::name_in;
 use types::row::type_at;
+use types::row::wide;
 ghost use mathlib.Core.Path.{_≡_};
 ghost use mathlib.Core.Bool.{false};
 ghost use mathlib.Core.List.{[]};
@@ -28,11 +31,13 @@ ghost use Prim.Native.Nat.{_<_};
 ghost use lib.ListN.{length};
 ghost use Rattle.jer.specs.Table.{isUnwrapped, table};
 ghost use Rattle.jer.specs.Judge.{takeSequence, takeList, takeChoice};
+ghost use Rattle.written.specs.Literal.{IsLiteral};
 ghost use Rattle.written.specs.Rows.{valueRow};
-ghost use Rattle.written.specs.Text.{WritesValue, Measures, WritesParts, Wrapped};
+ghost use Rattle.written.specs.Text.{PlainRow, WritesValue, Measures, WritesParts, Wrapped};
 
 // The value of the type at `row` whose rows begin at `slot`, with the pool used up to `offset`; its text from `place` on.
 pub fn value(
+    literal: &[u8; 256],
     types: &[u32],
     names: &[u8],
     values: &[u32],
@@ -44,73 +49,72 @@ pub fn value(
     place: usize,
     depth: u32,
 ) -> Taken
-    requires { ⌜ Wrapped (table (now types) (now names)) ⌝ }
+    requires { ⌜ Wrapped (table (now types) (now names)) × IsLiteral (now literal) ⌝ }
     ensures { λ a. ⌜ WritesValue depth types names values pool row slot offset place text a ⌝ }
 {
-    if !Row::at(types, row).is_unwrapped() {
-        return plain(
-            types,
-            names,
-            values,
-            pool,
-            text,
-            row,
-            slot,
-            offset,
-            place,
-            depth,
-        );
-    }
-    let Found::Row(w) = row_at(values, slot) else {
-        return Taken::Wrong(slot);
-    };
-    let right = (w.kind == Row::CHOICE) & ((w.a < count_of(types, row)) & (w.b == 0));
-    if !right {
+    let start = start_of(types, values, row, slot);
+    if !start.right {
         return Taken::Wrong(slot);
     }
-    let e = type_at(types, row, w.a);
+    let first = start.slot;
+    let size = start.size;
     match plain(
+        literal,
         types,
         names,
         values,
         pool,
         text,
-        e,
-        slot + 1,
+        start.kind,
+        start.row,
+        first,
         offset,
         place,
         depth,
     ) {
         Taken::Wrong(b) => Taken::Wrong(b),
-        Taken::Took { next, used, end } => ended(true, w.size, slot, next, used, end),
+        Taken::Took { next, used, end } => closed(first, size, slot, next, used, end),
     }
 }
 
-// The same, of a type that is not UNWRAPPED.
+// The same, of a type that is not UNWRAPPED, and whose kind is due.
 fn plain(
+    literal: &[u8; 256],
     types: &[u32],
     names: &[u8],
     values: &[u32],
     pool: &[u8],
     text: &mut [u8],
+    due: u32,
     row: usize,
     slot: usize,
     offset: usize,
     place: usize,
     depth: u32,
 ) -> Taken
-    requires { ⌜ Wrapped (table (now types) (now names)) × (isUnwrapped (table (now types) (now names)) row ≡ false) ⌝ }
+    requires { ⌜ Wrapped (table (now types) (now names)) × IsLiteral (now literal) × PlainRow (table (now types) (now names)) due row ⌝ }
     ensures { λ a. ⌜ WritesValue depth types names values pool row slot offset place text a ⌝ }
 {
     let Found::Row(w) = row_at(values, slot) else {
         return Taken::Wrong(slot);
     };
     let kind = w.kind;
-    if kind != kind_of(types, row) {
+    if kind != due {
         return Taken::Wrong(slot);
     }
     if kind < Row::SEQUENCE {
-        return leaf(types, names, pool, text, w, row, slot, offset, place);
+        return leaf(
+            literal,
+            types,
+            names,
+            pool,
+            text,
+            w,
+            row,
+            slot,
+            offset,
+            place,
+        );
     }
     if depth == 0 {
         return Taken::Wrong(slot);
@@ -120,6 +124,7 @@ fn plain(
     }
     if kind == Row::SEQUENCE {
         return sequence(
+            literal,
             types,
             names,
             values,
@@ -135,6 +140,7 @@ fn plain(
     }
     if kind == Row::SEQUENCE_OF {
         return list(
+            literal,
             types,
             names,
             values,
@@ -155,6 +161,7 @@ fn plain(
         return Taken::Wrong(slot);
     }
     choice(
+        literal,
         types,
         names,
         values,
@@ -171,6 +178,7 @@ fn plain(
 
 // A SEQUENCE OF whose row is w. `depth` brackets may be opened inside.
 fn list(
+    literal: &[u8; 256],
     types: &[u32],
     names: &[u8],
     values: &[u32],
@@ -183,7 +191,7 @@ fn list(
     place: usize,
     depth: u32,
 ) -> Taken
-    requires { ⌜ Wrapped (table (now types) (now names)) × (slot < length (now values)) ⌝ }
+    requires { ⌜ Wrapped (table (now types) (now names)) × IsLiteral (now literal) × (slot < length (now values)) ⌝ }
     ensures { λ a. ⌜ WritesParts takeList depth types names values pool row (valueRow w) slot offset place text a ⌝ }
 {
     let e = element_of(types, row);
@@ -193,7 +201,19 @@ fn list(
     let mut p = put_byte(text, place, 0x5B);
     while i < w.a {
         let s = put_comma(text, p, i);
-        match value(types, names, values, pool, text, e, next, used, s, depth) {
+        match value(
+            literal,
+            types,
+            names,
+            values,
+            pool,
+            text,
+            e,
+            next,
+            used,
+            s,
+            depth,
+        ) {
             Taken::Wrong(b) => return Taken::Wrong(b),
             Taken::Took {
                 next: n,
@@ -213,6 +233,7 @@ fn list(
 
 // A SEQUENCE, as an ARRAY or an object: nulls of an ARRAY wait until another element follows.
 fn sequence(
+    literal: &[u8; 256],
     types: &[u32],
     names: &[u8],
     values: &[u32],
@@ -225,11 +246,13 @@ fn sequence(
     place: usize,
     depth: u32,
 ) -> Taken
-    requires { ⌜ Wrapped (table (now types) (now names)) × (slot < length (now values)) ⌝ }
+    requires { ⌜ Wrapped (table (now types) (now names)) × IsLiteral (now literal) × (slot < length (now values)) ⌝ }
     ensures { λ a. ⌜ WritesParts takeSequence depth types names values pool row (valueRow w) slot offset place text a ⌝ }
 {
-    let array = Row::at(types, row).is_array();
-    let count = count_of(types, row);
+    let own = type_row(types, row);
+    let array = own.is_array();
+    let count = own.members;
+    let first = wide(own.first);
     let mut i: u32 = 0;
     let mut present: u32 = 0;
     let mut kept: u32 = 0;
@@ -237,12 +260,13 @@ fn sequence(
     let mut used = offset;
     let mut p = put_opening(text, place, array);
     while i < count {
-        let e = type_at(types, row, i);
+        let member = type_row(types, first + wide(i));
+        let e = wide(member.first);
         if absent_at(types, values, row, i, next) {
             next += 1;
             i += 1;
-        } else if array & null_at(types, values, e, next) {
-            let t = judged(types, names, values, pool, e, next, used, depth);
+        } else if null_in(array, types, values, e, next) {
+            let t = judged(literal, types, names, values, pool, e, next, used, depth);
             let Taken::Took {
                 next: n,
                 used: u,
@@ -256,8 +280,20 @@ fn sequence(
             present += 1;
             i += 1;
         } else {
-            let s = put_lead(types, names, text, row, i, kept, p, array);
-            let t = value(types, names, values, pool, text, e, next, used, s, depth);
+            let s = put_lead(literal, names, text, member, i, kept, p, array);
+            let t = value(
+                literal,
+                types,
+                names,
+                values,
+                pool,
+                text,
+                e,
+                next,
+                used,
+                s,
+                depth,
+            );
             let Taken::Took {
                 next: n,
                 used: u,
@@ -280,6 +316,7 @@ fn sequence(
 
 // A value whose text is measured and not kept.
 pub fn judged(
+    literal: &[u8; 256],
     types: &[u32],
     names: &[u8],
     values: &[u32],
@@ -289,11 +326,12 @@ pub fn judged(
     offset: usize,
     depth: u32,
 ) -> Taken
-    requires { ⌜ Wrapped (table (now types) (now names)) ⌝ }
+    requires { ⌜ Wrapped (table (now types) (now names)) × IsLiteral (now literal) ⌝ }
     ensures { λ a. ⌜ Measures depth types names values pool row slot offset a ⌝ }
 {
     let mut one = [0u8; 1];
     value(
+        literal,
         types,
         names,
         values,
@@ -309,6 +347,7 @@ pub fn judged(
 
 // A CHOICE that is not UNWRAPPED: an object of one member.
 fn choice(
+    literal: &[u8; 256],
     types: &[u32],
     names: &[u8],
     values: &[u32],
@@ -321,13 +360,19 @@ fn choice(
     place: usize,
     depth: u32,
 ) -> Taken
-    requires { ⌜ Wrapped (table (now types) (now names)) × (slot < length (now values)) × (isUnwrapped (table (now types) (now names)) row ≡ false) ⌝ }
+    requires { ⌜ Wrapped (table (now types) (now names)) × IsLiteral (now literal) × (slot < length (now values)) × (isUnwrapped (table (now types) (now names)) row ≡ false) ⌝ }
     ensures { λ a. ⌜ WritesParts takeChoice depth types names values pool row (valueRow w) slot offset place text a ⌝ }
 {
     let p = put_byte(text, place, 0x7B);
-    let start = put_name(text, p, name_in(types, names, member_row(types, row, w.a)));
+    let start = put_name(
+        literal,
+        text,
+        p,
+        name_in(types, names, member_row(types, row, w.a)),
+    );
     let e = type_at(types, row, w.a);
     match value(
+        literal,
         types,
         names,
         values,

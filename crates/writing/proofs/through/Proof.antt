@@ -1,4 +1,4 @@
--- Made by tools/answers.py from answers/through.ans: edit that. b020133dafc52d96
+-- Made by tools/answers.py from answers/through.ans: edit that. ab9c553ec227bcb6
 use mathlib.Core.Path.{refl}
 use borrow.Author.Tests.{not-true, not-false}
 use Rattle.jer.specs.Judge.{rowsIn}
@@ -10,6 +10,9 @@ use Rattle.writing.proofs.CallLaws.{copied, front-few, answers-as, refu
 use borrow.Author.Needs.{needs}
 use Rattle.writing.proofs.through.Statement.{statement}
 use Rattle.writing.proofs.through.Tie as tie
+
+table-requires : tie.Need-table-requires
+table-requires c κs = search needs
 
 value-requires : tie.Need-value-requires
 value-requires c κs = search needs
@@ -25,7 +28,7 @@ same-length c = search needs
 
 returns : tie.Need-returns
 returns c =
-    let a = c .before .before .before .before .before .before .before .before .before .before .before .before .before .before .args in
+    let a = c .before .before .before .before .before .before .before .before .before .before .before .before .before .before .before .before .args in
     let t = table (a .types .now) (a .names .now) in
     let v = value-got (rowsIn (a .values .now)) refl 0 (c .before .before .before .before .before .before .value .ensures) (c .before .before .next .given .1) in
     refuses (a .text .now) (left-over t (a .values .now) (a .pool .now) v (not-true _ (c .if1 .taken)))
@@ -35,7 +38,7 @@ same-length-2 c = search needs
 
 returns-2 : tie.Need-returns-2
 returns-2 c =
-    let a = c .before .before .before .before .before .before .before .before .before .before .before .before .before .before .before .args in
+    let a = c .before .before .before .before .before .before .before .before .before .before .before .before .before .before .before .before .before .args in
     let t = table (a .types .now) (a .names .now) in
     let v = value-got (rowsIn (a .values .now)) refl 0 (c .before .before .before .before .before .before .before .value .ensures) (c .before .before .before .next .given .1) in
     answers-as (all-taken t (a .values .now) (a .pool .now) v (not-false _ (c .before .if1 .left))) (too-long (a .text .now) (write (v .what) t 0) (end-of (v .puts)) (c .if2 .taken))
@@ -45,7 +48,7 @@ same-length-3 c = search needs
 
 returns-3 : tie.Need-returns-3
 returns-3 c =
-    let a = c .before .before .before .before .before .before .before .before .before .before .before .before .before .before .before .before .args in
+    let a = c .before .before .before .before .before .before .before .before .before .before .before .before .before .before .before .before .before .before .args in
     let t = table (a .types .now) (a .names .now) in
     let v = value-got (rowsIn (a .values .now)) refl 0 (c .before .before .before .before .before .before .before .before .value .ensures) (c .before .before .before .before .next .given .1) in
     answers-as (all-taken t (a .values .now) (a .pool .now) v (not-false _ (c .before .before .if1 .left))) (too-small (a .text .now) (write (v .what) t 0) (end-of (v .puts)) (c .before .if2 .left) (c .if3 .taken))
@@ -54,7 +57,7 @@ part-requires : tie.Need-part-requires
 part-requires c κs = search needs
 
 copy-requires : tie.Need-copy-requires
-copy-requires c κs = omega (arith, front-few (c .before .before .before .before .before .before .before .before .next .given .0 .1 .1 .0) (c .before .before .before .before .before .before .before .before .before .before .before .before .value .last .1 .1 .1 .1 .0) (c .part .ensures), c .before .before .before .before .if3 .left)
+copy-requires c κs = omega (arith, front-few (c .before .before .before .before .before .before .before .before .next .given .0 .1 .1 .0) (c .before .before .before .before .before .before .before .before .before .before .before .before .value .last .1 .1 .1 .1 .1 .0) (c .part .ensures), c .before .before .before .before .if3 .left)
 
 same-length-4 : tie.Need-same-length-4
 same-length-4 c = search needs
@@ -64,12 +67,12 @@ same-length-5 c = search needs
 
 returns-4 : tie.Need-returns-4
 returns-4 c =
-    let a = c .before .before .before .before .before .before .before .before .before .before .before .before .before .before .before .before .before .before .before .before .before .before .before .args in
+    let a = c .before .before .before .before .before .before .before .before .before .before .before .before .before .before .before .before .before .before .before .before .before .before .before .before .before .args in
     let t = table (a .types .now) (a .names .now) in
     let v = value-got (rowsIn (a .values .now)) refl 0 (c .before .before .before .before .before .before .before .before .before .before .before .before .before .before .before .value .ensures) (c .before .before .before .before .before .before .before .before .before .before .before .next .given .1) in
     let e = end-of (v .puts) in
     answers-as (all-taken t (a .values .now) (a .pool .now) v (not-false _ (c .before .before .before .before .before .before .before .before .before .if1 .left)))
-    (written (a .text .now) (write (v .what) t 0) e (c .before .before .before .before .before .before .before .before .if2 .left) (c .before .before .before .before .before .before .before .if3 .left) (copied (a .text .now) (v .puts) (c .before .before .before .before .before .before .before .before .if2 .left) (omega (arith, c .before .before .before .before .before .before .if4 .taken, c .before .before .before .before .before .before .before .before .before .before .before .before .before .before .before .value .kept .1 .1 .1 .1 .0)) (c .before .before .before .part .ensures) (c .before .before .copy .ensures)))
+    (written (a .text .now) (write (v .what) t 0) e (c .before .before .before .before .before .before .before .before .if2 .left) (c .before .before .before .before .before .before .before .if3 .left) (copied (a .text .now) (v .puts) (c .before .before .before .before .before .before .before .before .if2 .left) (omega (arith, c .before .before .before .before .before .before .if4 .taken, c .before .before .before .before .before .before .before .before .before .before .before .before .before .before .before .value .kept .1 .1 .1 .1 .1 .0)) (c .before .before .before .part .ensures) (c .before .before .copy .ensures)))
 
 value-requires-2 : tie.Need-value-requires-2
 value-requires-2 c κs = search needs
@@ -79,7 +82,7 @@ same-length-6 c = search needs
 
 returns-5 : tie.Need-returns-5
 returns-5 c =
-    let a = c .before .before .before .before .before .before .before .before .before .before .before .before .before .args in
+    let a = c .before .before .before .before .before .before .before .before .before .before .before .before .before .before .before .args in
     let t = table (a .types .now) (a .names .now) in
     refuses (a .text .now) (value-bad t (a .values .now) (a .pool .now) (value-wrong (rowsIn (a .values .now)) refl 0 (c .before .before .before .before .before .value .ensures) (c .before .slot .given .1)))
 
@@ -91,16 +94,17 @@ same-length-8 c = search needs
 
 returns-6 : tie.Need-returns-6
 returns-6 c =
-    let a = c .before .before .before .before .before .before .before .before .before .before .before .before .before .before .before .before .before .before .before .before .before .args in
+    let a = c .before .before .before .before .before .before .before .before .before .before .before .before .before .before .before .before .before .before .before .before .before .before .before .before .args in
     let t = table (a .types .now) (a .names .now) in
-    let v = value-got (rowsIn (a .values .now)) refl 0 (c .before .before .before .before .before .before .before .before .before .before .before .before .before .value .ensures) (c .before .before .before .before .before .before .before .before .before .next .given .1) in
+    let v = value-got (rowsIn (a .values .now)) refl 0 (c .before .before .before .before .before .before .before .before .before .before .before .before .before .before .value .ensures) (c .before .before .before .before .before .before .before .before .before .before .next .given .1) in
     let e = end-of (v .puts) in
-    answers-as (all-taken t (a .values .now) (a .pool .now) v (not-false _ (c .before .before .before .before .before .before .before .if1 .left))) (written (a .text .now) (write (v .what) t 0) e (c .before .before .before .before .before .before .if2 .left) (c .before .before .before .before .before .if3 .left) (stored-again t (a .values .now) (a .pool .now) v (c .before .before .value2 .ensures) e (c .before .before .before .before .before .before .if2 .left)))
+    answers-as (all-taken t (a .values .now) (a .pool .now) v (not-false _ (c .before .before .before .before .before .before .before .before .if1 .left))) (written (a .text .now) (write (v .what) t 0) e (c .before .before .before .before .before .before .before .if2 .left) (c .before .before .before .before .before .before .if3 .left) (stored-again t (a .values .now) (a .pool .now) v (c .before .before .value2 .ensures) e (c .before .before .before .before .before .before .before .if2 .left)))
 
 pub through-spec : {M : Type 1} → statement M
 through-spec =
     tie.close
     (tie.spec
+    table-requires
     value-requires
     enum-known-slot
     enum-known-next

@@ -1,4 +1,4 @@
--- Made by tools/answers.py from answers/leaf/leaf.ans: edit that. 128d486304b743ba
+-- Made by tools/answers.py from answers/leaf/leaf.ans: edit that. 3be5014c1c24cab7
 use Rattle.jer.specs.Table.{table}
 use Rattle.written.proofs.LeafLaws.{bool-ends, int-ends, enum-ends, null-ends}
 use borrow.Author.Needs.{needs}
@@ -29,8 +29,8 @@ member-row-requires c κs = search needs
 name-in-requires : tie.Need-name-in-requires
 name-in-requires c κs = search needs
 
-put-string-requires : tie.Need-put-string-requires
-put-string-requires c κs = search needs
+put-chars-requires : tie.Need-put-chars-requires
+put-chars-requires c κs = search needs
 
 count-of-requires : tie.Need-count-of-requires
 count-of-requires c κs = search needs
@@ -49,6 +49,9 @@ add-ended-4 c = search needs
 
 ended-requires-4 : tie.Need-ended-requires-4
 ended-requires-4 c κs = search needs
+
+octets-requires : tie.Need-octets-requires
+octets-requires c κs = search needs
 
 string-requires : tie.Need-string-requires
 string-requires c κs = search needs
@@ -78,7 +81,7 @@ returns-3 : tie.Need-returns-3
 returns-3 c =
     let a = c .before .before .before .before .before .before .before .before .before .before .before .before .before .before .before .args in
     let w = a .w in
-    λ i ws. enum-ends i (table (a .types .now) (a .names .now)) (a .pool .now) (a .row) (w .a) (w .b) (w .size) ws (a .slot) (a .offset) (c .before .before .before .before .before .before .before .before .before .before .before .before .before .before .before .pre .0) (c .before .before .before .before .before .before .before .before .before .before .match .keys3) (c .before .before .before .count-of .ensures (a .names .now)) (c .before .before .before .before .before .before .before .before .before .member-row .ensures (a .names .now)) (c .before .before .before .before .before .before .before .before .name-in .ensures) (c .before .before .before .before .before .before .put-string .ensures) (c .ended3 .ensures)
+    λ i ws. enum-ends i (table (a .types .now) (a .names .now)) (a .pool .now) (a .row) (w .a) (w .b) (w .size) ws (a .slot) (a .offset) (c .before .before .before .before .before .before .before .before .before .before .before .before .before .before .before .pre .0) (c .before .before .before .before .before .before .before .before .before .before .match .keys3) (c .before .before .before .count-of .ensures (a .names .now)) (c .before .before .before .before .before .before .before .before .before .member-row .ensures (a .names .now)) (c .before .before .before .before .before .before .before .before .name-in .ensures) (c .before .before .before .before .before .before .put-chars .ensures .0) (c .ended3 .ensures)
 
 same-length-4 : tie.Need-same-length-4
 same-length-4 c = search needs
@@ -93,7 +96,13 @@ same-length-5 : tie.Need-same-length-5
 same-length-5 c = search needs
 
 returns-5 : tie.Need-returns-5
-returns-5 c = c .before .before .string .ensures
+returns-5 c = c .before .before .octets .ensures
+
+same-length-6 : tie.Need-same-length-6
+same-length-6 c = search needs
+
+returns-6 : tie.Need-returns-6
+returns-6 c = c .before .before .string .ensures
 
 pub leaf-spec : {M : Type 1} → statement M
 leaf-spec =
@@ -107,13 +116,14 @@ leaf-spec =
     ended-requires-2
     member-row-requires
     name-in-requires
-    put-string-requires
+    put-chars-requires
     count-of-requires
     add-ended-3
     ended-requires-3
     put-null-requires
     add-ended-4
     ended-requires-4
+    octets-requires
     string-requires
     same-length
     returns
@@ -124,4 +134,6 @@ leaf-spec =
     same-length-4
     returns-4
     same-length-5
-    returns-5)
+    returns-5
+    same-length-6
+    returns-6)

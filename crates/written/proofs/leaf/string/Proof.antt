@@ -1,6 +1,6 @@
--- Made by tools/answers.py from answers/leaf/string.ans: edit that. 67d6eb47e68dfd12
+-- Made by tools/answers.py from answers/leaf/string.ans: edit that. 96a020cd1f124199
 use Rattle.jer.specs.Table.{table}
-use Rattle.written.proofs.LeafLaws.{string-ends}
+use Rattle.written.proofs.LeafLaws.{chars-ends}
 use borrow.Author.Needs.{needs}
 use Rattle.written.proofs.leaf.string.Statement.{statement}
 use Rattle.written.proofs.leaf.string.Tie as tie
@@ -14,17 +14,14 @@ wide-requires-2 c κs = search needs
 part-requires : tie.Need-part-requires
 part-requires c κs = search needs
 
-form-of-requires : tie.Need-form-of-requires
-form-of-requires c κs = search needs
-
-put-string-requires : tie.Need-put-string-requires
-put-string-requires c κs = search needs
+put-chars-requires : tie.Need-put-chars-requires
+put-chars-requires c κs = search needs
 
 add-inside : tie.Need-add-inside
 add-inside c = search needs
 
-utf8-requires : tie.Need-utf8-requires
-utf8-requires c κs = search needs
+is-utf8-requires : tie.Need-is-utf8-requires
+is-utf8-requires c κs = search needs
 
 add-ended : tie.Need-add-ended
 add-ended c = search needs
@@ -40,10 +37,10 @@ same-length c = search needs
 
 returns : tie.Need-returns
 returns c =
-    let a = c .before .before .before .before .before .before .before .before .before .before .before .before .before .before .before .before .args in
+    let a = c .before .before .before .before .before .before .before .before .before .before .before .before .before .before .args in
     let w = a .w in
-    λ i ws. string-ends i (table (a .types .now) (a .names .now)) (a .pool .now) (a .row) (w .a) (w .b) (w .size) ws (a .slot) (a .offset) (c .before .before .before .before .before .before .before .before .before .before .before .before .before .before .before .before .pre .0) (c .before .before .before .before .before .before .before .before .before .before .before .before .before .before .before .before .pre .1) (c .before .before .before .before .before .before .before .before .before .before .before .before .before .before .before .before .pre .2) (c .before .before .before .before .before .before .before .before .before .before .before .wide .ensures .1) (c .before .before .before .before .before .before .before .before .before .before .wide2 .ensures .1)
-    (c .before .before .before .before .before .before .before .before .before .before .before .wide .ensures .0) (c .before .before .before .before .before .before .before .before .before .before .wide2 .ensures .0) (c .before .before .before .before .before .before .before .before .before .part .ensures) (c .before .before .before .before .before .before .before .form-of .ensures (a .names .now)) (c .before .before .utf8 .ensures) (c .before .add .ensures) (c .before .before .before .before .before .before .put-string .ensures) (c .ended .ensures)
+    λ i ws. chars-ends i (table (a .types .now) (a .names .now)) (a .pool .now) (a .row) (w .a) (w .b) (w .size) ws (a .slot) (a .offset) (c .before .before .before .before .before .before .before .before .before .before .before .before .before .before .pre .0) (c .before .before .before .before .before .before .before .before .before .wide .ensures .1) (c .before .before .before .before .before .before .before .before .wide2 .ensures .1)
+    (c .before .before .before .before .before .before .before .before .before .wide .ensures .0) (c .before .before .before .before .before .before .before .before .wide2 .ensures .0) (c .before .before .before .before .before .before .before .part .ensures) (c .before .add .ensures) (c .before .before .before .before .before .before .before .before .before .before .before .before .before .before .pre .1) (c .before .before .is-utf8 .ensures) (c .before .before .before .before .before .put-chars .ensures .0) (c .ended .ensures)
 
 pub string-spec : {M : Type 1} → statement M
 string-spec =
@@ -52,10 +49,9 @@ string-spec =
     wide-requires
     wide-requires-2
     part-requires
-    form-of-requires
-    put-string-requires
+    put-chars-requires
     add-inside
-    utf8-requires
+    is-utf8-requires
     add-ended
     add-requires
     ended-requires

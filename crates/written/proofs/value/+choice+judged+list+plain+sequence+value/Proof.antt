@@ -1,16 +1,19 @@
--- Made by tools/answers.py from answers/value/+choice+judged+list+plain+sequence+value.ans: edit that. 672b5195be87de0b
+-- Made by tools/answers.py from answers/value/+choice+judged+list+plain+sequence+value.ans: edit that. 080ba8617a8d4873
 use Prim.Native.Nat.{ℕ, _<_, _+_, _-_, _*_}
 use mathlib.Core.Path.{_≡_, refl, sym, ap, _∙_}
 use native.Mathlib.Omega.{arith}
 use lib.ListN.{length, drop}
 use borrow.Author.Tests.{not-true, not-false}
-use Rattle.jer.specs.Table.{elementOf, countOf, isUnwrapped, table}
+use Rattle.jer.specs.Table.{elementOf, countOf, firstOf, table}
+use Rattle.types.specs.declared.row.Row.{Row}
+use Rattle.written.proofs.RowLaws.{member-is, member-type}
+use Rattle.written.proofs.StartLaws.{start-wrong, start-plain, start-fails, start-ends}
 use Rattle.jer.specs.Judge.{rowsIn}
 use Rattle.written.specs.Rows.{valueRow}
 use Rattle.written.proofs.TextLaws.{gives-wrong, writes-is, writes-as, writes-none, value-got, value-wrong}
 use Rattle.written.proofs.ListLaws.{Items, items-start, items-next, items-wrong, items-end}
 use Rattle.written.proofs.SequenceLaws.{Members, null-is, members-start, members-absent, members-null, members-part, members-wrong, members-end}
-use Rattle.written.proofs.ValueLaws.{right-is, text-none, row-text, plain-other, plain-deep, plain-b, plain-kind, plain-position, plain-seq, plain-list, plain-choice, choice-ends, choice-wrong, unwrapped-bad, chosen-plain, unwrapped-ends, unwrapped-wrong}
+use Rattle.written.proofs.ValueLaws.{text-none, row-text, plain-other, plain-deep, plain-b, plain-kind, plain-position, plain-seq, plain-list, plain-choice, choice-ends, choice-wrong}
 use borrow.Author.Needs.{needs}
 use borrow.Fn.Kinds.{In}
 use borrow.Fn.PlainCycle.{Measures, is, falls, and}
@@ -32,15 +35,13 @@ use Rattle.written.proofs.value.+choice+judged+list+plain+sequence+valu
 use Rattle.written.proofs.value.value.Reads as value
 use Rattle.written.proofs.value.value.Kinds as value-kinds
 use Rattle.written.proofs.value.+choice+judged+list+plain+sequence+value.Lts-value as value-lts
-use Rattle.types.proofs.row.Row.at.Reads as at-reads
 use Rattle.types.proofs.row.Row.is_array.Reads as is-array-reads
-use Rattle.types.proofs.row.Row.is_unwrapped.Reads as is-unwrapped-reads
 use Rattle.types.proofs.row.count_of.Reads as count-of-reads
 use Rattle.types.proofs.row.element_of.Reads as element-of-reads
-use Rattle.types.proofs.row.kind_of.Reads as kind-of-reads
 use Rattle.types.proofs.row.member_row.Reads as member-row-reads
 use Rattle.types.proofs.row.name_in.Reads as name-in-reads
 use Rattle.types.proofs.row.type_at.Reads as type-at-reads
+use Rattle.types.proofs.row.wide.Reads as wide-reads
 use Rattle.written.proofs.leaf.leaf.Reads as leaf-reads
 use Rattle.written.proofs.put.kept_after.Reads as kept-after-reads
 use Rattle.written.proofs.put.put_byte.Reads as put-byte-reads
@@ -50,65 +51,68 @@ use Rattle.written.proofs.put.put_lead.Reads as put-lead-reads
 use Rattle.written.proofs.put.put_name.Reads as put-name-reads
 use Rattle.written.proofs.put.put_opening.Reads as put-opening-reads
 use Rattle.written.proofs.rows.absent_at.Reads as absent-at-reads
-use Rattle.written.proofs.rows.null_at.Reads as null-at-reads
+use Rattle.written.proofs.rows.null_in.Reads as null-in-reads
 use Rattle.written.proofs.rows.row_at.Reads as row-at-reads
+use Rattle.written.proofs.rows.type_row.Reads as type-row-reads
+use Rattle.written.proofs.start.closed.Reads as closed-reads
+use Rattle.written.proofs.start.start_of.Reads as start-of-reads
 use Rattle.written.proofs.taken.ended.Reads as ended-reads
 use Rattle.written.proofs.value.+choice+judged+list+plain+sequence+value.{statement}
 use Rattle.written.proofs.value.+choice+judged+list+plain+sequence+value.Tie.{close}
 
-abbrev μ-choice : Measures 5 choice-kinds.ps ℕ
-μ-choice κs a = a .1 .1 .1 .1 .1 .1 .1 .1 .1 .1 .0 * 4 + 3
+abbrev μ-choice : Measures 6 choice-kinds.ps ℕ
+μ-choice κs a = a .1 .1 .1 .1 .1 .1 .1 .1 .1 .1 .1 .0 * 4 + 3
 
-abbrev μ-judged : Measures 4 judged-kinds.ps ℕ
-μ-judged κs a = a .1 .1 .1 .1 .1 .1 .1 .0 * 4 + 2
+abbrev μ-judged : Measures 5 judged-kinds.ps ℕ
+μ-judged κs a = a .1 .1 .1 .1 .1 .1 .1 .1 .0 * 4 + 2
 
-abbrev μ-list : Measures 5 list-kinds.ps ℕ
-μ-list κs a = a .1 .1 .1 .1 .1 .1 .1 .1 .1 .1 .0 * 4 + 3
+abbrev μ-list : Measures 6 list-kinds.ps ℕ
+μ-list κs a = a .1 .1 .1 .1 .1 .1 .1 .1 .1 .1 .1 .0 * 4 + 3
 
-abbrev μ-plain : Measures 5 plain-kinds.ps ℕ
-μ-plain κs a = a .1 .1 .1 .1 .1 .1 .1 .1 .1 .0 * 4
+abbrev μ-plain : Measures 6 plain-kinds.ps ℕ
+μ-plain κs a = a .1 .1 .1 .1 .1 .1 .1 .1 .1 .1 .1 .0 * 4
 
-abbrev μ-sequence : Measures 5 sequence-kinds.ps ℕ
-μ-sequence κs a = a .1 .1 .1 .1 .1 .1 .1 .1 .1 .1 .0 * 4 + 3
+abbrev μ-sequence : Measures 6 sequence-kinds.ps ℕ
+μ-sequence κs a = a .1 .1 .1 .1 .1 .1 .1 .1 .1 .1 .1 .0 * 4 + 3
 
-abbrev μ-value : Measures 5 value-kinds.ps ℕ
-μ-value κs a = a .1 .1 .1 .1 .1 .1 .1 .1 .1 .0 * 4 + 1
+abbrev μ-value : Measures 6 value-kinds.ps ℕ
+μ-value κs a = a .1 .1 .1 .1 .1 .1 .1 .1 .1 .1 .0 * 4 + 1
 
-abbrev choice-at : ℕ → In 5 choice-kinds.ps
-choice-at t = and 5 choice-kinds.ps (is 5 choice-kinds.ps μ-choice t) choice.Pre
+abbrev choice-at : ℕ → In 6 choice-kinds.ps
+choice-at t = and 6 choice-kinds.ps (is 6 choice-kinds.ps μ-choice t) choice.Pre
 
-abbrev choice-below : ℕ → In 5 choice-kinds.ps
-choice-below t = and 5 choice-kinds.ps (falls 5 choice-kinds.ps _<_ μ-choice t) choice.Pre
+abbrev choice-below : ℕ → In 6 choice-kinds.ps
+choice-below t = and 6 choice-kinds.ps (falls 6 choice-kinds.ps _<_ μ-choice t) choice.Pre
 
-abbrev judged-at : ℕ → In 4 judged-kinds.ps
-judged-at t = and 4 judged-kinds.ps (is 4 judged-kinds.ps μ-judged t) judged.Pre
+abbrev judged-at : ℕ → In 5 judged-kinds.ps
+judged-at t = and 5 judged-kinds.ps (is 5 judged-kinds.ps μ-judged t) judged.Pre
 
-abbrev judged-below : ℕ → In 4 judged-kinds.ps
-judged-below t = and 4 judged-kinds.ps (falls 4 judged-kinds.ps _<_ μ-judged t) judged.Pre
+abbrev judged-below : ℕ → In 5 judged-kinds.ps
+judged-below t = and 5 judged-kinds.ps (falls 5 judged-kinds.ps _<_ μ-judged t) judged.Pre
 
-abbrev list-at : ℕ → In 5 list-kinds.ps
-list-at t = and 5 list-kinds.ps (is 5 list-kinds.ps μ-list t) list.Pre
+abbrev list-at : ℕ → In 6 list-kinds.ps
+list-at t = and 6 list-kinds.ps (is 6 list-kinds.ps μ-list t) list.Pre
 
-abbrev list-below : ℕ → In 5 list-kinds.ps
-list-below t = and 5 list-kinds.ps (falls 5 list-kinds.ps _<_ μ-list t) list.Pre
+abbrev list-below : ℕ → In 6 list-kinds.ps
+list-below t = and 6 list-kinds.ps (falls 6 list-kinds.ps _<_ μ-list t) list.Pre
 
-abbrev plain-at : ℕ → In 5 plain-kinds.ps
-plain-at t = and 5 plain-kinds.ps (is 5 plain-kinds.ps μ-plain t) plain.Pre
+abbrev plain-at : ℕ → In 6 plain-kinds.ps
+plain-at t = and 6 plain-kinds.ps (is 6 plain-kinds.ps μ-plain t) plain.Pre
 
-abbrev plain-below : ℕ → In 5 plain-kinds.ps
-plain-below t = and 5 plain-kinds.ps (falls 5 plain-kinds.ps _<_ μ-plain t) plain.Pre
+abbrev plain-below : ℕ → In 6 plain-kinds.ps
+plain-below t = and 6 plain-kinds.ps (falls 6 plain-kinds.ps _<_ μ-plain t) plain.Pre
 
-abbrev sequence-at : ℕ → In 5 sequence-kinds.ps
-sequence-at t = and 5 sequence-kinds.ps (is 5 sequence-kinds.ps μ-sequence t) sequence.Pre
+abbrev sequence-at : ℕ → In 6 sequence-kinds.ps
+sequence-at t = and 6 sequence-kinds.ps (is 6 sequence-kinds.ps μ-sequence t) sequence.Pre
 
-abbrev sequence-below : ℕ → In 5 sequence-kinds.ps
-sequence-below t = and 5 sequence-kinds.ps (falls 5 sequence-kinds.ps _<_ μ-sequence t) sequence.Pre
+abbrev sequence-below : ℕ → In 6 sequence-kinds.ps
+sequence-below t = and 6 sequence-kinds.ps (falls 6 sequence-kinds.ps _<_ μ-sequence t) sequence.Pre
 
-abbrev value-at : ℕ → In 5 value-kinds.ps
-value-at t = and 5 value-kinds.ps (is 5 value-kinds.ps μ-value t) value.Pre
+abbrev value-at : ℕ → In 6 value-kinds.ps
+value-at t = and 6 value-kinds.ps (is 6 value-kinds.ps μ-value t) value.Pre
 
-abbrev value-below : ℕ → In 5 value-kinds.ps
-value-below t = and 5 value-kinds.ps (falls 5 value-kinds.ps _<_ μ-value t) value.Pre
+abbrev value-below : ℕ → In 6 value-kinds.ps
+value-below t = and 6 value-kinds.ps (falls 6 value-kinds.ps _<_ μ-value t) value.Pre
 
 abbrev choice-calls : ℕ → choice-lts.Claims
 choice-calls t = (put-byte-reads.Asked, put-byte-reads.Learnt, member-row-reads.Asked, member-row-reads.Learnt, name-in-reads.Asked, name-in-reads.Learnt, put-name-reads.Asked, put-name-reads.Learnt, type-at-reads.Asked, type-at-reads.Learnt, value-below t, value.Post, ended-reads.Asked, ended-reads.Learnt)
@@ -120,13 +124,13 @@ abbrev list-calls : ℕ → list-lts.Claims
 list-calls t = (element-of-reads.Asked, element-of-reads.Learnt, put-byte-reads.Asked, put-byte-reads.Learnt, put-comma-reads.Asked, put-comma-reads.Learnt, value-below t, value.Post, ended-reads.Asked, ended-reads.Learnt)
 
 abbrev plain-calls : ℕ → plain-lts.Claims
-plain-calls t = (row-at-reads.Asked, row-at-reads.Learnt, kind-of-reads.Asked, kind-of-reads.Learnt, leaf-reads.Asked, leaf-reads.Learnt, sequence-below t, sequence.Post, list-below t, list.Post, count-of-reads.Asked, count-of-reads.Learnt, choice-below t, choice.Post)
+plain-calls t = (row-at-reads.Asked, row-at-reads.Learnt, leaf-reads.Asked, leaf-reads.Learnt, sequence-below t, sequence.Post, list-below t, list.Post, count-of-reads.Asked, count-of-reads.Learnt, choice-below t, choice.Post)
 
 abbrev sequence-calls : ℕ → sequence-lts.Claims
-sequence-calls t = (at-reads.Asked, at-reads.Learnt, is-array-reads.Asked, is-array-reads.Learnt, count-of-reads.Asked, count-of-reads.Learnt, put-opening-reads.Asked, put-opening-reads.Learnt, type-at-reads.Asked, type-at-reads.Learnt, absent-at-reads.Asked, absent-at-reads.Learnt, null-at-reads.Asked, null-at-reads.Learnt, judged-below t, judged.Post, put-lead-reads.Asked, put-lead-reads.Learnt, value-below t, value.Post, kept-after-reads.Asked, kept-after-reads.Learnt, put-closing-reads.Asked, put-closing-reads.Learnt, ended-reads.Asked, ended-reads.Learnt)
+sequence-calls t = (type-row-reads.Asked, type-row-reads.Learnt, is-array-reads.Asked, is-array-reads.Learnt, wide-reads.Asked, wide-reads.Learnt, put-opening-reads.Asked, put-opening-reads.Learnt, absent-at-reads.Asked, absent-at-reads.Learnt, null-in-reads.Asked, null-in-reads.Learnt, judged-below t, judged.Post, put-lead-reads.Asked, put-lead-reads.Learnt, value-below t, value.Post, kept-after-reads.Asked, kept-after-reads.Learnt, put-closing-reads.Asked, put-closing-reads.Learnt, ended-reads.Asked, ended-reads.Learnt)
 
 abbrev value-calls : ℕ → value-lts.Claims
-value-calls t = (at-reads.Asked, at-reads.Learnt, is-unwrapped-reads.Asked, is-unwrapped-reads.Learnt, plain-below t, plain.Post, row-at-reads.Asked, row-at-reads.Learnt, count-of-reads.Asked, count-of-reads.Learnt, type-at-reads.Asked, type-at-reads.Learnt, ended-reads.Asked, ended-reads.Learnt)
+value-calls t = (start-of-reads.Asked, start-of-reads.Learnt, plain-below t, plain.Post, closed-reads.Asked, closed-reads.Learnt)
 
 choice-put-byte-requires : (t : ℕ) → choice-lts.Need-put-byte-requires (choice-calls t) (choice-at t) choice.Post
 choice-put-byte-requires t c κs = search needs
@@ -171,14 +175,14 @@ choice-returns t c =
     gives-wrong (choice-wrong _ _ _ rows _ (a .slot) _ (valueRow (a .w)) (value-wrong rows (c .before .before .before .before .before .before .before .type-at .ensures (a .names .now)) (a .slot + 1) (c .before .before .before .before .before .value .ensures) (c .before .b .given .1)))
 
 choice-same-length-2 : (t : ℕ) → choice-lts.Need-same-length-2 (choice-calls t) (choice-at t) choice.Post
-choice-same-length-2 t c = omega (arith, c .before .before .before .put-byte2 .kept .0, c .before .before .before .before .before .before .before .before .before .before .value .kept .1 .1 .1 .1 .0, c .before .before .before .before .before .before .before .before .before .before .before .before .before .before .before .put-name .kept .0, c .before .before .before .before .before .before .before .before .before .before .before .before .before .before .before .before .before .before .before .before .before .put-byte .kept .0)
+choice-same-length-2 t c = omega (arith, c .before .before .before .put-byte2 .kept .0, c .before .before .before .before .before .before .before .before .before .before .value .kept .1 .1 .1 .1 .1 .0, c .before .before .before .before .before .before .before .before .before .before .before .before .before .before .before .put-name .kept .1 .0, c .before .before .before .before .before .before .before .before .before .before .before .before .before .before .before .before .before .before .before .before .before .put-byte .kept .0)
 
 choice-returns-2 : (t : ℕ) → choice-lts.Need-returns-2 (choice-calls t) (choice-at t) choice.Post
 choice-returns-2 t c =
     let a = c .before .before .before .before .before .before .before .before .before .before .before .before .before .before .before .before .before .before .before .before .before .before .before .before .before .before .before .before .args in
     let rows = rowsIn (a .values .now) in
     let v = value-got rows (c .before .before .before .before .before .before .before .before .before .before .before .before .type-at .ensures (a .names .now)) (a .slot + 1) (c .before .before .before .before .before .before .before .before .before .before .value .ensures) (c .before .before .before .before .before .before .next .given .1) in
-    writes-is (c .ended .ensures) (choice-ends _ _ _ rows _ (a .slot) _ (valueRow (a .w)) (c .before .before .before .before .before .before .before .before .before .before .before .before .before .before .before .before .before .before .before .before .before .before .before .before .before .before .before .before .pre .1 .2) (c .before .before .before .before .before .before .before .before .before .before .before .before .before .before .before .before .before .before .before .before .before .put-byte .ensures) (c .before .before .before .before .before .before .before .before .before .before .before .before .before .before .before .before .before .member-row .ensures (a .names .now)) (c .before .before .before .before .before .before .before .before .before .before .before .before .before .before .before .before .name-in .ensures) (c .before .before .before .before .before .before .before .before .before .before .before .before .before .before .before .put-name .ensures) v (c .before .before .before .put-byte2 .ensures))
+    writes-is (c .ended .ensures) (choice-ends _ _ _ rows _ (a .slot) _ (valueRow (a .w)) (c .before .before .before .before .before .before .before .before .before .before .before .before .before .before .before .before .before .before .before .before .before .before .before .before .before .before .before .before .pre .1 .3) (c .before .before .before .before .before .before .before .before .before .before .before .before .before .before .before .before .before .before .before .before .before .put-byte .ensures) (c .before .before .before .before .before .before .before .before .before .before .before .before .before .before .before .before .before .member-row .ensures (a .names .now)) (c .before .before .before .before .before .before .before .before .before .before .before .before .before .before .before .before .name-in .ensures) (c .before .before .before .before .before .before .before .before .before .before .before .before .before .before .before .put-name .ensures) v (c .before .before .before .put-byte2 .ensures))
 
 judged-slice-aggregate-value : (t : ℕ) → judged-lts.Need-slice-aggregate-value (judged-calls t) (judged-at t) judged.Post
 judged-slice-aggregate-value t c = search needs
@@ -190,10 +194,10 @@ judged-returns : (t : ℕ) → judged-lts.Need-returns (judged-calls t) (judged-
 judged-returns t c = writes-none (c .before .value .ensures)
 
 abbrev list-Inv-loop : list-lts.InvT-loop
-list-Inv-loop types names values pool text₀ w row slot offset place depth e i₀ next₀ used₀ p₀ text i next used p = (e ≡ elementOf (table types names) row) × (length text ≡ length text₀) × Items depth (table types names) pool (rowsIn values) (valueRow w) row slot offset p₀ text₀ text i next used p
+list-Inv-loop literal types names values pool text₀ w row slot offset place depth e i₀ next₀ used₀ p₀ text i next used p = (e ≡ elementOf (table types names) row) × (length text ≡ length text₀) × Items depth (table types names) pool (rowsIn values) (valueRow w) row slot offset p₀ text₀ text i next used p
 
 abbrev list-μ-loop : list-lts.MeasureT-loop
-list-μ-loop types names values pool text₀ w row slot offset place depth e i₀ next₀ used₀ p₀ text i next used p = w .a - i
+list-μ-loop literal types names values pool text₀ w row slot offset place depth e i₀ next₀ used₀ p₀ text i next used p = w .a - i
 
 list-element-of-requires : (t : ℕ) → list-lts.Need-element-of-requires (list-calls t) (list-at t) list.Post list-Inv-loop list-μ-loop
 list-element-of-requires t c κs = search needs
@@ -271,156 +275,145 @@ plain-returns t c =
     let a = c .before .before .before .before .before .before .before .before .args in
     gives-wrong (text-none _ _ _ _ (a .slot) _ (rw (c .enum-told .given .1) at (c .before .before .row-at .ensures)))
 
-plain-kind-of-requires : (t : ℕ) → plain-lts.Need-kind-of-requires (plain-calls t) (plain-at t) plain.Post
-plain-kind-of-requires t c κs = search needs
-
 plain-returns-2 : (t : ℕ) → plain-lts.Need-returns-2 (plain-calls t) (plain-at t) plain.Post
 plain-returns-2 t c =
-    let a = c .before .before .before .before .before .before .before .before .before .before .before .args in
+    let a = c .before .before .before .before .before .before .before .before .before .before .args in
     let t = table (a .types .now) (a .names .now) in
-    let w = c .before .before .before .w .given .0 .0 in
-    let found = rw (c .before .before .before .w .given .1) at (c .before .before .before .before .before .row-at .ensures) in
-    let kind = (c .before .kind-of .ensures (a .names .now)) in
-    gives-wrong (plain-other (a .depth) t (a .pool .now) (a .row) (w .kind) (w .a) (w .b) (w .size) (a .slot) (a .offset) (c .before .before .before .before .before .before .before .before .before .before .before .pre .1 .1) (found .0) (λ e. c .if1 .taken (e ∙ sym kind)))
+    let w = c .before .before .w .given .0 .0 in
+    let found = rw (c .before .before .w .given .1) at (c .before .before .before .before .row-at .ensures) in
+    let kind = c .before .before .before .before .before .before .before .before .before .before .pre .1 .2 .0 in
+    gives-wrong (plain-other (a .depth) t (a .pool .now) (a .row) (w .kind) (w .a) (w .b) (w .size) (a .slot) (a .offset) (c .before .before .before .before .before .before .before .before .before .before .pre .1 .2 .1) (found .0) (λ e. c .if1 .taken (e ∙ sym kind)))
 
 plain-leaf-requires : (t : ℕ) → plain-lts.Need-leaf-requires (plain-calls t) (plain-at t) plain.Post
 plain-leaf-requires t c κs =
-    let a = c .before .before .before .before .before .before .before .before .before .before .before .before .before .args in
-    let t = table (a .types .now) (a .names .now) in
-    let w = c .before .before .before .before .before .w .given .0 .0 in
-    let found = rw (c .before .before .before .before .before .w .given .1) at (c .before .before .before .before .before .before .before .row-at .ensures) in
-    let kind = (c .before .before .before .kind-of .ensures (a .names .now)) in
-    (c .before .before .if1 .left ∙ kind, omega (arith, c .before .if2 .taken), found .2)
+    let w = c .before .before .before .before .w .given .0 .0 in
+    let found = rw (c .before .before .before .before .w .given .1) at (c .before .before .before .before .before .before .row-at .ensures) in
+    let kind = c .before .before .before .before .before .before .before .before .before .before .before .before .pre .1 .2 .0 in
+    (c .before .before .if1 .left ∙ kind, omega (arith, c .before .if2 .taken), found .2, c .before .before .before .before .before .before .before .before .before .before .before .before .pre .1 .1)
 
 plain-same-length : (t : ℕ) → plain-lts.Need-same-length (plain-calls t) (plain-at t) plain.Post
 plain-same-length t c = search needs
 
 plain-returns-3 : (t : ℕ) → plain-lts.Need-returns-3 (plain-calls t) (plain-at t) plain.Post
 plain-returns-3 t c =
-    let a = c .before .before .before .before .before .before .before .before .before .before .before .before .before .before .before .before .args in
-    let t = table (a .types .now) (a .names .now) in
-    let w = c .before .before .before .before .before .before .before .before .w .given .0 .0 in
-    let found = rw (c .before .before .before .before .before .before .before .before .w .given .1) at (c .before .before .before .before .before .before .before .before .before .before .row-at .ensures) in
-    writes-as (row-text (a .depth) t (a .pool .now) (a .row) (w .kind) (w .a) (w .b) (w .size) (a .slot) (a .offset) (c .before .before .before .before .before .before .before .before .before .before .before .before .before .before .before .before .pre .1 .1) (found .0)) (c .before .before .leaf .ensures _ _)
-
-plain-returns-4 : (t : ℕ) → plain-lts.Need-returns-4 (plain-calls t) (plain-at t) plain.Post
-plain-returns-4 t c =
-    let a = c .before .before .before .before .before .before .before .before .before .before .before .before .before .args in
-    let t = table (a .types .now) (a .names .now) in
-    let w = c .before .before .before .before .before .w .given .0 .0 in
-    let found = rw (c .before .before .before .before .before .w .given .1) at (c .before .before .before .before .before .before .before .row-at .ensures) in
-    gives-wrong (plain-deep (a .depth) t (a .pool .now) (a .row) (w .kind) (w .a) (w .b) (w .size) (a .slot) (a .offset) (c .before .before .before .before .before .before .before .before .before .before .before .before .before .pre .1 .1) (found .0) (c .before .if2 .left) (c .if3 .taken))
-
-plain-returns-5 : (t : ℕ) → plain-lts.Need-returns-5 (plain-calls t) (plain-at t) plain.Post
-plain-returns-5 t c =
     let a = c .before .before .before .before .before .before .before .before .before .before .before .before .before .before .before .args in
     let t = table (a .types .now) (a .names .now) in
     let w = c .before .before .before .before .before .before .before .w .given .0 .0 in
     let found = rw (c .before .before .before .before .before .before .before .w .given .1) at (c .before .before .before .before .before .before .before .before .before .row-at .ensures) in
-    gives-wrong (plain-b (a .depth) t (a .pool .now) (a .row) (w .kind) (w .a) (w .b) (w .size) (a .slot) (a .offset) (c .before .before .before .before .before .before .before .before .before .before .before .before .before .before .before .pre .1 .1) (found .0) (c .before .before .before .if2 .left) (c .if4 .taken))
+    writes-as (row-text (a .depth) t (a .pool .now) (a .row) (w .kind) (w .a) (w .b) (w .size) (a .slot) (a .offset) (c .before .before .before .before .before .before .before .before .before .before .before .before .before .before .before .pre .1 .2 .1) (found .0)) (c .before .before .leaf .ensures _ _)
+
+plain-returns-4 : (t : ℕ) → plain-lts.Need-returns-4 (plain-calls t) (plain-at t) plain.Post
+plain-returns-4 t c =
+    let a = c .before .before .before .before .before .before .before .before .before .before .before .before .args in
+    let t = table (a .types .now) (a .names .now) in
+    let w = c .before .before .before .before .w .given .0 .0 in
+    let found = rw (c .before .before .before .before .w .given .1) at (c .before .before .before .before .before .before .row-at .ensures) in
+    gives-wrong (plain-deep (a .depth) t (a .pool .now) (a .row) (w .kind) (w .a) (w .b) (w .size) (a .slot) (a .offset) (c .before .before .before .before .before .before .before .before .before .before .before .before .pre .1 .2 .1) (found .0) (c .before .if2 .left) (c .if3 .taken))
+
+plain-returns-5 : (t : ℕ) → plain-lts.Need-returns-5 (plain-calls t) (plain-at t) plain.Post
+plain-returns-5 t c =
+    let a = c .before .before .before .before .before .before .before .before .before .before .before .before .before .before .args in
+    let t = table (a .types .now) (a .names .now) in
+    let w = c .before .before .before .before .before .before .w .given .0 .0 in
+    let found = rw (c .before .before .before .before .before .before .w .given .1) at (c .before .before .before .before .before .before .before .before .row-at .ensures) in
+    gives-wrong (plain-b (a .depth) t (a .pool .now) (a .row) (w .kind) (w .a) (w .b) (w .size) (a .slot) (a .offset) (c .before .before .before .before .before .before .before .before .before .before .before .before .before .before .pre .1 .2 .1) (found .0) (c .before .before .before .if2 .left) (c .if4 .taken))
 
 plain-sub-sequence : (t : ℕ) → plain-lts.Need-sub-sequence (plain-calls t) (plain-at t) plain.Post
 plain-sub-sequence t c = search needs
 
 plain-sequence-requires : (t : ℕ) → plain-lts.Need-sequence-requires (plain-calls t) (plain-at t) plain.Post
 plain-sequence-requires t c κs =
-    let a = c .before .before .before .before .before .before .before .before .before .before .before .before .before .before .before .before .before .args in
-    let t = table (a .types .now) (a .names .now) in
-    let w = c .before .before .before .before .before .before .before .before .before .w .given .0 .0 in
-    let found = rw (c .before .before .before .before .before .before .before .before .before .w .given .1) at (c .before .before .before .before .before .before .before .before .before .before .before .row-at .ensures) in
-    (omega arith, (c .before .before .before .before .before .before .before .before .before .before .before .before .before .before .before .before .before .pre .1 .0, found .1))
+    let w = c .before .before .before .before .before .before .before .before .w .given .0 .0 in
+    let found = rw (c .before .before .before .before .before .before .before .before .w .given .1) at (c .before .before .before .before .before .before .before .before .before .before .row-at .ensures) in
+    (omega arith, (c .before .before .before .before .before .before .before .before .before .before .before .before .before .before .before .before .pre .1 .0, c .before .before .before .before .before .before .before .before .before .before .before .before .before .before .before .before .pre .1 .1, found .1))
 
 plain-same-length-2 : (t : ℕ) → plain-lts.Need-same-length-2 (plain-calls t) (plain-at t) plain.Post
 plain-same-length-2 t c = search needs
 
 plain-returns-6 : (t : ℕ) → plain-lts.Need-returns-6 (plain-calls t) (plain-at t) plain.Post
 plain-returns-6 t c =
-    let a = c .before .before .before .before .before .before .before .before .before .before .before .before .before .before .before .before .before .before .before .before .args in
+    let a = c .before .before .before .before .before .before .before .before .before .before .before .before .before .before .before .before .before .before .before .args in
     let t = table (a .types .now) (a .names .now) in
-    let w = c .before .before .before .before .before .before .before .before .before .before .before .before .w .given .0 .0 in
-    let found = rw (c .before .before .before .before .before .before .before .before .before .before .before .before .w .given .1) at (c .before .before .before .before .before .before .before .before .before .before .before .before .before .before .row-at .ensures) in
-    let kind = (c .before .before .before .before .before .before .before .before .before .before .kind-of .ensures (a .names .now)) in
-    writes-as (plain-seq (a .depth) t (a .pool .now) (a .row) (w .kind) (w .a) (w .b) (w .size) (a .slot) (a .offset) (c .before .before .before .before .before .before .before .before .before .before .before .before .before .before .before .before .before .before .before .before .pre .1 .1) (found .0) (c .before .before .before .before .before .before .before .if3 .left) (c .before .before .before .before .before .before .before .before .before .if1 .left ∙ kind) (c .before .before .before .before .before .if4 .left) (c .before .before .before .before .if5 .taken)) (c .before .before .sequence .ensures)
+    let w = c .before .before .before .before .before .before .before .before .before .before .before .w .given .0 .0 in
+    let found = rw (c .before .before .before .before .before .before .before .before .before .before .before .w .given .1) at (c .before .before .before .before .before .before .before .before .before .before .before .before .before .row-at .ensures) in
+    let kind = c .before .before .before .before .before .before .before .before .before .before .before .before .before .before .before .before .before .before .before .pre .1 .2 .0 in
+    writes-as (plain-seq (a .depth) t (a .pool .now) (a .row) (w .kind) (w .a) (w .b) (w .size) (a .slot) (a .offset) (c .before .before .before .before .before .before .before .before .before .before .before .before .before .before .before .before .before .before .before .pre .1 .2 .1) (found .0) (c .before .before .before .before .before .before .before .if3 .left) (c .before .before .before .before .before .before .before .before .before .if1 .left ∙ kind) (c .before .before .before .before .before .if4 .left) (c .before .before .before .before .if5 .taken)) (c .before .before .sequence .ensures)
 
 plain-sub-list : (t : ℕ) → plain-lts.Need-sub-list (plain-calls t) (plain-at t) plain.Post
 plain-sub-list t c = search needs
 
 plain-list-requires : (t : ℕ) → plain-lts.Need-list-requires (plain-calls t) (plain-at t) plain.Post
 plain-list-requires t c κs =
-    let a = c .before .before .before .before .before .before .before .before .before .before .before .before .before .before .before .before .before .before .args in
-    let t = table (a .types .now) (a .names .now) in
-    let w = c .before .before .before .before .before .before .before .before .before .before .w .given .0 .0 in
-    let found = rw (c .before .before .before .before .before .before .before .before .before .before .w .given .1) at (c .before .before .before .before .before .before .before .before .before .before .before .before .row-at .ensures) in
-    (omega arith, (c .before .before .before .before .before .before .before .before .before .before .before .before .before .before .before .before .before .before .pre .1 .0, found .1))
+    let w = c .before .before .before .before .before .before .before .before .before .w .given .0 .0 in
+    let found = rw (c .before .before .before .before .before .before .before .before .before .w .given .1) at (c .before .before .before .before .before .before .before .before .before .before .before .row-at .ensures) in
+    (omega arith, (c .before .before .before .before .before .before .before .before .before .before .before .before .before .before .before .before .before .pre .1 .0, c .before .before .before .before .before .before .before .before .before .before .before .before .before .before .before .before .before .pre .1 .1, found .1))
 
 plain-same-length-3 : (t : ℕ) → plain-lts.Need-same-length-3 (plain-calls t) (plain-at t) plain.Post
 plain-same-length-3 t c = search needs
 
 plain-returns-7 : (t : ℕ) → plain-lts.Need-returns-7 (plain-calls t) (plain-at t) plain.Post
 plain-returns-7 t c =
-    let a = c .before .before .before .before .before .before .before .before .before .before .before .before .before .before .before .before .before .before .before .before .before .args in
+    let a = c .before .before .before .before .before .before .before .before .before .before .before .before .before .before .before .before .before .before .before .before .args in
     let t = table (a .types .now) (a .names .now) in
-    let w = c .before .before .before .before .before .before .before .before .before .before .before .before .before .w .given .0 .0 in
-    let found = rw (c .before .before .before .before .before .before .before .before .before .before .before .before .before .w .given .1) at (c .before .before .before .before .before .before .before .before .before .before .before .before .before .before .before .row-at .ensures) in
-    let kind = (c .before .before .before .before .before .before .before .before .before .before .before .kind-of .ensures (a .names .now)) in
-    writes-as (plain-list (a .depth) t (a .pool .now) (a .row) (w .kind) (w .a) (w .b) (w .size) (a .slot) (a .offset) (c .before .before .before .before .before .before .before .before .before .before .before .before .before .before .before .before .before .before .before .before .before .pre .1 .1) (found .0) (c .before .before .before .before .before .before .before .before .if3 .left) (c .before .before .before .before .before .before .before .before .before .before .if1 .left ∙ kind) (c .before .before .before .before .before .before .if4 .left) (c .before .before .before .before .if6 .taken)) (c .before .before .list .ensures)
+    let w = c .before .before .before .before .before .before .before .before .before .before .before .before .w .given .0 .0 in
+    let found = rw (c .before .before .before .before .before .before .before .before .before .before .before .before .w .given .1) at (c .before .before .before .before .before .before .before .before .before .before .before .before .before .before .row-at .ensures) in
+    let kind = c .before .before .before .before .before .before .before .before .before .before .before .before .before .before .before .before .before .before .before .before .pre .1 .2 .0 in
+    writes-as (plain-list (a .depth) t (a .pool .now) (a .row) (w .kind) (w .a) (w .b) (w .size) (a .slot) (a .offset) (c .before .before .before .before .before .before .before .before .before .before .before .before .before .before .before .before .before .before .before .before .pre .1 .2 .1) (found .0) (c .before .before .before .before .before .before .before .before .if3 .left) (c .before .before .before .before .before .before .before .before .before .before .if1 .left ∙ kind) (c .before .before .before .before .before .before .if4 .left) (c .before .before .before .before .if6 .taken)) (c .before .before .list .ensures)
 
 plain-returns-8 : (t : ℕ) → plain-lts.Need-returns-8 (plain-calls t) (plain-at t) plain.Post
 plain-returns-8 t c =
-    let a = c .before .before .before .before .before .before .before .before .before .before .before .before .before .before .before .before .before .before .args in
+    let a = c .before .before .before .before .before .before .before .before .before .before .before .before .before .before .before .before .before .args in
     let t = table (a .types .now) (a .names .now) in
-    let w = c .before .before .before .before .before .before .before .before .before .before .w .given .0 .0 in
-    let found = rw (c .before .before .before .before .before .before .before .before .before .before .w .given .1) at (c .before .before .before .before .before .before .before .before .before .before .before .before .row-at .ensures) in
-    gives-wrong (plain-kind (a .depth) t (a .pool .now) (a .row) (w .kind) (w .a) (w .b) (w .size) (a .slot) (a .offset) (c .before .before .before .before .before .before .before .before .before .before .before .before .before .before .before .before .before .before .pre .1 .1) (found .0) (c .before .before .before .before .before .before .if2 .left) (c .before .before .if5 .left) (c .before .if6 .left) (c .if7 .taken))
+    let w = c .before .before .before .before .before .before .before .before .before .w .given .0 .0 in
+    let found = rw (c .before .before .before .before .before .before .before .before .before .w .given .1) at (c .before .before .before .before .before .before .before .before .before .before .before .row-at .ensures) in
+    gives-wrong (plain-kind (a .depth) t (a .pool .now) (a .row) (w .kind) (w .a) (w .b) (w .size) (a .slot) (a .offset) (c .before .before .before .before .before .before .before .before .before .before .before .before .before .before .before .before .before .pre .1 .2 .1) (found .0) (c .before .before .before .before .before .before .if2 .left) (c .before .before .if5 .left) (c .before .if6 .left) (c .if7 .taken))
 
 plain-count-of-requires : (t : ℕ) → plain-lts.Need-count-of-requires (plain-calls t) (plain-at t) plain.Post
 plain-count-of-requires t c κs = search needs
 
 plain-returns-9 : (t : ℕ) → plain-lts.Need-returns-9 (plain-calls t) (plain-at t) plain.Post
 plain-returns-9 t c =
-    let a = c .before .before .before .before .before .before .before .before .before .before .before .before .before .before .before .before .before .before .before .before .before .args in
+    let a = c .before .before .before .before .before .before .before .before .before .before .before .before .before .before .before .before .before .before .before .before .args in
     let t = table (a .types .now) (a .names .now) in
-    let w = c .before .before .before .before .before .before .before .before .before .before .before .before .before .w .given .0 .0 in
-    let found = rw (c .before .before .before .before .before .before .before .before .before .before .before .before .before .w .given .1) at (c .before .before .before .before .before .before .before .before .before .before .before .before .before .before .before .row-at .ensures) in
-    gives-wrong (plain-position (a .depth) t (a .pool .now) (a .row) (w .kind) (w .a) (w .b) (w .size) (a .slot) (a .offset) (c .before .before .before .before .before .before .before .before .before .before .before .before .before .before .before .before .before .before .before .before .before .pre .1 .1) (found .0) (c .before .before .before .before .before .before .before .before .before .if2 .left) (c .before .before .before .before .before .if5 .left) (c .before .before .before .before .if6 .left) (omega (arith, c .before .before .count-of .ensures (a .names .now), c .if8 .taken)))
+    let w = c .before .before .before .before .before .before .before .before .before .before .before .before .w .given .0 .0 in
+    let found = rw (c .before .before .before .before .before .before .before .before .before .before .before .before .w .given .1) at (c .before .before .before .before .before .before .before .before .before .before .before .before .before .before .row-at .ensures) in
+    gives-wrong (plain-position (a .depth) t (a .pool .now) (a .row) (w .kind) (w .a) (w .b) (w .size) (a .slot) (a .offset) (c .before .before .before .before .before .before .before .before .before .before .before .before .before .before .before .before .before .before .before .before .pre .1 .2 .1) (found .0) (c .before .before .before .before .before .before .before .before .before .if2 .left) (c .before .before .before .before .before .if5 .left) (c .before .before .before .before .if6 .left) (omega (arith, c .before .before .count-of .ensures (a .names .now), c .if8 .taken)))
 
 plain-sub-choice : (t : ℕ) → plain-lts.Need-sub-choice (plain-calls t) (plain-at t) plain.Post
 plain-sub-choice t c = search needs
 
 plain-choice-requires : (t : ℕ) → plain-lts.Need-choice-requires (plain-calls t) (plain-at t) plain.Post
 plain-choice-requires t c κs =
-    let a = c .before .before .before .before .before .before .before .before .before .before .before .before .before .before .before .before .before .before .before .before .before .before .args in
-    let t = table (a .types .now) (a .names .now) in
-    let w = c .before .before .before .before .before .before .before .before .before .before .before .before .before .before .w .given .0 .0 in
-    let found = rw (c .before .before .before .before .before .before .before .before .before .before .before .before .before .before .w .given .1) at (c .before .before .before .before .before .before .before .before .before .before .before .before .before .before .before .before .row-at .ensures) in
-    (omega arith, (c .before .before .before .before .before .before .before .before .before .before .before .before .before .before .before .before .before .before .before .before .before .before .pre .1 .0, found .1, c .before .before .before .before .before .before .before .before .before .before .before .before .before .before .before .before .before .before .before .before .before .before .pre .1 .1))
+    let w = c .before .before .before .before .before .before .before .before .before .before .before .before .before .w .given .0 .0 in
+    let found = rw (c .before .before .before .before .before .before .before .before .before .before .before .before .before .w .given .1) at (c .before .before .before .before .before .before .before .before .before .before .before .before .before .before .before .row-at .ensures) in
+    (omega arith, (c .before .before .before .before .before .before .before .before .before .before .before .before .before .before .before .before .before .before .before .before .before .pre .1 .0, c .before .before .before .before .before .before .before .before .before .before .before .before .before .before .before .before .before .before .before .before .before .pre .1 .1, found .1, c .before .before .before .before .before .before .before .before .before .before .before .before .before .before .before .before .before .before .before .before .before .pre .1 .2 .1))
 
 plain-same-length-4 : (t : ℕ) → plain-lts.Need-same-length-4 (plain-calls t) (plain-at t) plain.Post
 plain-same-length-4 t c = search needs
 
 plain-returns-10 : (t : ℕ) → plain-lts.Need-returns-10 (plain-calls t) (plain-at t) plain.Post
 plain-returns-10 t c =
-    let a = c .before .before .before .before .before .before .before .before .before .before .before .before .before .before .before .before .before .before .before .before .before .before .before .before .before .args in
+    let a = c .before .before .before .before .before .before .before .before .before .before .before .before .before .before .before .before .before .before .before .before .before .before .before .before .args in
     let t = table (a .types .now) (a .names .now) in
-    let w = c .before .before .before .before .before .before .before .before .before .before .before .before .before .before .before .before .before .w .given .0 .0 in
-    let found = rw (c .before .before .before .before .before .before .before .before .before .before .before .before .before .before .before .before .before .w .given .1) at (c .before .before .before .before .before .before .before .before .before .before .before .before .before .before .before .before .before .before .before .row-at .ensures) in
-    let kind = (c .before .before .before .before .before .before .before .before .before .before .before .before .before .before .before .kind-of .ensures (a .names .now)) in
-    writes-as (plain-choice (a .depth) t (a .pool .now) (a .row) (w .kind) (w .a) (w .b) (w .size) (a .slot) (a .offset) (c .before .before .before .before .before .before .before .before .before .before .before .before .before .before .before .before .before .before .before .before .before .before .before .before .before .pre .1 .1) (found .0) (c .before .before .before .before .before .before .before .before .before .before .before .before .if3 .left) (c .before .before .before .before .before .before .before .before .before .before .before .before .before .before .if1 .left ∙ kind) (c .before .before .before .before .before .before .before .before .before .before .if4 .left) (c .before .before .before .before .before .before .before .if7 .left) (omega (arith, c .before .before .before .before .before .before .count-of .ensures (a .names .now), c .before .before .before .before .if8 .left))) (c .before .before .choice .ensures)
+    let w = c .before .before .before .before .before .before .before .before .before .before .before .before .before .before .before .before .w .given .0 .0 in
+    let found = rw (c .before .before .before .before .before .before .before .before .before .before .before .before .before .before .before .before .w .given .1) at (c .before .before .before .before .before .before .before .before .before .before .before .before .before .before .before .before .before .before .row-at .ensures) in
+    let kind = c .before .before .before .before .before .before .before .before .before .before .before .before .before .before .before .before .before .before .before .before .before .before .before .before .pre .1 .2 .0 in
+    writes-as (plain-choice (a .depth) t (a .pool .now) (a .row) (w .kind) (w .a) (w .b) (w .size) (a .slot) (a .offset) (c .before .before .before .before .before .before .before .before .before .before .before .before .before .before .before .before .before .before .before .before .before .before .before .before .pre .1 .2 .1) (found .0) (c .before .before .before .before .before .before .before .before .before .before .before .before .if3 .left) (c .before .before .before .before .before .before .before .before .before .before .before .before .before .before .if1 .left ∙ kind) (c .before .before .before .before .before .before .before .before .before .before .if4 .left) (c .before .before .before .before .before .before .before .if7 .left) (omega (arith, c .before .before .before .before .before .before .count-of .ensures (a .names .now), c .before .before .before .before .if8 .left))) (c .before .before .choice .ensures)
 
 abbrev sequence-Inv-loop : sequence-lts.InvT-loop
-sequence-Inv-loop types names values pool text₀ w row slot offset place depth array count i₀ present₀ kept₀ next₀ used₀ p₀ text i present kept next used p = (count ≡ countOf (table types names) row) × (count < 4294967296) × (length text ≡ length text₀) × Members depth (table types names) pool (rowsIn values) (valueRow w) row slot offset p₀ array text₀ text i present kept next used p
+sequence-Inv-loop literal types names values pool text₀ w row slot offset place depth array count first i₀ present₀ kept₀ next₀ used₀ p₀ text i present kept next used p = (first ≡ firstOf (table types names) row) × (count ≡ countOf (table types names) row) × (count < 4294967296) × (length text ≡ length text₀) × Members depth (table types names) pool (rowsIn values) (valueRow w) row slot offset p₀ array text₀ text i present kept next used p
 
 abbrev sequence-μ-loop : sequence-lts.MeasureT-loop
-sequence-μ-loop types names values pool text₀ w row slot offset place depth array count i₀ present₀ kept₀ next₀ used₀ p₀ text i present kept next used p = count - i
+sequence-μ-loop literal types names values pool text₀ w row slot offset place depth array count first i₀ present₀ kept₀ next₀ used₀ p₀ text i present kept next used p = count - i
 
-sequence-at-requires : (t : ℕ) → sequence-lts.Need-at-requires (sequence-calls t) (sequence-at t) sequence.Post sequence-Inv-loop sequence-μ-loop
-sequence-at-requires t c κs = search needs
+sequence-type-row-requires : (t : ℕ) → sequence-lts.Need-type-row-requires (sequence-calls t) (sequence-at t) sequence.Post sequence-Inv-loop sequence-μ-loop
+sequence-type-row-requires t c κs = search needs
 
 sequence-is-array-requires : (t : ℕ) → sequence-lts.Need-is-array-requires (sequence-calls t) (sequence-at t) sequence.Post sequence-Inv-loop sequence-μ-loop
 sequence-is-array-requires t c κs = search needs
 
-sequence-count-of-requires : (t : ℕ) → sequence-lts.Need-count-of-requires (sequence-calls t) (sequence-at t) sequence.Post sequence-Inv-loop sequence-μ-loop
-sequence-count-of-requires t c κs = search needs
+sequence-wide-requires : (t : ℕ) → sequence-lts.Need-wide-requires (sequence-calls t) (sequence-at t) sequence.Post sequence-Inv-loop sequence-μ-loop
+sequence-wide-requires t c κs = search needs
 
 sequence-add-next : (t : ℕ) → sequence-lts.Need-add-next (sequence-calls t) (sequence-at t) sequence.Post sequence-Inv-loop sequence-μ-loop
 sequence-add-next t c = search needs
@@ -432,10 +425,20 @@ sequence-loop-holds : (t : ℕ) → sequence-lts.Need-loop-holds (sequence-calls
 sequence-loop-holds t c =
     let a = c .before .before .before .before .before .before .before .before .before .before .before .before .args in
     let t = table (a .types .now) (a .names .now) in
-    (c .before .before .before .before .count-of .ensures (a .names .now), omega arith, refl, members-start (sym (c .before .before .before .before .before .is-array .ensures t (a .row) (c .before .before .before .before .before .before .at .ensures (a .names .now)))) (omega arith))
+    let own = c .before .before .before .before .before .before .type-row .ensures (a .names .now) in
+    (c .before .before .before .before .wide .ensures .0 ∙ ap (λ (v : Row). v .first) own, ap (λ (v : Row). v .members) own, omega arith, refl, members-start (sym (c .before .before .before .before .before .is-array .ensures t (a .row) own)) (omega arith))
 
-sequence-type-at-requires : (t : ℕ) → sequence-lts.Need-type-at-requires (sequence-calls t) (sequence-at t) sequence.Post sequence-Inv-loop sequence-μ-loop
-sequence-type-at-requires t c κs = search needs
+sequence-wide-requires-2 : (t : ℕ) → sequence-lts.Need-wide-requires-2 (sequence-calls t) (sequence-at t) sequence.Post sequence-Inv-loop sequence-μ-loop
+sequence-wide-requires-2 t c κs = search needs
+
+sequence-add-type-row : (t : ℕ) → sequence-lts.Need-add-type-row (sequence-calls t) (sequence-at t) sequence.Post sequence-Inv-loop sequence-μ-loop
+sequence-add-type-row t c = search needs
+
+sequence-type-row-requires-2 : (t : ℕ) → sequence-lts.Need-type-row-requires-2 (sequence-calls t) (sequence-at t) sequence.Post sequence-Inv-loop sequence-μ-loop
+sequence-type-row-requires-2 t c κs = search needs
+
+sequence-wide-requires-3 : (t : ℕ) → sequence-lts.Need-wide-requires-3 (sequence-calls t) (sequence-at t) sequence.Post sequence-Inv-loop sequence-μ-loop
+sequence-wide-requires-3 t c κs = search needs
 
 sequence-absent-at-requires : (t : ℕ) → sequence-lts.Need-absent-at-requires (sequence-calls t) (sequence-at t) sequence.Post sequence-Inv-loop sequence-μ-loop
 sequence-absent-at-requires t c κs = search needs
@@ -451,17 +454,16 @@ sequence-loop-less t c = search needs
 
 sequence-loop-again : (t : ℕ) → sequence-lts.Need-loop-again (sequence-calls t) (sequence-at t) sequence.Post sequence-Inv-loop sequence-μ-loop
 sequence-loop-again t c =
-    let a = c .before .before .before .before .before .before .before .before .before .before .before .before .before .before .before .before .before .args in
-    let inv = c .before .before .before .before .loop .inv in
-    let rows = rowsIn (a .values .now) in
-    let inside = rw (inv .0) at (c .before .before .before .loop-test .taken) in
-    (inv .0, inv .1, inv .2, members-absent (inv .3) inside (sym (c .before .absent-at .ensures .0 (a .names .now)) ∙ c .if1 .taken))
+    let a = c .before .before .before .before .before .before .before .before .before .before .before .before .before .before .before .before .before .before .before .args in
+    let inv = c .before .before .before .before .before .before .loop .inv in
+    let inside = rw (inv .1) at (c .before .before .before .before .before .loop-test .taken) in
+    (inv .0, inv .1, inv .2, inv .3, members-absent (inv .4) inside (sym (c .before .absent-at .ensures .0 (a .names .now)) ∙ c .if1 .taken))
 
-sequence-null-at-requires : (t : ℕ) → sequence-lts.Need-null-at-requires (sequence-calls t) (sequence-at t) sequence.Post sequence-Inv-loop sequence-μ-loop
-sequence-null-at-requires t c κs = search needs
+sequence-null-in-requires : (t : ℕ) → sequence-lts.Need-null-in-requires (sequence-calls t) (sequence-at t) sequence.Post sequence-Inv-loop sequence-μ-loop
+sequence-null-in-requires t c κs = search needs
 
 sequence-judged-requires : (t : ℕ) → sequence-lts.Need-judged-requires (sequence-calls t) (sequence-at t) sequence.Post sequence-Inv-loop sequence-μ-loop
-sequence-judged-requires t c κs = (omega (arith, c .before .before .before .before .before .before .before .before .before .before .before .before .before .before .before .before .before .before .before .pre .0), c .before .before .before .before .before .before .before .before .before .before .before .before .before .before .before .before .before .before .before .pre .1 .0)
+sequence-judged-requires t c κs = (omega (arith, c .before .before .before .before .before .before .before .before .before .before .before .before .before .before .before .before .before .before .before .before .before .pre .0), (c .before .before .before .before .before .before .before .before .before .before .before .before .before .before .before .before .before .before .before .before .before .pre .1 .0, c .before .before .before .before .before .before .before .before .before .before .before .before .before .before .before .before .before .before .before .before .before .pre .1 .1))
 
 sequence-enum-known-t : (t : ℕ) → sequence-lts.Need-enum-known-t (sequence-calls t) (sequence-at t) sequence.Post sequence-Inv-loop sequence-μ-loop
 sequence-enum-known-t t c = search needs
@@ -474,12 +476,15 @@ sequence-same-length t c = search needs
 
 sequence-returns : (t : ℕ) → sequence-lts.Need-returns (sequence-calls t) (sequence-at t) sequence.Post sequence-Inv-loop sequence-μ-loop
 sequence-returns t c =
-    let a = c .before .before .before .before .before .before .before .before .before .before .before .before .before .before .before .before .before .before .before .before .before .before .args in
-    let inv = c .before .before .before .before .before .before .before .before .before .loop .inv in
-    let absent = sym (c .before .before .before .before .before .before .absent-at .ensures .0 (a .names .now)) ∙ c .before .before .before .before .before .if1 .left in
+    let a = c .before .before .before .before .before .before .before .before .before .before .before .before .before .before .before .before .before .before .before .before .before .before .before .before .args in
+    let t = table (a .types .now) (a .names .now) in
     let rows = rowsIn (a .values .now) in
-    let inside = rw (inv .0) at (c .before .before .before .before .before .before .before .before .loop-test .taken) in
-    writes-is (c .enum-told .given .1) (gives-wrong (members-wrong (inv .3) inside absent (value-wrong rows (c .before .before .before .before .before .before .before .type-at .ensures (a .names .now)) (c .before .before .before .before .before .before .before .before .before .loop .next) (c .before .before .judged .ensures) (c .enum-told .given .1))))
+    let inv = c .before .before .before .before .before .before .before .before .before .before .before .loop .inv in
+    let member = member-is t (a .row) (c .before .before .before .before .before .before .before .before .before .before .before .loop .i) (c .before .before .before .before .before .before .before .before .type-row2 .ensures (a .names .now)) (inv .0) (c .before .before .before .before .before .before .before .before .before .wide2 .ensures .0) in
+    let type = member-type t (a .row) (c .before .before .before .before .before .before .before .before .before .before .before .loop .i) member (c .before .before .before .before .before .before .before .wide3 .ensures .0) in
+    let absent = sym (c .before .before .before .before .before .before .absent-at .ensures .0 (a .names .now)) ∙ c .before .before .before .before .before .if1 .left in
+    let inside = rw (inv .1) at (c .before .before .before .before .before .before .before .before .before .before .loop-test .taken) in
+    writes-is (c .enum-told .given .1) (gives-wrong (members-wrong (inv .4) inside absent (value-wrong rows type (c .before .before .before .before .before .before .before .before .before .before .before .loop .next) (c .before .before .judged .ensures) (c .enum-told .given .1))))
 
 sequence-add-present : (t : ℕ) → sequence-lts.Need-add-present (sequence-calls t) (sequence-at t) sequence.Post sequence-Inv-loop sequence-μ-loop
 sequence-add-present t c = search needs
@@ -492,20 +497,23 @@ sequence-loop-less-2 t c = search needs
 
 sequence-loop-again-2 : (t : ℕ) → sequence-lts.Need-loop-again-2 (sequence-calls t) (sequence-at t) sequence.Post sequence-Inv-loop sequence-μ-loop
 sequence-loop-again-2 t c =
-    let a = c .before .before .before .before .before .before .before .before .before .before .before .before .before .before .before .before .before .before .before .before .before .before .before .args in
-    let inv = c .before .before .before .before .before .before .before .before .before .before .loop .inv in
-    let absent = sym (c .before .before .before .before .before .before .before .absent-at .ensures .0 (a .names .now)) ∙ c .before .before .before .before .before .before .if1 .left in
+    let a = c .before .before .before .before .before .before .before .before .before .before .before .before .before .before .before .before .before .before .before .before .before .before .before .before .before .args in
+    let t = table (a .types .now) (a .names .now) in
     let rows = rowsIn (a .values .now) in
-    let inside = rw (inv .0) at (c .before .before .before .before .before .before .before .before .before .loop-test .taken) in
-    let null = null-is (table (a .types .now) (a .names .now)) (drop (c .before .before .before .before .before .before .before .before .before .before .loop .next) rows) (c .before .before .before .before .before .before .before .before .before .before .before .before .before .before .before .before .is-array .result) (c .before .before .before .before .before .before .before .before .type-at .ensures (a .names .now)) (c .before .before .before .before .before .null-at .ensures (a .names .now)) (c .before .before .before .before .if2 .taken) in
-    let v = value-got rows (c .before .before .before .before .before .before .before .before .type-at .ensures (a .names .now)) (c .before .before .before .before .before .before .before .before .before .before .loop .next) (c .before .before .before .judged .ensures) (c .before .t .given .1) in
-    (inv .0, inv .1, inv .2, members-null (inv .3) inside absent (c .before .before .before .before .before .before .before .before .before .before .before .before .before .before .before .before .before .before .before .before .before .before .before .pre .1 .0) v null)
+    let inv = c .before .before .before .before .before .before .before .before .before .before .before .before .loop .inv in
+    let member = member-is t (a .row) (c .before .before .before .before .before .before .before .before .before .before .before .before .loop .i) (c .before .before .before .before .before .before .before .before .before .type-row2 .ensures (a .names .now)) (inv .0) (c .before .before .before .before .before .before .before .before .before .before .wide2 .ensures .0) in
+    let type = member-type t (a .row) (c .before .before .before .before .before .before .before .before .before .before .before .before .loop .i) member (c .before .before .before .before .before .before .before .before .wide3 .ensures .0) in
+    let absent = sym (c .before .before .before .before .before .before .before .absent-at .ensures .0 (a .names .now)) ∙ c .before .before .before .before .before .before .if1 .left in
+    let inside = rw (inv .1) at (c .before .before .before .before .before .before .before .before .before .before .before .loop-test .taken) in
+    let null = null-is t (drop (c .before .before .before .before .before .before .before .before .before .before .before .before .loop .next) rows) (c .before .before .before .before .before .before .before .before .before .before .before .before .before .before .before .before .before .before .is-array .result) type (c .before .before .before .before .before .null-in .ensures (a .names .now)) (c .before .before .before .before .if2 .taken) in
+    let v = value-got rows type (c .before .before .before .before .before .before .before .before .before .before .before .before .loop .next) (c .before .before .before .judged .ensures) (c .before .t .given .1) in
+    (inv .0, inv .1, inv .2, inv .3, members-null (inv .4) inside absent (c .before .before .before .before .before .before .before .before .before .before .before .before .before .before .before .before .before .before .before .before .before .before .before .before .before .pre .1 .0) v null)
 
 sequence-put-lead-requires : (t : ℕ) → sequence-lts.Need-put-lead-requires (sequence-calls t) (sequence-at t) sequence.Post sequence-Inv-loop sequence-μ-loop
-sequence-put-lead-requires t c κs = search needs
+sequence-put-lead-requires t c κs = c .before .before .before .before .before .before .before .before .before .before .before .before .before .before .before .before .before .before .before .before .before .before .pre .1 .1
 
 sequence-value-requires : (t : ℕ) → sequence-lts.Need-value-requires (sequence-calls t) (sequence-at t) sequence.Post sequence-Inv-loop sequence-μ-loop
-sequence-value-requires t c κs = (omega (arith, c .before .before .before .before .before .before .before .before .before .before .before .before .before .before .before .before .before .before .before .before .before .before .before .before .pre .0), c .before .before .before .before .before .before .before .before .before .before .before .before .before .before .before .before .before .before .before .before .before .before .before .before .pre .1 .0)
+sequence-value-requires t c κs = (omega (arith, c .before .before .before .before .before .before .before .before .before .before .before .before .before .before .before .before .before .before .before .before .before .before .before .before .before .before .pre .0), (c .before .before .before .before .before .before .before .before .before .before .before .before .before .before .before .before .before .before .before .before .before .before .before .before .before .before .pre .1 .0, c .before .before .before .before .before .before .before .before .before .before .before .before .before .before .before .before .before .before .before .before .before .before .before .before .before .before .pre .1 .1))
 
 sequence-enum-known-t-2 : (t : ℕ) → sequence-lts.Need-enum-known-t-2 (sequence-calls t) (sequence-at t) sequence.Post sequence-Inv-loop sequence-μ-loop
 sequence-enum-known-t-2 t c = search needs
@@ -514,39 +522,47 @@ sequence-enum-told-2 : (t : ℕ) → sequence-lts.Need-enum-told-2 (sequence-cal
 sequence-enum-told-2 t c = search needs
 
 sequence-same-length-2 : (t : ℕ) → sequence-lts.Need-same-length-2 (sequence-calls t) (sequence-at t) sequence.Post sequence-Inv-loop sequence-μ-loop
-sequence-same-length-2 t c = search needs
+sequence-same-length-2 t c =
+    let inv = c .before .before .before .before .before .before .before .before .before .before .before .before .before .before .before .before .before .before .loop .inv in
+    c .before .before .before .before .value .kept .1 .1 .1 .1 .1 .0 ∙ c .before .before .before .before .before .before .before .before .put-lead .kept .1 .1 .0 ∙ inv .3 ∙ c .before .before .before .before .before .before .before .before .before .before .before .before .before .before .before .before .before .before .before .before .before .put-opening .kept .0
 
 sequence-returns-2 : (t : ℕ) → sequence-lts.Need-returns-2 (sequence-calls t) (sequence-at t) sequence.Post sequence-Inv-loop sequence-μ-loop
 sequence-returns-2 t c =
-    let a = c .before .before .before .before .before .before .before .before .before .before .before .before .before .before .before .before .before .before .before .before .before .before .before .before .before .before .before .before .before .args in
-    let inv = c .before .before .before .before .before .before .before .before .before .before .before .before .before .before .before .before .loop .inv in
-    let absent = sym (c .before .before .before .before .before .before .before .before .before .before .before .before .before .absent-at .ensures .0 (a .names .now)) ∙ c .before .before .before .before .before .before .before .before .before .before .before .before .if1 .left in
+    let a = c .before .before .before .before .before .before .before .before .before .before .before .before .before .before .before .before .before .before .before .before .before .before .before .before .before .before .before .before .before .before .before .args in
+    let t = table (a .types .now) (a .names .now) in
     let rows = rowsIn (a .values .now) in
-    let inside = rw (inv .0) at (c .before .before .before .before .before .before .before .before .before .before .before .before .before .before .before .loop-test .taken) in
-    writes-is (c .enum-told2 .given .1) (gives-wrong (members-wrong (inv .3) inside absent (value-wrong rows (c .before .before .before .before .before .before .before .before .before .before .before .before .before .before .type-at .ensures (a .names .now)) (c .before .before .before .before .before .before .before .before .before .before .before .before .before .before .before .before .loop .next) (c .before .before .before .before .value .ensures) (c .enum-told2 .given .1))))
+    let inv = c .before .before .before .before .before .before .before .before .before .before .before .before .before .before .before .before .before .before .loop .inv in
+    let member = member-is t (a .row) (c .before .before .before .before .before .before .before .before .before .before .before .before .before .before .before .before .before .before .loop .i) (c .before .before .before .before .before .before .before .before .before .before .before .before .before .before .before .type-row2 .ensures (a .names .now)) (inv .0) (c .before .before .before .before .before .before .before .before .before .before .before .before .before .before .before .before .wide2 .ensures .0) in
+    let type = member-type t (a .row) (c .before .before .before .before .before .before .before .before .before .before .before .before .before .before .before .before .before .before .loop .i) member (c .before .before .before .before .before .before .before .before .before .before .before .before .before .before .wide3 .ensures .0) in
+    let absent = sym (c .before .before .before .before .before .before .before .before .before .before .before .before .before .absent-at .ensures .0 (a .names .now)) ∙ c .before .before .before .before .before .before .before .before .before .before .before .before .if1 .left in
+    let inside = rw (inv .1) at (c .before .before .before .before .before .before .before .before .before .before .before .before .before .before .before .before .before .loop-test .taken) in
+    writes-is (c .enum-told2 .given .1) (gives-wrong (members-wrong (inv .4) inside absent (value-wrong rows type (c .before .before .before .before .before .before .before .before .before .before .before .before .before .before .before .before .before .before .loop .next) (c .before .before .before .before .value .ensures) (c .enum-told2 .given .1))))
 
 sequence-kept-after-requires : (t : ℕ) → sequence-lts.Need-kept-after-requires (sequence-calls t) (sequence-at t) sequence.Post sequence-Inv-loop sequence-μ-loop
-sequence-kept-after-requires t c κs = omega (arith, c .before .before .before .before .before .before .before .before .before .before .before .before .before .before .before .before .loop-test .taken, c .before .before .before .before .before .before .before .before .before .before .before .before .before .before .before .before .before .loop .inv .1, c .before .before .before .before .before .before .before .before .before .before .before .before .before .before .before .before .before .loop .inv .3 .few)
+sequence-kept-after-requires t c κs = omega (arith, c .before .before .before .before .before .before .before .before .before .before .before .before .before .before .before .before .before .before .loop-test .taken, c .before .before .before .before .before .before .before .before .before .before .before .before .before .before .before .before .before .before .before .loop .inv .2, c .before .before .before .before .before .before .before .before .before .before .before .before .before .before .before .before .before .before .before .loop .inv .4 .few)
 
 sequence-add-present-2 : (t : ℕ) → sequence-lts.Need-add-present-2 (sequence-calls t) (sequence-at t) sequence.Post sequence-Inv-loop sequence-μ-loop
-sequence-add-present-2 t c = omega (arith, c .before .before .before .before .before .before .before .before .before .before .before .before .before .before .before .before .before .loop-test .taken, c .before .before .before .before .before .before .before .before .before .before .before .before .before .before .before .before .before .before .loop .inv .1, c .before .before .before .before .before .before .before .before .before .before .before .before .before .before .before .before .before .before .loop .inv .3 .some)
+sequence-add-present-2 t c = omega (arith, c .before .before .before .before .before .before .before .before .before .before .before .before .before .before .before .before .before .before .before .loop-test .taken, c .before .before .before .before .before .before .before .before .before .before .before .before .before .before .before .before .before .before .before .before .loop .inv .2, c .before .before .before .before .before .before .before .before .before .before .before .before .before .before .before .before .before .before .before .before .loop .inv .4 .some)
 
 sequence-add-i-3 : (t : ℕ) → sequence-lts.Need-add-i-3 (sequence-calls t) (sequence-at t) sequence.Post sequence-Inv-loop sequence-μ-loop
-sequence-add-i-3 t c = omega (arith, c .before .before .before .before .before .before .before .before .before .before .before .before .before .before .before .before .before .loop-test .taken, c .before .before .before .before .before .before .before .before .before .before .before .before .before .before .before .before .before .before .loop .inv .1)
+sequence-add-i-3 t c = omega (arith, c .before .before .before .before .before .before .before .before .before .before .before .before .before .before .before .before .before .before .before .loop-test .taken, c .before .before .before .before .before .before .before .before .before .before .before .before .before .before .before .before .before .before .before .before .loop .inv .2)
 
 sequence-loop-less-3 : (t : ℕ) → sequence-lts.Need-loop-less-3 (sequence-calls t) (sequence-at t) sequence.Post sequence-Inv-loop sequence-μ-loop
-sequence-loop-less-3 t c = search needs
+sequence-loop-less-3 t c = omega (arith, c .before .before .before .before .before .before .before .before .before .before .before .before .before .before .before .before .before .before .before .loop-test .taken)
 
 sequence-loop-again-3 : (t : ℕ) → sequence-lts.Need-loop-again-3 (sequence-calls t) (sequence-at t) sequence.Post sequence-Inv-loop sequence-μ-loop
 sequence-loop-again-3 t c =
-    let a = c .before .before .before .before .before .before .before .before .before .before .before .before .before .before .before .before .before .before .before .before .before .before .before .before .before .before .before .before .before .before .before .args in
-    let inv = c .before .before .before .before .before .before .before .before .before .before .before .before .before .before .before .before .before .before .loop .inv in
-    let absent = sym (c .before .before .before .before .before .before .before .before .before .before .before .before .before .before .before .absent-at .ensures .0 (a .names .now)) ∙ c .before .before .before .before .before .before .before .before .before .before .before .before .before .before .if1 .left in
+    let a = c .before .before .before .before .before .before .before .before .before .before .before .before .before .before .before .before .before .before .before .before .before .before .before .before .before .before .before .before .before .before .before .before .before .args in
+    let t = table (a .types .now) (a .names .now) in
     let rows = rowsIn (a .values .now) in
-    let inside = rw (inv .0) at (c .before .before .before .before .before .before .before .before .before .before .before .before .before .before .before .before .before .loop-test .taken) in
-    let null = null-is (table (a .types .now) (a .names .now)) (drop (c .before .before .before .before .before .before .before .before .before .before .before .before .before .before .before .before .before .before .loop .next) rows) (c .before .before .before .before .before .before .before .before .before .before .before .before .before .before .before .before .before .before .before .before .before .before .before .before .is-array .result) (c .before .before .before .before .before .before .before .before .before .before .before .before .before .before .before .before .type-at .ensures (a .names .now)) (c .before .before .before .before .before .before .before .before .before .before .before .before .before .null-at .ensures (a .names .now)) (c .before .before .before .before .before .before .before .before .before .before .before .before .if2 .left) in
-    let v = value-got rows (c .before .before .before .before .before .before .before .before .before .before .before .before .before .before .before .before .type-at .ensures (a .names .now)) (c .before .before .before .before .before .before .before .before .before .before .before .before .before .before .before .before .before .before .loop .next) (c .before .before .before .before .before .before .value .ensures) (c .before .before .t2 .given .1) in
-    (inv .0, inv .1, c .before .before .before .before .before .before .value .kept .1 .1 .1 .1 .0 ∙ c .before .before .before .before .before .before .before .before .before .before .put-lead .kept .1 .1 .0 ∙ inv .2, rw (c .kept-after .ensures) (members-part (inv .3) inside absent (c .before .before .before .before .before .before .before .before .before .before .before .before .before .before .before .before .before .before .before .before .before .before .before .before .before .before .before .before .before .before .before .pre .1 .0) v null (c .before .before .before .before .before .before .before .before .before .before .put-lead .ensures)))
+    let inv = c .before .before .before .before .before .before .before .before .before .before .before .before .before .before .before .before .before .before .before .before .loop .inv in
+    let member = member-is t (a .row) (c .before .before .before .before .before .before .before .before .before .before .before .before .before .before .before .before .before .before .before .before .loop .i) (c .before .before .before .before .before .before .before .before .before .before .before .before .before .before .before .before .before .type-row2 .ensures (a .names .now)) (inv .0) (c .before .before .before .before .before .before .before .before .before .before .before .before .before .before .before .before .before .before .wide2 .ensures .0) in
+    let type = member-type t (a .row) (c .before .before .before .before .before .before .before .before .before .before .before .before .before .before .before .before .before .before .before .before .loop .i) member (c .before .before .before .before .before .before .before .before .before .before .before .before .before .before .before .before .wide3 .ensures .0) in
+    let absent = sym (c .before .before .before .before .before .before .before .before .before .before .before .before .before .before .before .absent-at .ensures .0 (a .names .now)) ∙ c .before .before .before .before .before .before .before .before .before .before .before .before .before .before .if1 .left in
+    let inside = rw (inv .1) at (c .before .before .before .before .before .before .before .before .before .before .before .before .before .before .before .before .before .before .before .loop-test .taken) in
+    let null = null-is t (drop (c .before .before .before .before .before .before .before .before .before .before .before .before .before .before .before .before .before .before .before .before .loop .next) rows) (c .before .before .before .before .before .before .before .before .before .before .before .before .before .before .before .before .before .before .before .before .before .before .before .before .before .before .is-array .result) type (c .before .before .before .before .before .before .before .before .before .before .before .before .before .null-in .ensures (a .names .now)) (c .before .before .before .before .before .before .before .before .before .before .before .before .if2 .left) in
+    let v = value-got rows type (c .before .before .before .before .before .before .before .before .before .before .before .before .before .before .before .before .before .before .before .before .loop .next) (c .before .before .before .before .before .before .value .ensures) (c .before .before .t2 .given .1) in
+    (inv .0, inv .1, inv .2, c .before .before .before .before .before .before .value .kept .1 .1 .1 .1 .1 .0 ∙ c .before .before .before .before .before .before .before .before .before .before .put-lead .kept .1 .1 .0 ∙ inv .3, rw (c .kept-after .ensures) (members-part (inv .4) inside absent (c .before .before .before .before .before .before .before .before .before .before .before .before .before .before .before .before .before .before .before .before .before .before .before .before .before .before .before .before .before .before .before .before .before .pre .1 .0) v null (c .before .before .before .before .before .before .before .before .before .before .put-lead .ensures (a .types .now) (a .row) member)))
 
 sequence-put-closing-requires : (t : ℕ) → sequence-lts.Need-put-closing-requires (sequence-calls t) (sequence-at t) sequence.Post sequence-Inv-loop sequence-μ-loop
 sequence-put-closing-requires t c κs = search needs
@@ -560,74 +576,24 @@ sequence-same-length-3 t c = search needs
 sequence-returns-3 : (t : ℕ) → sequence-lts.Need-returns-3 (sequence-calls t) (sequence-at t) sequence.Post sequence-Inv-loop sequence-μ-loop
 sequence-returns-3 t c =
     let inv = c .before .before .before .before .before .before .before .loop .inv in
-    writes-is (c .ended .ensures) (members-end (inv .3) (rw (inv .0) at (c .before .before .before .before .before .before .loop-test .left)) (c .before .before .before .before .before .before .before .before .before .before .put-opening .ensures) (c .before .before .before .before .put-closing .ensures))
+    writes-is (c .ended .ensures) (members-end (inv .4) (rw (inv .1) at (c .before .before .before .before .before .before .loop-test .left)) (c .before .before .before .before .before .before .before .before .before .before .put-opening .ensures) (c .before .before .before .before .put-closing .ensures))
 
-value-at-requires : (t : ℕ) → value-lts.Need-at-requires (value-calls t) (value-at t) value.Post
-value-at-requires t c κs = search needs
+value-start-of-requires : (t : ℕ) → value-lts.Need-start-of-requires (value-calls t) (value-at t) value.Post
+value-start-of-requires t c κs = search needs
 
-value-is-unwrapped-requires : (t : ℕ) → value-lts.Need-is-unwrapped-requires (value-calls t) (value-at t) value.Post
-value-is-unwrapped-requires t c κs = search needs
+value-returns : (t : ℕ) → value-lts.Need-returns (value-calls t) (value-at t) value.Post
+value-returns t c =
+    let a = c .before .before .before .before .before .before .before .before .args in
+    let t = table (a .types .now) (a .names .now) in
+    let rows = rowsIn (a .values .now) in
+    gives-wrong (start-wrong (a .depth) t (a .pool .now) rows (a .row) (a .slot) (a .offset) (c .before .before .start-of .ensures (a .names .now)) (not-true _ (c .if1 .taken)))
 
 value-plain-requires : (t : ℕ) → value-lts.Need-plain-requires (value-calls t) (value-at t) value.Post
 value-plain-requires t c κs =
     let a = c .before .before .before .before .before .before .before .before .before .args in
     let t = table (a .types .now) (a .names .now) in
     let rows = rowsIn (a .values .now) in
-    (omega arith, (c .before .before .before .before .before .before .before .before .before .pre .1, sym (c .before .before .is-unwrapped .ensures t (a .row) (c .before .before .before .at .ensures (a .names .now))) ∙ not-true _ (c .before .if1 .taken)))
-
-value-same-length : (t : ℕ) → value-lts.Need-same-length (value-calls t) (value-at t) value.Post
-value-same-length t c = search needs
-
-value-returns : (t : ℕ) → value-lts.Need-returns (value-calls t) (value-at t) value.Post
-value-returns t c = search needs
-
-value-row-at-requires : (t : ℕ) → value-lts.Need-row-at-requires (value-calls t) (value-at t) value.Post
-value-row-at-requires t c κs = search needs
-
-value-enum-known-w : (t : ℕ) → value-lts.Need-enum-known-w (value-calls t) (value-at t) value.Post
-value-enum-known-w t c = search needs
-
-value-enum-told : (t : ℕ) → value-lts.Need-enum-told (value-calls t) (value-at t) value.Post
-value-enum-told t c = search needs
-
-value-returns-2 : (t : ℕ) → value-lts.Need-returns-2 (value-calls t) (value-at t) value.Post
-value-returns-2 t c =
-    let a = c .before .before .before .before .before .before .before .before .before .before .before .args in
-    gives-wrong (text-none _ _ _ _ (a .slot) _ (rw (c .enum-told .given .1) at (c .before .before .row-at .ensures)))
-
-value-count-of-requires : (t : ℕ) → value-lts.Need-count-of-requires (value-calls t) (value-at t) value.Post
-value-count-of-requires t c κs = search needs
-
-value-returns-3 : (t : ℕ) → value-lts.Need-returns-3 (value-calls t) (value-at t) value.Post
-value-returns-3 t c =
-    let a = c .before .before .before .before .before .before .before .before .before .before .before .before .before .before .before .before .before .args in
-    let t = table (a .types .now) (a .names .now) in
-    let rows = rowsIn (a .values .now) in
-    let unwrapped = sym (c .before .before .before .before .before .before .before .before .before .before .is-unwrapped .ensures t (a .row) (c .before .before .before .before .before .before .before .before .before .before .before .at .ensures (a .names .now))) ∙ not-false _ (c .before .before .before .before .before .before .before .before .before .if1 .left) in
-    let w = c .before .before .before .before .before .before .w .given .0 .0 in
-    let found = rw (c .before .before .before .before .before .before .w .given .1) at (c .before .before .before .before .before .before .before .before .row-at .ensures) in
-    let right = right-is (w .kind) (w .a) (w .b) (c .before .before .before .count-of .ensures (a .names .now)) (not-true _ (c .if2 .taken)) in
-    gives-wrong (unwrapped-bad (a .depth) t (a .pool .now) rows (a .row) (a .slot) (a .offset) (valueRow w) unwrapped (found .0) right)
-
-value-type-at-requires : (t : ℕ) → value-lts.Need-type-at-requires (value-calls t) (value-at t) value.Post
-value-type-at-requires t c κs = search needs
-
-value-add-plain : (t : ℕ) → value-lts.Need-add-plain (value-calls t) (value-at t) value.Post
-value-add-plain t c =
-    let w = c .before .before .before .before .before .before .before .before .w .given .0 .0 in
-    let found = rw (c .before .before .before .before .before .before .before .before .w .given .1) at (c .before .before .before .before .before .before .before .before .before .before .row-at .ensures) in
-    omega (arith, found .2)
-
-value-plain-requires-2 : (t : ℕ) → value-lts.Need-plain-requires-2 (value-calls t) (value-at t) value.Post
-value-plain-requires-2 t c κs =
-    let a = c .before .before .before .before .before .before .before .before .before .before .before .before .before .before .before .before .before .before .before .args in
-    let t = table (a .types .now) (a .names .now) in
-    let rows = rowsIn (a .values .now) in
-    let unwrapped = sym (c .before .before .before .before .before .before .before .before .before .before .before .before .is-unwrapped .ensures t (a .row) (c .before .before .before .before .before .before .before .before .before .before .before .before .before .at .ensures (a .names .now))) ∙ not-false _ (c .before .before .before .before .before .before .before .before .before .before .before .if1 .left) in
-    let w = c .before .before .before .before .before .before .before .before .w .given .0 .0 in
-    let found = rw (c .before .before .before .before .before .before .before .before .w .given .1) at (c .before .before .before .before .before .before .before .before .before .before .row-at .ensures) in
-    let right = right-is (w .kind) (w .a) (w .b) (c .before .before .before .before .before .count-of .ensures (a .names .now)) (not-false _ (c .before .before .if2 .left)) in
-    (omega (arith, c .before .before .before .before .before .before .before .before .before .before .before .before .before .before .before .before .before .before .before .pre .0), (c .before .before .before .before .before .before .before .before .before .before .before .before .before .before .before .before .before .before .before .pre .1, ap (isUnwrapped t) (c .before .type-at .ensures (a .names .now)) ∙ chosen-plain (a .depth) t (a .pool .now) rows (a .row) (a .slot) (a .offset) (valueRow w) unwrapped (found .0) (c .before .before .before .before .before .before .before .before .before .before .before .before .before .before .before .before .before .before .before .pre .1) right))
+    (omega (arith, c .before .before .before .before .before .before .before .before .before .pre .0), (c .before .before .before .before .before .before .before .before .before .pre .1 .0, c .before .before .before .before .before .before .before .before .before .pre .1 .1, start-plain (a .depth) t (a .pool .now) rows (a .row) (a .slot) (a .offset) (c .before .before .before .start-of .ensures (a .names .now)) (c .before .before .before .before .before .before .before .before .before .pre .1 .0) (not-false _ (c .before .if1 .left))))
 
 value-enum-known-b : (t : ℕ) → value-lts.Need-enum-known-b (value-calls t) (value-at t) value.Post
 value-enum-known-b t c = search needs
@@ -635,36 +601,30 @@ value-enum-known-b t c = search needs
 value-enum-known-next : (t : ℕ) → value-lts.Need-enum-known-next (value-calls t) (value-at t) value.Post
 value-enum-known-next t c = search needs
 
-value-ended-requires : (t : ℕ) → value-lts.Need-ended-requires (value-calls t) (value-at t) value.Post
-value-ended-requires t c κs = search needs
+value-closed-requires : (t : ℕ) → value-lts.Need-closed-requires (value-calls t) (value-at t) value.Post
+value-closed-requires t c κs = search needs
+
+value-same-length : (t : ℕ) → value-lts.Need-same-length (value-calls t) (value-at t) value.Post
+value-same-length t c = search needs
+
+value-returns-2 : (t : ℕ) → value-lts.Need-returns-2 (value-calls t) (value-at t) value.Post
+value-returns-2 t c =
+    let a = c .before .before .before .before .before .before .before .before .before .before .before .before .before .before .before .args in
+    let t = table (a .types .now) (a .names .now) in
+    let rows = rowsIn (a .values .now) in
+    gives-wrong (start-fails (a .depth) t (a .pool .now) rows (a .row) (a .slot) (a .offset) (c .before .before .before .before .before .before .before .before .before .start-of .ensures (a .names .now)) (c .before .before .before .before .before .before .before .before .before .before .before .before .before .before .before .pre .1 .0) (not-false _ (c .before .before .before .before .before .before .before .if1 .left))
+    (value-wrong rows refl (c .before .before .before .before .before .before .before .before .before .start-of .result .slot) (c .before .before .before .before .before .plain .ensures) (c .before .b .given .1)))
 
 value-same-length-2 : (t : ℕ) → value-lts.Need-same-length-2 (value-calls t) (value-at t) value.Post
 value-same-length-2 t c = search needs
 
-value-returns-4 : (t : ℕ) → value-lts.Need-returns-4 (value-calls t) (value-at t) value.Post
-value-returns-4 t c =
-    let a = c .before .before .before .before .before .before .before .before .before .before .before .before .before .before .before .before .before .before .before .before .before .before .before .before .before .args in
+value-returns-3 : (t : ℕ) → value-lts.Need-returns-3 (value-calls t) (value-at t) value.Post
+value-returns-3 t c =
+    let a = c .before .before .before .before .before .before .before .before .before .before .before .before .before .before .before .before .args in
     let t = table (a .types .now) (a .names .now) in
     let rows = rowsIn (a .values .now) in
-    let unwrapped = sym (c .before .before .before .before .before .before .before .before .before .before .before .before .before .before .before .before .before .before .is-unwrapped .ensures t (a .row) (c .before .before .before .before .before .before .before .before .before .before .before .before .before .before .before .before .before .before .before .at .ensures (a .names .now))) ∙ not-false _ (c .before .before .before .before .before .before .before .before .before .before .before .before .before .before .before .before .before .if1 .left) in
-    let w = c .before .before .before .before .before .before .before .before .before .before .before .before .before .before .w .given .0 .0 in
-    let found = rw (c .before .before .before .before .before .before .before .before .before .before .before .before .before .before .w .given .1) at (c .before .before .before .before .before .before .before .before .before .before .before .before .before .before .before .before .row-at .ensures) in
-    let right = right-is (w .kind) (w .a) (w .b) (c .before .before .before .before .before .before .before .before .before .before .before .count-of .ensures (a .names .now)) (not-false _ (c .before .before .before .before .before .before .before .before .if2 .left)) in
-    gives-wrong (unwrapped-wrong (a .depth) t (a .pool .now) rows (a .row) (a .slot) (a .offset) (valueRow w) unwrapped (found .0) (c .before .before .before .before .before .before .before .before .before .before .before .before .before .before .before .before .before .before .before .before .before .before .before .before .before .pre .1) right (value-wrong rows (c .before .before .before .before .before .before .before .type-at .ensures (a .names .now)) (a .slot + 1) (c .before .before .before .before .before .plain2 .ensures) (c .before .b .given .1)))
-
-value-same-length-3 : (t : ℕ) → value-lts.Need-same-length-3 (value-calls t) (value-at t) value.Post
-value-same-length-3 t c = search needs
-
-value-returns-5 : (t : ℕ) → value-lts.Need-returns-5 (value-calls t) (value-at t) value.Post
-value-returns-5 t c =
-    let a = c .before .before .before .before .before .before .before .before .before .before .before .before .before .before .before .before .before .before .before .before .before .before .before .before .before .before .args in
-    let t = table (a .types .now) (a .names .now) in
-    let rows = rowsIn (a .values .now) in
-    let unwrapped = sym (c .before .before .before .before .before .before .before .before .before .before .before .before .before .before .before .before .before .before .before .is-unwrapped .ensures t (a .row) (c .before .before .before .before .before .before .before .before .before .before .before .before .before .before .before .before .before .before .before .before .at .ensures (a .names .now))) ∙ not-false _ (c .before .before .before .before .before .before .before .before .before .before .before .before .before .before .before .before .before .before .if1 .left) in
-    let w = c .before .before .before .before .before .before .before .before .before .before .before .before .before .before .before .w .given .0 .0 in
-    let found = rw (c .before .before .before .before .before .before .before .before .before .before .before .before .before .before .before .w .given .1) at (c .before .before .before .before .before .before .before .before .before .before .before .before .before .before .before .before .before .row-at .ensures) in
-    let right = right-is (w .kind) (w .a) (w .b) (c .before .before .before .before .before .before .before .before .before .before .before .before .count-of .ensures (a .names .now)) (not-false _ (c .before .before .before .before .before .before .before .before .before .if2 .left)) in
-    writes-is (c .ended .ensures) (unwrapped-ends (a .depth) t (a .pool .now) rows (a .row) (a .slot) (a .offset) (valueRow w) unwrapped (found .0) (c .before .before .before .before .before .before .before .before .before .before .before .before .before .before .before .before .before .before .before .before .before .before .before .before .before .before .pre .1) right (value-got rows (c .before .before .before .before .before .before .before .before .type-at .ensures (a .names .now)) (a .slot + 1) (c .before .before .before .before .before .before .plain2 .ensures) (c .before .before .next .given .1)))
+    start-ends (a .depth) t (a .pool .now) rows (a .row) (a .slot) (a .offset) (c .before .before .before .before .before .before .before .before .before .before .start-of .ensures (a .names .now)) (c .before .before .before .before .before .before .before .before .before .before .before .before .before .before .before .before .pre .1 .0) (not-false _ (c .before .before .before .before .before .before .before .before .if1 .left))
+    (value-got rows refl (c .before .before .before .before .before .before .before .before .before .before .start-of .result .slot) (c .before .before .before .before .before .before .plain .ensures) (c .before .before .next .given .1)) (c .closed .ensures)
 
 pub +choice+judged+list+plain+sequence+value-spec : {M : Type 1} → statement M
 +choice+judged+list+plain+sequence+value-spec =
@@ -714,7 +674,6 @@ pub +choice+judged+list+plain+sequence+value-spec : {M : Type 1} → statement M
     (plain-enum-known-w t)
     (plain-enum-told t)
     (plain-returns t)
-    (plain-kind-of-requires t)
     (plain-returns-2 t)
     (plain-leaf-requires t)
     (plain-same-length t)
@@ -739,19 +698,22 @@ pub +choice+judged+list+plain+sequence+value-spec : {M : Type 1} → statement M
     (λ t. sequence-lts.spec (sequence-calls t) (sequence-at t) sequence.Post
     sequence-Inv-loop
     sequence-μ-loop
-    (sequence-at-requires t)
+    (sequence-type-row-requires t)
     (sequence-is-array-requires t)
-    (sequence-count-of-requires t)
+    (sequence-wide-requires t)
     (sequence-add-next t)
     (sequence-put-opening-requires t)
     (sequence-loop-holds t)
-    (sequence-type-at-requires t)
+    (sequence-wide-requires-2 t)
+    (sequence-add-type-row t)
+    (sequence-type-row-requires-2 t)
+    (sequence-wide-requires-3 t)
     (sequence-absent-at-requires t)
     (sequence-add-next-2 t)
     (sequence-add-i t)
     (sequence-loop-less t)
     (sequence-loop-again t)
-    (sequence-null-at-requires t)
+    (sequence-null-in-requires t)
     (sequence-judged-requires t)
     (sequence-enum-known-t t)
     (sequence-enum-told t)
@@ -777,24 +739,13 @@ pub +choice+judged+list+plain+sequence+value-spec : {M : Type 1} → statement M
     (sequence-same-length-3 t)
     (sequence-returns-3 t))
     λ t. value-lts.spec (value-calls t) (value-at t) value.Post
-    (value-at-requires t)
-    (value-is-unwrapped-requires t)
-    (value-plain-requires t)
-    (value-same-length t)
+    (value-start-of-requires t)
     (value-returns t)
-    (value-row-at-requires t)
-    (value-enum-known-w t)
-    (value-enum-told t)
-    (value-returns-2 t)
-    (value-count-of-requires t)
-    (value-returns-3 t)
-    (value-type-at-requires t)
-    (value-add-plain t)
-    (value-plain-requires-2 t)
+    (value-plain-requires t)
     (value-enum-known-b t)
     (value-enum-known-next t)
-    (value-ended-requires t)
+    (value-closed-requires t)
+    (value-same-length t)
+    (value-returns-2 t)
     (value-same-length-2 t)
-    (value-returns-4 t)
-    (value-same-length-3 t)
-    (value-returns-5 t)
+    (value-returns-3 t)
