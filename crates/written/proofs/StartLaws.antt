@@ -2,7 +2,7 @@
 use mathlib.Core.Path.{_≡_, refl, sym, ap, _∙_}
 use mathlib.Core.List.{List, _∷_}
 use mathlib.Core.Bool.{Bool, true, false, _&&_}
-use Prim.Native.Nat.{ℕ, suc, _+_, _-_}
+use Prim.Native.Nat.{ℕ, suc, _+_, _-_, _<_}
 use native.Mathlib.Omega.{arith}
 use borrow.Author.Tests.{eq-eqb, ne-eqb}
 use lib.Dec.{eqb}
@@ -10,6 +10,7 @@ use lib.ListN.{drop}
 use Rattle.jer.specs.Table.{Table, kindOf, isUnwrapped}
 use Rattle.jer.specs.Rows.{ValueRow}
 use Rattle.jer.specs.Judge.{wrong, andThen}
+use Rattle.jer.proofs.ValidRows.{unwrapped-kind}
 use Rattle.written.specs.Start.{Starts, own, chosen, none, closedAs}
 use Rattle.written.specs.Text.{textOf, valueText, endedAs, Writes, Wrapped, PlainRow}
 use Rattle.written.specs.declared.start.Start.{Start}
@@ -18,6 +19,14 @@ use Rattle.written.specs.declared.taken.Taken.the-variants as taken
 use Rattle.written.proofs.RowLaws.{never}
 use Rattle.written.proofs.TextLaws.{Value, NoValue, gives, text-of}
 use Rattle.written.proofs.ValueLaws.{chosen-plain, unwrapped-ends, unwrapped-wrong}
+
+-- a type of a leaf's kind is not UNWRAPPED
+pub leaf-plain : (t : Table) (r : ℕ) {k : ℕ} → k ≡ kindOf t r → k < 6 → isUnwrapped t r ≡ false
+leaf-plain t r e h = go (isUnwrapped t r) refl
+  where
+    go : (b : Bool) → isUnwrapped t r ≡ b → isUnwrapped t r ≡ false
+    go true u = absurd (omega (arith, unwrapped-kind t r u))
+    go false u = u
 
 no-text : {d : ℕ} {t : Table} {pool : List ℕ} {rows : List ValueRow} {r q o q′ : ℕ} → NoValue d t pool rows r q o q′ → valueText d t pool (drop q rows) r q o ≡ wrong q′
 unfolding valueText textOf andThen

@@ -281,7 +281,7 @@ fn sequence(
             i += 1;
         } else {
             let s = put_lead(literal, names, text, member, i, kept, p, array);
-            let t = value(
+            let t = leaf_or_value(
                 literal,
                 types,
                 names,
@@ -312,6 +312,60 @@ fn sequence(
     }
     let end = put_closing(text, p, array);
     ended(w.a == present, w.size, slot, next, used, end)
+}
+
+// The same as `value`: a leaf, of which most values are, is written with no other call of the cycle between.
+fn leaf_or_value(
+    literal: &[u8; 256],
+    types: &[u32],
+    names: &[u8],
+    values: &[u32],
+    pool: &[u8],
+    text: &mut [u8],
+    row: usize,
+    slot: usize,
+    offset: usize,
+    place: usize,
+    depth: u32,
+) -> Taken
+    requires { ⌜ Wrapped (table (now types) (now names)) × IsLiteral (now literal) ⌝ }
+    ensures { λ a. ⌜ WritesValue depth types names values pool row slot offset place text a ⌝ }
+{
+    let own = type_row(types, row);
+    let kind = own.kind;
+    if Row::SEQUENCE <= kind {
+        return value(
+            literal,
+            types,
+            names,
+            values,
+            pool,
+            text,
+            row,
+            slot,
+            offset,
+            place,
+            depth,
+        );
+    }
+    let Found::Row(w) = row_at(values, slot) else {
+        return Taken::Wrong(slot);
+    };
+    if w.kind != kind {
+        return Taken::Wrong(slot);
+    }
+    leaf(
+        literal,
+        types,
+        names,
+        pool,
+        text,
+        w,
+        row,
+        slot,
+        offset,
+        place,
+    )
 }
 
 // A value whose text is measured and not kept.

@@ -1,4 +1,4 @@
--- Made by tools/answers.py from answers/value/+choice+judged+list+plain+sequence+value.ans: edit that. 080ba8617a8d4873
+-- Made by tools/answers.py from answers/value/+choice+judged+leaf_or_value+list+plain+sequence+value.ans: edit that. a88d8d3f8cb501d3
 use Prim.Native.Nat.{ℕ, _<_, _+_, _-_, _*_}
 use mathlib.Core.Path.{_≡_, refl, sym, ap, _∙_}
 use native.Mathlib.Omega.{arith}
@@ -7,7 +7,8 @@ use borrow.Author.Tests.{not-true, not-false}
 use Rattle.jer.specs.Table.{elementOf, countOf, firstOf, table}
 use Rattle.types.specs.declared.row.Row.{Row}
 use Rattle.written.proofs.RowLaws.{member-is, member-type}
-use Rattle.written.proofs.StartLaws.{start-wrong, start-plain, start-fails, start-ends}
+use Rattle.types.proofs.RowLaws.{kind-of}
+use Rattle.written.proofs.StartLaws.{leaf-plain, start-wrong, start-plain, start-fails, start-ends}
 use Rattle.jer.specs.Judge.{rowsIn}
 use Rattle.written.specs.Rows.{valueRow}
 use Rattle.written.proofs.TextLaws.{gives-wrong, writes-is, writes-as, writes-none, value-got, value-wrong}
@@ -19,22 +20,25 @@ use borrow.Fn.Kinds.{In}
 use borrow.Fn.PlainCycle.{Measures, is, falls, and}
 use Rattle.written.proofs.value.choice.Reads as choice
 use Rattle.written.proofs.value.choice.Kinds as choice-kinds
-use Rattle.written.proofs.value.+choice+judged+list+plain+sequence+value.Lts-choice as choice-lts
+use Rattle.written.proofs.value.+choice+judged+leaf_or_value+list+plain+sequence+value.Lts-choice as choice-lts
 use Rattle.written.proofs.value.judged.Reads as judged
 use Rattle.written.proofs.value.judged.Kinds as judged-kinds
-use Rattle.written.proofs.value.+choice+judged+list+plain+sequence+value.Lts-judged as judged-lts
+use Rattle.written.proofs.value.+choice+judged+leaf_or_value+list+plain+sequence+value.Lts-judged as judged-lts
+use Rattle.written.proofs.value.leaf_or_value.Reads as leaf-or-value
+use Rattle.written.proofs.value.leaf_or_value.Kinds as leaf-or-value-kinds
+use Rattle.written.proofs.value.+choice+judged+leaf_or_value+list+plain+sequence+value.Lts-leaf_or_value as leaf-or-value-lts
 use Rattle.written.proofs.value.list.Reads as list
 use Rattle.written.proofs.value.list.Kinds as list-kinds
-use Rattle.written.proofs.value.+choice+judged+list+plain+sequence+value.Lts-list as list-lts
+use Rattle.written.proofs.value.+choice+judged+leaf_or_value+list+plain+sequence+value.Lts-list as list-lts
 use Rattle.written.proofs.value.plain.Reads as plain
 use Rattle.written.proofs.value.plain.Kinds as plain-kinds
-use Rattle.written.proofs.value.+choice+judged+list+plain+sequence+value.Lts-plain as plain-lts
+use Rattle.written.proofs.value.+choice+judged+leaf_or_value+list+plain+sequence+value.Lts-plain as plain-lts
 use Rattle.written.proofs.value.sequence.Reads as sequence
 use Rattle.written.proofs.value.sequence.Kinds as sequence-kinds
-use Rattle.written.proofs.value.+choice+judged+list+plain+sequence+value.Lts-sequence as sequence-lts
+use Rattle.written.proofs.value.+choice+judged+leaf_or_value+list+plain+sequence+value.Lts-sequence as sequence-lts
 use Rattle.written.proofs.value.value.Reads as value
 use Rattle.written.proofs.value.value.Kinds as value-kinds
-use Rattle.written.proofs.value.+choice+judged+list+plain+sequence+value.Lts-value as value-lts
+use Rattle.written.proofs.value.+choice+judged+leaf_or_value+list+plain+sequence+value.Lts-value as value-lts
 use Rattle.types.proofs.row.Row.is_array.Reads as is-array-reads
 use Rattle.types.proofs.row.count_of.Reads as count-of-reads
 use Rattle.types.proofs.row.element_of.Reads as element-of-reads
@@ -57,14 +61,17 @@ use Rattle.written.proofs.rows.type_row.Reads as type-row-reads
 use Rattle.written.proofs.start.closed.Reads as closed-reads
 use Rattle.written.proofs.start.start_of.Reads as start-of-reads
 use Rattle.written.proofs.taken.ended.Reads as ended-reads
-use Rattle.written.proofs.value.+choice+judged+list+plain+sequence+value.{statement}
-use Rattle.written.proofs.value.+choice+judged+list+plain+sequence+value.Tie.{close}
+use Rattle.written.proofs.value.+choice+judged+leaf_or_value+list+plain+sequence+value.{statement}
+use Rattle.written.proofs.value.+choice+judged+leaf_or_value+list+plain+sequence+value.Tie.{close}
 
 abbrev μ-choice : Measures 6 choice-kinds.ps ℕ
 μ-choice κs a = a .1 .1 .1 .1 .1 .1 .1 .1 .1 .1 .1 .0 * 4 + 3
 
 abbrev μ-judged : Measures 5 judged-kinds.ps ℕ
 μ-judged κs a = a .1 .1 .1 .1 .1 .1 .1 .1 .0 * 4 + 2
+
+abbrev μ-leaf-or-value : Measures 6 leaf-or-value-kinds.ps ℕ
+μ-leaf-or-value κs a = a .1 .1 .1 .1 .1 .1 .1 .1 .1 .1 .0 * 4 + 2
 
 abbrev μ-list : Measures 6 list-kinds.ps ℕ
 μ-list κs a = a .1 .1 .1 .1 .1 .1 .1 .1 .1 .1 .1 .0 * 4 + 3
@@ -89,6 +96,12 @@ judged-at t = and 5 judged-kinds.ps (is 5 judged-kinds.ps μ-judged t) judged.Pr
 
 abbrev judged-below : ℕ → In 5 judged-kinds.ps
 judged-below t = and 5 judged-kinds.ps (falls 5 judged-kinds.ps _<_ μ-judged t) judged.Pre
+
+abbrev leaf-or-value-at : ℕ → In 6 leaf-or-value-kinds.ps
+leaf-or-value-at t = and 6 leaf-or-value-kinds.ps (is 6 leaf-or-value-kinds.ps μ-leaf-or-value t) leaf-or-value.Pre
+
+abbrev leaf-or-value-below : ℕ → In 6 leaf-or-value-kinds.ps
+leaf-or-value-below t = and 6 leaf-or-value-kinds.ps (falls 6 leaf-or-value-kinds.ps _<_ μ-leaf-or-value t) leaf-or-value.Pre
 
 abbrev list-at : ℕ → In 6 list-kinds.ps
 list-at t = and 6 list-kinds.ps (is 6 list-kinds.ps μ-list t) list.Pre
@@ -120,6 +133,9 @@ choice-calls t = (put-byte-reads.Asked, put-byte-reads.Learnt, member-row-reads.
 abbrev judged-calls : ℕ → judged-lts.Claims
 judged-calls t = (value-below t, value.Post)
 
+abbrev leaf-or-value-calls : ℕ → leaf-or-value-lts.Claims
+leaf-or-value-calls t = (type-row-reads.Asked, type-row-reads.Learnt, value-below t, value.Post, row-at-reads.Asked, row-at-reads.Learnt, leaf-reads.Asked, leaf-reads.Learnt)
+
 abbrev list-calls : ℕ → list-lts.Claims
 list-calls t = (element-of-reads.Asked, element-of-reads.Learnt, put-byte-reads.Asked, put-byte-reads.Learnt, put-comma-reads.Asked, put-comma-reads.Learnt, value-below t, value.Post, ended-reads.Asked, ended-reads.Learnt)
 
@@ -127,7 +143,7 @@ abbrev plain-calls : ℕ → plain-lts.Claims
 plain-calls t = (row-at-reads.Asked, row-at-reads.Learnt, leaf-reads.Asked, leaf-reads.Learnt, sequence-below t, sequence.Post, list-below t, list.Post, count-of-reads.Asked, count-of-reads.Learnt, choice-below t, choice.Post)
 
 abbrev sequence-calls : ℕ → sequence-lts.Claims
-sequence-calls t = (type-row-reads.Asked, type-row-reads.Learnt, is-array-reads.Asked, is-array-reads.Learnt, wide-reads.Asked, wide-reads.Learnt, put-opening-reads.Asked, put-opening-reads.Learnt, absent-at-reads.Asked, absent-at-reads.Learnt, null-in-reads.Asked, null-in-reads.Learnt, judged-below t, judged.Post, put-lead-reads.Asked, put-lead-reads.Learnt, value-below t, value.Post, kept-after-reads.Asked, kept-after-reads.Learnt, put-closing-reads.Asked, put-closing-reads.Learnt, ended-reads.Asked, ended-reads.Learnt)
+sequence-calls t = (type-row-reads.Asked, type-row-reads.Learnt, is-array-reads.Asked, is-array-reads.Learnt, wide-reads.Asked, wide-reads.Learnt, put-opening-reads.Asked, put-opening-reads.Learnt, absent-at-reads.Asked, absent-at-reads.Learnt, null-in-reads.Asked, null-in-reads.Learnt, judged-below t, judged.Post, put-lead-reads.Asked, put-lead-reads.Learnt, leaf-or-value-below t, leaf-or-value.Post, kept-after-reads.Asked, kept-after-reads.Learnt, put-closing-reads.Asked, put-closing-reads.Learnt, ended-reads.Asked, ended-reads.Learnt)
 
 abbrev value-calls : ℕ → value-lts.Claims
 value-calls t = (start-of-reads.Asked, start-of-reads.Learnt, plain-below t, plain.Post, closed-reads.Asked, closed-reads.Learnt)
@@ -192,6 +208,61 @@ judged-value-requires t c κs = (omega arith, c .before .before .before .before 
 
 judged-returns : (t : ℕ) → judged-lts.Need-returns (judged-calls t) (judged-at t) judged.Post
 judged-returns t c = writes-none (c .before .value .ensures)
+
+leaf-or-value-type-row-requires : (t : ℕ) → leaf-or-value-lts.Need-type-row-requires (leaf-or-value-calls t) (leaf-or-value-at t) leaf-or-value.Post
+leaf-or-value-type-row-requires t c κs = search needs
+
+leaf-or-value-value-requires : (t : ℕ) → leaf-or-value-lts.Need-value-requires (leaf-or-value-calls t) (leaf-or-value-at t) leaf-or-value.Post
+leaf-or-value-value-requires t c κs = (omega arith, c .before .before .before .before .before .before .before .before .pre .1)
+
+leaf-or-value-same-length : (t : ℕ) → leaf-or-value-lts.Need-same-length (leaf-or-value-calls t) (leaf-or-value-at t) leaf-or-value.Post
+leaf-or-value-same-length t c = search needs
+
+leaf-or-value-returns : (t : ℕ) → leaf-or-value-lts.Need-returns (leaf-or-value-calls t) (leaf-or-value-at t) leaf-or-value.Post
+leaf-or-value-returns t c = c .before .before .value .ensures
+
+leaf-or-value-row-at-requires : (t : ℕ) → leaf-or-value-lts.Need-row-at-requires (leaf-or-value-calls t) (leaf-or-value-at t) leaf-or-value.Post
+leaf-or-value-row-at-requires t c κs = search needs
+
+leaf-or-value-enum-known-w : (t : ℕ) → leaf-or-value-lts.Need-enum-known-w (leaf-or-value-calls t) (leaf-or-value-at t) leaf-or-value.Post
+leaf-or-value-enum-known-w t c = search needs
+
+leaf-or-value-enum-told : (t : ℕ) → leaf-or-value-lts.Need-enum-told (leaf-or-value-calls t) (leaf-or-value-at t) leaf-or-value.Post
+leaf-or-value-enum-told t c = search needs
+
+leaf-or-value-returns-2 : (t : ℕ) → leaf-or-value-lts.Need-returns-2 (leaf-or-value-calls t) (leaf-or-value-at t) leaf-or-value.Post
+leaf-or-value-returns-2 t c =
+    let a = c .before .before .before .before .before .before .before .before .before .before .args in
+    gives-wrong (text-none _ _ _ _ (a .slot) _ (rw (c .enum-told .given .1) at (c .before .before .row-at .ensures)))
+
+leaf-or-value-returns-3 : (t : ℕ) → leaf-or-value-lts.Need-returns-3 (leaf-or-value-calls t) (leaf-or-value-at t) leaf-or-value.Post
+leaf-or-value-returns-3 t c =
+    let a = c .before .before .before .before .before .before .before .before .before .before .before .before .before .args in
+    let t = table (a .types .now) (a .names .now) in
+    let w = c .before .before .before .w .given .0 .0 in
+    let found = rw (c .before .before .before .w .given .1) at (c .before .before .before .before .before .row-at .ensures) in
+    let kind = kind-of t (a .row) (c .before .before .before .before .before .before .before .type-row .ensures (a .names .now)) in
+    gives-wrong (plain-other (a .depth) t (a .pool .now) (a .row) (w .kind) (w .a) (w .b) (w .size) (a .slot) (a .offset) (leaf-plain t (a .row) kind (c .before .before .before .before .before .before .if1 .left)) (found .0) (λ e. c .if2 .taken (e ∙ sym kind)))
+
+leaf-or-value-leaf-requires : (t : ℕ) → leaf-or-value-lts.Need-leaf-requires (leaf-or-value-calls t) (leaf-or-value-at t) leaf-or-value.Post
+leaf-or-value-leaf-requires t c κs =
+    let a = c .before .before .before .before .before .before .before .before .before .before .before .before .before .before .args in
+    let t = table (a .types .now) (a .names .now) in
+    let w = c .before .before .before .before .w .given .0 .0 in
+    let found = rw (c .before .before .before .before .w .given .1) at (c .before .before .before .before .before .before .row-at .ensures) in
+    (c .before .if2 .left ∙ kind-of t (a .row) (c .before .before .before .before .before .before .before .before .type-row .ensures (a .names .now)), omega (arith, c .before .if2 .left, c .before .before .before .before .before .before .before .if1 .left), found .2, c .before .before .before .before .before .before .before .before .before .before .before .before .before .before .pre .1 .1)
+
+leaf-or-value-same-length-2 : (t : ℕ) → leaf-or-value-lts.Need-same-length-2 (leaf-or-value-calls t) (leaf-or-value-at t) leaf-or-value.Post
+leaf-or-value-same-length-2 t c = search needs
+
+leaf-or-value-returns-4 : (t : ℕ) → leaf-or-value-lts.Need-returns-4 (leaf-or-value-calls t) (leaf-or-value-at t) leaf-or-value.Post
+leaf-or-value-returns-4 t c =
+    let a = c .before .before .before .before .before .before .before .before .before .before .before .before .before .before .before .before .before .args in
+    let t = table (a .types .now) (a .names .now) in
+    let w = c .before .before .before .before .before .before .before .w .given .0 .0 in
+    let found = rw (c .before .before .before .before .before .before .before .w .given .1) at (c .before .before .before .before .before .before .before .before .before .row-at .ensures) in
+    let kind = kind-of t (a .row) (c .before .before .before .before .before .before .before .before .before .before .before .type-row .ensures (a .names .now)) in
+    writes-as (row-text (a .depth) t (a .pool .now) (a .row) (w .kind) (w .a) (w .b) (w .size) (a .slot) (a .offset) (leaf-plain t (a .row) kind (c .before .before .before .before .before .before .before .before .before .before .if1 .left)) (found .0)) (c .before .before .leaf .ensures _ _)
 
 abbrev list-Inv-loop : list-lts.InvT-loop
 list-Inv-loop literal types names values pool text₀ w row slot offset place depth e i₀ next₀ used₀ p₀ text i next used p = (e ≡ elementOf (table types names) row) × (length text ≡ length text₀) × Items depth (table types names) pool (rowsIn values) (valueRow w) row slot offset p₀ text₀ text i next used p
@@ -512,8 +583,8 @@ sequence-loop-again-2 t c =
 sequence-put-lead-requires : (t : ℕ) → sequence-lts.Need-put-lead-requires (sequence-calls t) (sequence-at t) sequence.Post sequence-Inv-loop sequence-μ-loop
 sequence-put-lead-requires t c κs = c .before .before .before .before .before .before .before .before .before .before .before .before .before .before .before .before .before .before .before .before .before .before .pre .1 .1
 
-sequence-value-requires : (t : ℕ) → sequence-lts.Need-value-requires (sequence-calls t) (sequence-at t) sequence.Post sequence-Inv-loop sequence-μ-loop
-sequence-value-requires t c κs = (omega (arith, c .before .before .before .before .before .before .before .before .before .before .before .before .before .before .before .before .before .before .before .before .before .before .before .before .before .before .pre .0), (c .before .before .before .before .before .before .before .before .before .before .before .before .before .before .before .before .before .before .before .before .before .before .before .before .before .before .pre .1 .0, c .before .before .before .before .before .before .before .before .before .before .before .before .before .before .before .before .before .before .before .before .before .before .before .before .before .before .pre .1 .1))
+sequence-leaf-or-value-requires : (t : ℕ) → sequence-lts.Need-leaf-or-value-requires (sequence-calls t) (sequence-at t) sequence.Post sequence-Inv-loop sequence-μ-loop
+sequence-leaf-or-value-requires t c κs = (omega (arith, c .before .before .before .before .before .before .before .before .before .before .before .before .before .before .before .before .before .before .before .before .before .before .before .before .before .before .pre .0), (c .before .before .before .before .before .before .before .before .before .before .before .before .before .before .before .before .before .before .before .before .before .before .before .before .before .before .pre .1 .0, c .before .before .before .before .before .before .before .before .before .before .before .before .before .before .before .before .before .before .before .before .before .before .before .before .before .before .pre .1 .1))
 
 sequence-enum-known-t-2 : (t : ℕ) → sequence-lts.Need-enum-known-t-2 (sequence-calls t) (sequence-at t) sequence.Post sequence-Inv-loop sequence-μ-loop
 sequence-enum-known-t-2 t c = search needs
@@ -524,7 +595,7 @@ sequence-enum-told-2 t c = search needs
 sequence-same-length-2 : (t : ℕ) → sequence-lts.Need-same-length-2 (sequence-calls t) (sequence-at t) sequence.Post sequence-Inv-loop sequence-μ-loop
 sequence-same-length-2 t c =
     let inv = c .before .before .before .before .before .before .before .before .before .before .before .before .before .before .before .before .before .before .loop .inv in
-    c .before .before .before .before .value .kept .1 .1 .1 .1 .1 .0 ∙ c .before .before .before .before .before .before .before .before .put-lead .kept .1 .1 .0 ∙ inv .3 ∙ c .before .before .before .before .before .before .before .before .before .before .before .before .before .before .before .before .before .before .before .before .before .put-opening .kept .0
+    c .before .before .before .before .leaf-or-value .kept .1 .1 .1 .1 .1 .0 ∙ c .before .before .before .before .before .before .before .before .put-lead .kept .1 .1 .0 ∙ inv .3 ∙ c .before .before .before .before .before .before .before .before .before .before .before .before .before .before .before .before .before .before .before .before .before .put-opening .kept .0
 
 sequence-returns-2 : (t : ℕ) → sequence-lts.Need-returns-2 (sequence-calls t) (sequence-at t) sequence.Post sequence-Inv-loop sequence-μ-loop
 sequence-returns-2 t c =
@@ -536,7 +607,7 @@ sequence-returns-2 t c =
     let type = member-type t (a .row) (c .before .before .before .before .before .before .before .before .before .before .before .before .before .before .before .before .before .before .loop .i) member (c .before .before .before .before .before .before .before .before .before .before .before .before .before .before .wide3 .ensures .0) in
     let absent = sym (c .before .before .before .before .before .before .before .before .before .before .before .before .before .absent-at .ensures .0 (a .names .now)) ∙ c .before .before .before .before .before .before .before .before .before .before .before .before .if1 .left in
     let inside = rw (inv .1) at (c .before .before .before .before .before .before .before .before .before .before .before .before .before .before .before .before .before .loop-test .taken) in
-    writes-is (c .enum-told2 .given .1) (gives-wrong (members-wrong (inv .4) inside absent (value-wrong rows type (c .before .before .before .before .before .before .before .before .before .before .before .before .before .before .before .before .before .before .loop .next) (c .before .before .before .before .value .ensures) (c .enum-told2 .given .1))))
+    writes-is (c .enum-told2 .given .1) (gives-wrong (members-wrong (inv .4) inside absent (value-wrong rows type (c .before .before .before .before .before .before .before .before .before .before .before .before .before .before .before .before .before .before .loop .next) (c .before .before .before .before .leaf-or-value .ensures) (c .enum-told2 .given .1))))
 
 sequence-kept-after-requires : (t : ℕ) → sequence-lts.Need-kept-after-requires (sequence-calls t) (sequence-at t) sequence.Post sequence-Inv-loop sequence-μ-loop
 sequence-kept-after-requires t c κs = omega (arith, c .before .before .before .before .before .before .before .before .before .before .before .before .before .before .before .before .before .before .loop-test .taken, c .before .before .before .before .before .before .before .before .before .before .before .before .before .before .before .before .before .before .before .loop .inv .2, c .before .before .before .before .before .before .before .before .before .before .before .before .before .before .before .before .before .before .before .loop .inv .4 .few)
@@ -561,8 +632,8 @@ sequence-loop-again-3 t c =
     let absent = sym (c .before .before .before .before .before .before .before .before .before .before .before .before .before .before .before .absent-at .ensures .0 (a .names .now)) ∙ c .before .before .before .before .before .before .before .before .before .before .before .before .before .before .if1 .left in
     let inside = rw (inv .1) at (c .before .before .before .before .before .before .before .before .before .before .before .before .before .before .before .before .before .before .before .loop-test .taken) in
     let null = null-is t (drop (c .before .before .before .before .before .before .before .before .before .before .before .before .before .before .before .before .before .before .before .before .loop .next) rows) (c .before .before .before .before .before .before .before .before .before .before .before .before .before .before .before .before .before .before .before .before .before .before .before .before .before .before .is-array .result) type (c .before .before .before .before .before .before .before .before .before .before .before .before .before .null-in .ensures (a .names .now)) (c .before .before .before .before .before .before .before .before .before .before .before .before .if2 .left) in
-    let v = value-got rows type (c .before .before .before .before .before .before .before .before .before .before .before .before .before .before .before .before .before .before .before .before .loop .next) (c .before .before .before .before .before .before .value .ensures) (c .before .before .t2 .given .1) in
-    (inv .0, inv .1, inv .2, c .before .before .before .before .before .before .value .kept .1 .1 .1 .1 .1 .0 ∙ c .before .before .before .before .before .before .before .before .before .before .put-lead .kept .1 .1 .0 ∙ inv .3, rw (c .kept-after .ensures) (members-part (inv .4) inside absent (c .before .before .before .before .before .before .before .before .before .before .before .before .before .before .before .before .before .before .before .before .before .before .before .before .before .before .before .before .before .before .before .before .before .pre .1 .0) v null (c .before .before .before .before .before .before .before .before .before .before .put-lead .ensures (a .types .now) (a .row) member)))
+    let v = value-got rows type (c .before .before .before .before .before .before .before .before .before .before .before .before .before .before .before .before .before .before .before .before .loop .next) (c .before .before .before .before .before .before .leaf-or-value .ensures) (c .before .before .t2 .given .1) in
+    (inv .0, inv .1, inv .2, c .before .before .before .before .before .before .leaf-or-value .kept .1 .1 .1 .1 .1 .0 ∙ c .before .before .before .before .before .before .before .before .before .before .put-lead .kept .1 .1 .0 ∙ inv .3, rw (c .kept-after .ensures) (members-part (inv .4) inside absent (c .before .before .before .before .before .before .before .before .before .before .before .before .before .before .before .before .before .before .before .before .before .before .before .before .before .before .before .before .before .before .before .before .before .pre .1 .0) v null (c .before .before .before .before .before .before .before .before .before .before .put-lead .ensures (a .types .now) (a .row) member)))
 
 sequence-put-closing-requires : (t : ℕ) → sequence-lts.Need-put-closing-requires (sequence-calls t) (sequence-at t) sequence.Post sequence-Inv-loop sequence-μ-loop
 sequence-put-closing-requires t c κs = search needs
@@ -626,9 +697,9 @@ value-returns-3 t c =
     start-ends (a .depth) t (a .pool .now) rows (a .row) (a .slot) (a .offset) (c .before .before .before .before .before .before .before .before .before .before .start-of .ensures (a .names .now)) (c .before .before .before .before .before .before .before .before .before .before .before .before .before .before .before .before .pre .1 .0) (not-false _ (c .before .before .before .before .before .before .before .before .if1 .left))
     (value-got rows refl (c .before .before .before .before .before .before .before .before .before .before .start-of .result .slot) (c .before .before .before .before .before .before .plain .ensures) (c .before .before .next .given .1)) (c .closed .ensures)
 
-pub +choice+judged+list+plain+sequence+value-spec : {M : Type 1} → statement M
-+choice+judged+list+plain+sequence+value-spec =
-    close μ-choice μ-judged μ-list μ-plain μ-sequence μ-value
+pub +choice+judged+leaf-or-value+list+plain+sequence+value-spec : {M : Type 1} → statement M
++choice+judged+leaf-or-value+list+plain+sequence+value-spec =
+    close μ-choice μ-judged μ-leaf-or-value μ-list μ-plain μ-sequence μ-value
     (λ t. choice-lts.spec (choice-calls t) (choice-at t) choice.Post
     (choice-put-byte-requires t)
     (choice-member-row-requires t)
@@ -649,6 +720,19 @@ pub +choice+judged+list+plain+sequence+value-spec : {M : Type 1} → statement M
     (judged-slice-aggregate-value t)
     (judged-value-requires t)
     (judged-returns t))
+    (λ t. leaf-or-value-lts.spec (leaf-or-value-calls t) (leaf-or-value-at t) leaf-or-value.Post
+    (leaf-or-value-type-row-requires t)
+    (leaf-or-value-value-requires t)
+    (leaf-or-value-same-length t)
+    (leaf-or-value-returns t)
+    (leaf-or-value-row-at-requires t)
+    (leaf-or-value-enum-known-w t)
+    (leaf-or-value-enum-told t)
+    (leaf-or-value-returns-2 t)
+    (leaf-or-value-returns-3 t)
+    (leaf-or-value-leaf-requires t)
+    (leaf-or-value-same-length-2 t)
+    (leaf-or-value-returns-4 t))
     (λ t. list-lts.spec (list-calls t) (list-at t) list.Post
     list-Inv-loop
     list-μ-loop
@@ -724,7 +808,7 @@ pub +choice+judged+list+plain+sequence+value-spec : {M : Type 1} → statement M
     (sequence-loop-less-2 t)
     (sequence-loop-again-2 t)
     (sequence-put-lead-requires t)
-    (sequence-value-requires t)
+    (sequence-leaf-or-value-requires t)
     (sequence-enum-known-t-2 t)
     (sequence-enum-told-2 t)
     (sequence-same-length-2 t)
