@@ -17,7 +17,8 @@ use Rattle.jer.specs.Judge.{Took, took, wrong, andThen, Taker, takeRow, takeVal
 use Rattle.jer.specs.Octets.{hex, base64}
 use Rattle.jer.specs.Write.{nullText, escapes, stringText, write}
 use Rattle.jer.specs.Calls.{amount}
-use Rattle.written.specs.Rows.{rowsFrom}
+use Rattle.written.specs.Rows.{rowsFrom, valueRow}
+use Rattle.written.specs.declared.rows.ValueRow.{ValueRow as Cells}
 use Rattle.written.specs.declared.put.Form.{Form}
 use Rattle.written.specs.declared.put.Form.the-variants.{Escaped, Hexadecimal, Base64}
 use Rattle.written.specs.declared.taken.Taken.{Taken}
@@ -59,6 +60,10 @@ Wrapped t = (r i : ℕ) → isUnwrapped t r ≡ true → i < countOf t r → isU
 -- the kind of the type at r, which is not UNWRAPPED
 abbrev pub PlainRow : Table → ℕ → ℕ → Type 0
 PlainRow t kind r = (kind ≡ kindOf t r) × (isUnwrapped t r ≡ false)
+
+-- the row w of a value with parts is the one at q; the type at r is not UNWRAPPED
+abbrev pub BracketRow : Table → List ℕ → Cells → ℕ → ℕ → Type 0
+BracketRow t ns w r q = (rowsFrom ns q ≡ valueRow w ∷ rowsFrom ns (suc q)) × (q < length ns) × (w .kind ≡ kindOf t r) × (6 ≤ w .kind) × (isUnwrapped t r ≡ false)
 
 -- ---- strings
 

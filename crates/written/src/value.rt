@@ -33,7 +33,7 @@ ghost use Rattle.jer.specs.Table.{isUnwrapped, table};
 ghost use Rattle.jer.specs.Judge.{takeSequence, takeList, takeChoice};
 ghost use Rattle.written.specs.Literal.{IsLiteral};
 ghost use Rattle.written.specs.Rows.{valueRow};
-ghost use Rattle.written.specs.Text.{PlainRow, WritesValue, Measures, WritesParts, Wrapped};
+ghost use Rattle.written.specs.Text.{PlainRow, BracketRow, WritesValue, Measures, WritesParts, Wrapped};
 
 // The value of the type at `row` whose rows begin at `slot`, with the pool used up to `offset`; its text from `place` on.
 pub fn value(
@@ -116,6 +116,41 @@ fn plain(
             place,
         );
     }
+    bracket(
+        literal,
+        types,
+        names,
+        values,
+        pool,
+        text,
+        w,
+        row,
+        slot,
+        offset,
+        place,
+        depth,
+    )
+}
+
+// The same, of a value with parts, whose row is w.
+fn bracket(
+    literal: &[u8; 256],
+    types: &[u32],
+    names: &[u8],
+    values: &[u32],
+    pool: &[u8],
+    text: &mut [u8],
+    w: ValueRow,
+    row: usize,
+    slot: usize,
+    offset: usize,
+    place: usize,
+    depth: u32,
+) -> Taken
+    requires { ⌜ Wrapped (table (now types) (now names)) × IsLiteral (now literal) × BracketRow (table (now types) (now names)) (now values) w row slot ⌝ }
+    ensures { λ a. ⌜ WritesValue depth types names values pool row slot offset place text a ⌝ }
+{
+    let kind = w.kind;
     if depth == 0 {
         return Taken::Wrong(slot);
     }

@@ -1,4 +1,4 @@
--- Made by tools/answers.py from answers/value/+choice+judged+leaf_or_value+list+plain+sequence+value.ans: edit that. a88d8d3f8cb501d3
+-- Made by tools/answers.py from answers/value/+bracket+choice+judged+leaf_or_value+list+plain+sequence+value.ans: edit that. 29dfe183d00e5d5c
 use Prim.Native.Nat.{ℕ, _<_, _+_, _-_, _*_}
 use mathlib.Core.Path.{_≡_, refl, sym, ap, _∙_}
 use native.Mathlib.Omega.{arith}
@@ -18,27 +18,30 @@ use Rattle.written.proofs.ValueLaws.{text-none, row-text, plain-other, 
 use borrow.Author.Needs.{needs}
 use borrow.Fn.Kinds.{In}
 use borrow.Fn.PlainCycle.{Measures, is, falls, and}
+use Rattle.written.proofs.value.bracket.Reads as bracket
+use Rattle.written.proofs.value.bracket.Kinds as bracket-kinds
+use Rattle.written.proofs.value.+bracket+choice+judged+leaf_or_value+list+plain+sequence+value.Lts-bracket as bracket-lts
 use Rattle.written.proofs.value.choice.Reads as choice
 use Rattle.written.proofs.value.choice.Kinds as choice-kinds
-use Rattle.written.proofs.value.+choice+judged+leaf_or_value+list+plain+sequence+value.Lts-choice as choice-lts
+use Rattle.written.proofs.value.+bracket+choice+judged+leaf_or_value+list+plain+sequence+value.Lts-choice as choice-lts
 use Rattle.written.proofs.value.judged.Reads as judged
 use Rattle.written.proofs.value.judged.Kinds as judged-kinds
-use Rattle.written.proofs.value.+choice+judged+leaf_or_value+list+plain+sequence+value.Lts-judged as judged-lts
+use Rattle.written.proofs.value.+bracket+choice+judged+leaf_or_value+list+plain+sequence+value.Lts-judged as judged-lts
 use Rattle.written.proofs.value.leaf_or_value.Reads as leaf-or-value
 use Rattle.written.proofs.value.leaf_or_value.Kinds as leaf-or-value-kinds
-use Rattle.written.proofs.value.+choice+judged+leaf_or_value+list+plain+sequence+value.Lts-leaf_or_value as leaf-or-value-lts
+use Rattle.written.proofs.value.+bracket+choice+judged+leaf_or_value+list+plain+sequence+value.Lts-leaf_or_value as leaf-or-value-lts
 use Rattle.written.proofs.value.list.Reads as list
 use Rattle.written.proofs.value.list.Kinds as list-kinds
-use Rattle.written.proofs.value.+choice+judged+leaf_or_value+list+plain+sequence+value.Lts-list as list-lts
+use Rattle.written.proofs.value.+bracket+choice+judged+leaf_or_value+list+plain+sequence+value.Lts-list as list-lts
 use Rattle.written.proofs.value.plain.Reads as plain
 use Rattle.written.proofs.value.plain.Kinds as plain-kinds
-use Rattle.written.proofs.value.+choice+judged+leaf_or_value+list+plain+sequence+value.Lts-plain as plain-lts
+use Rattle.written.proofs.value.+bracket+choice+judged+leaf_or_value+list+plain+sequence+value.Lts-plain as plain-lts
 use Rattle.written.proofs.value.sequence.Reads as sequence
 use Rattle.written.proofs.value.sequence.Kinds as sequence-kinds
-use Rattle.written.proofs.value.+choice+judged+leaf_or_value+list+plain+sequence+value.Lts-sequence as sequence-lts
+use Rattle.written.proofs.value.+bracket+choice+judged+leaf_or_value+list+plain+sequence+value.Lts-sequence as sequence-lts
 use Rattle.written.proofs.value.value.Reads as value
 use Rattle.written.proofs.value.value.Kinds as value-kinds
-use Rattle.written.proofs.value.+choice+judged+leaf_or_value+list+plain+sequence+value.Lts-value as value-lts
+use Rattle.written.proofs.value.+bracket+choice+judged+leaf_or_value+list+plain+sequence+value.Lts-value as value-lts
 use Rattle.types.proofs.row.Row.is_array.Reads as is-array-reads
 use Rattle.types.proofs.row.count_of.Reads as count-of-reads
 use Rattle.types.proofs.row.element_of.Reads as element-of-reads
@@ -61,29 +64,38 @@ use Rattle.written.proofs.rows.type_row.Reads as type-row-reads
 use Rattle.written.proofs.start.closed.Reads as closed-reads
 use Rattle.written.proofs.start.start_of.Reads as start-of-reads
 use Rattle.written.proofs.taken.ended.Reads as ended-reads
-use Rattle.written.proofs.value.+choice+judged+leaf_or_value+list+plain+sequence+value.{statement}
-use Rattle.written.proofs.value.+choice+judged+leaf_or_value+list+plain+sequence+value.Tie.{close}
+use Rattle.written.proofs.value.+bracket+choice+judged+leaf_or_value+list+plain+sequence+value.{statement}
+use Rattle.written.proofs.value.+bracket+choice+judged+leaf_or_value+list+plain+sequence+value.Tie.{close}
+
+abbrev μ-bracket : Measures 6 bracket-kinds.ps ℕ
+μ-bracket κs a = a .1 .1 .1 .1 .1 .1 .1 .1 .1 .1 .1 .0 * 5 + 0
 
 abbrev μ-choice : Measures 6 choice-kinds.ps ℕ
-μ-choice κs a = a .1 .1 .1 .1 .1 .1 .1 .1 .1 .1 .1 .0 * 4 + 3
+μ-choice κs a = a .1 .1 .1 .1 .1 .1 .1 .1 .1 .1 .1 .0 * 5 + 4
 
 abbrev μ-judged : Measures 5 judged-kinds.ps ℕ
-μ-judged κs a = a .1 .1 .1 .1 .1 .1 .1 .1 .0 * 4 + 2
+μ-judged κs a = a .1 .1 .1 .1 .1 .1 .1 .1 .0 * 5 + 3
 
 abbrev μ-leaf-or-value : Measures 6 leaf-or-value-kinds.ps ℕ
-μ-leaf-or-value κs a = a .1 .1 .1 .1 .1 .1 .1 .1 .1 .1 .0 * 4 + 2
+μ-leaf-or-value κs a = a .1 .1 .1 .1 .1 .1 .1 .1 .1 .1 .0 * 5 + 3
 
 abbrev μ-list : Measures 6 list-kinds.ps ℕ
-μ-list κs a = a .1 .1 .1 .1 .1 .1 .1 .1 .1 .1 .1 .0 * 4 + 3
+μ-list κs a = a .1 .1 .1 .1 .1 .1 .1 .1 .1 .1 .1 .0 * 5 + 4
 
 abbrev μ-plain : Measures 6 plain-kinds.ps ℕ
-μ-plain κs a = a .1 .1 .1 .1 .1 .1 .1 .1 .1 .1 .1 .0 * 4
+μ-plain κs a = a .1 .1 .1 .1 .1 .1 .1 .1 .1 .1 .1 .0 * 5 + 1
 
 abbrev μ-sequence : Measures 6 sequence-kinds.ps ℕ
-μ-sequence κs a = a .1 .1 .1 .1 .1 .1 .1 .1 .1 .1 .1 .0 * 4 + 3
+μ-sequence κs a = a .1 .1 .1 .1 .1 .1 .1 .1 .1 .1 .1 .0 * 5 + 4
 
 abbrev μ-value : Measures 6 value-kinds.ps ℕ
-μ-value κs a = a .1 .1 .1 .1 .1 .1 .1 .1 .1 .1 .0 * 4 + 1
+μ-value κs a = a .1 .1 .1 .1 .1 .1 .1 .1 .1 .1 .0 * 5 + 2
+
+abbrev bracket-at : ℕ → In 6 bracket-kinds.ps
+bracket-at t = and 6 bracket-kinds.ps (is 6 bracket-kinds.ps μ-bracket t) bracket.Pre
+
+abbrev bracket-below : ℕ → In 6 bracket-kinds.ps
+bracket-below t = and 6 bracket-kinds.ps (falls 6 bracket-kinds.ps _<_ μ-bracket t) bracket.Pre
 
 abbrev choice-at : ℕ → In 6 choice-kinds.ps
 choice-at t = and 6 choice-kinds.ps (is 6 choice-kinds.ps μ-choice t) choice.Pre
@@ -127,6 +139,9 @@ value-at t = and 6 value-kinds.ps (is 6 value-kinds.ps μ-value t) value.Pre
 abbrev value-below : ℕ → In 6 value-kinds.ps
 value-below t = and 6 value-kinds.ps (falls 6 value-kinds.ps _<_ μ-value t) value.Pre
 
+abbrev bracket-calls : ℕ → bracket-lts.Claims
+bracket-calls t = (sequence-below t, sequence.Post, list-below t, list.Post, count-of-reads.Asked, count-of-reads.Learnt, choice-below t, choice.Post)
+
 abbrev choice-calls : ℕ → choice-lts.Claims
 choice-calls t = (put-byte-reads.Asked, put-byte-reads.Learnt, member-row-reads.Asked, member-row-reads.Learnt, name-in-reads.Asked, name-in-reads.Learnt, put-name-reads.Asked, put-name-reads.Learnt, type-at-reads.Asked, type-at-reads.Learnt, value-below t, value.Post, ended-reads.Asked, ended-reads.Learnt)
 
@@ -140,13 +155,111 @@ abbrev list-calls : ℕ → list-lts.Claims
 list-calls t = (element-of-reads.Asked, element-of-reads.Learnt, put-byte-reads.Asked, put-byte-reads.Learnt, put-comma-reads.Asked, put-comma-reads.Learnt, value-below t, value.Post, ended-reads.Asked, ended-reads.Learnt)
 
 abbrev plain-calls : ℕ → plain-lts.Claims
-plain-calls t = (row-at-reads.Asked, row-at-reads.Learnt, leaf-reads.Asked, leaf-reads.Learnt, sequence-below t, sequence.Post, list-below t, list.Post, count-of-reads.Asked, count-of-reads.Learnt, choice-below t, choice.Post)
+plain-calls t = (row-at-reads.Asked, row-at-reads.Learnt, leaf-reads.Asked, leaf-reads.Learnt, bracket-below t, bracket.Post)
 
 abbrev sequence-calls : ℕ → sequence-lts.Claims
 sequence-calls t = (type-row-reads.Asked, type-row-reads.Learnt, is-array-reads.Asked, is-array-reads.Learnt, wide-reads.Asked, wide-reads.Learnt, put-opening-reads.Asked, put-opening-reads.Learnt, absent-at-reads.Asked, absent-at-reads.Learnt, null-in-reads.Asked, null-in-reads.Learnt, judged-below t, judged.Post, put-lead-reads.Asked, put-lead-reads.Learnt, leaf-or-value-below t, leaf-or-value.Post, kept-after-reads.Asked, kept-after-reads.Learnt, put-closing-reads.Asked, put-closing-reads.Learnt, ended-reads.Asked, ended-reads.Learnt)
 
 abbrev value-calls : ℕ → value-lts.Claims
 value-calls t = (start-of-reads.Asked, start-of-reads.Learnt, plain-below t, plain.Post, closed-reads.Asked, closed-reads.Learnt)
+
+bracket-returns : (t : ℕ) → bracket-lts.Need-returns (bracket-calls t) (bracket-at t) bracket.Post
+bracket-returns t c =
+    let a = c .before .before .before .before .before .before .args in
+    let t = table (a .types .now) (a .names .now) in
+    let w = a .w in
+    let found = c .before .before .before .before .before .before .pre .1 .2 in
+    gives-wrong (plain-deep (a .depth) t (a .pool .now) (a .row) (w .kind) (w .a) (w .b) (w .size) (a .slot) (a .offset) (found .4) (found .0) (found .3) (c .if1 .taken))
+
+bracket-returns-2 : (t : ℕ) → bracket-lts.Need-returns-2 (bracket-calls t) (bracket-at t) bracket.Post
+bracket-returns-2 t c =
+    let a = c .before .before .before .before .before .before .before .before .args in
+    let t = table (a .types .now) (a .names .now) in
+    let w = a .w in
+    let found = c .before .before .before .before .before .before .before .before .pre .1 .2 in
+    gives-wrong (plain-b (a .depth) t (a .pool .now) (a .row) (w .kind) (w .a) (w .b) (w .size) (a .slot) (a .offset) (found .4) (found .0) (found .3) (c .if2 .taken))
+
+bracket-sub-sequence : (t : ℕ) → bracket-lts.Need-sub-sequence (bracket-calls t) (bracket-at t) bracket.Post
+bracket-sub-sequence t c = search needs
+
+bracket-sequence-requires : (t : ℕ) → bracket-lts.Need-sequence-requires (bracket-calls t) (bracket-at t) bracket.Post
+bracket-sequence-requires t c κs =
+    let a = c .before .before .before .before .before .before .before .before .before .before .args in
+    let w = a .w in
+    let found = c .before .before .before .before .before .before .before .before .before .before .pre .1 .2 in
+    (omega arith, (c .before .before .before .before .before .before .before .before .before .before .pre .1 .0, c .before .before .before .before .before .before .before .before .before .before .pre .1 .1, found .1))
+
+bracket-same-length : (t : ℕ) → bracket-lts.Need-same-length (bracket-calls t) (bracket-at t) bracket.Post
+bracket-same-length t c = search needs
+
+bracket-returns-3 : (t : ℕ) → bracket-lts.Need-returns-3 (bracket-calls t) (bracket-at t) bracket.Post
+bracket-returns-3 t c =
+    let a = c .before .before .before .before .before .before .before .before .before .before .before .before .before .args in
+    let t = table (a .types .now) (a .names .now) in
+    let w = a .w in
+    let found = c .before .before .before .before .before .before .before .before .before .before .before .before .before .pre .1 .2 in
+    writes-as (plain-seq (a .depth) t (a .pool .now) (a .row) (w .kind) (w .a) (w .b) (w .size) (a .slot) (a .offset) (found .4) (found .0) (c .before .before .before .before .before .before .before .if1 .left) (found .2) (c .before .before .before .before .before .if2 .left) (c .before .before .before .before .if3 .taken)) (c .before .before .sequence .ensures)
+
+bracket-sub-list : (t : ℕ) → bracket-lts.Need-sub-list (bracket-calls t) (bracket-at t) bracket.Post
+bracket-sub-list t c = search needs
+
+bracket-list-requires : (t : ℕ) → bracket-lts.Need-list-requires (bracket-calls t) (bracket-at t) bracket.Post
+bracket-list-requires t c κs =
+    let a = c .before .before .before .before .before .before .before .before .before .before .before .args in
+    let w = a .w in
+    let found = c .before .before .before .before .before .before .before .before .before .before .before .pre .1 .2 in
+    (omega arith, (c .before .before .before .before .before .before .before .before .before .before .before .pre .1 .0, c .before .before .before .before .before .before .before .before .before .before .before .pre .1 .1, found .1))
+
+bracket-same-length-2 : (t : ℕ) → bracket-lts.Need-same-length-2 (bracket-calls t) (bracket-at t) bracket.Post
+bracket-same-length-2 t c = search needs
+
+bracket-returns-4 : (t : ℕ) → bracket-lts.Need-returns-4 (bracket-calls t) (bracket-at t) bracket.Post
+bracket-returns-4 t c =
+    let a = c .before .before .before .before .before .before .before .before .before .before .before .before .before .before .args in
+    let t = table (a .types .now) (a .names .now) in
+    let w = a .w in
+    let found = c .before .before .before .before .before .before .before .before .before .before .before .before .before .before .pre .1 .2 in
+    writes-as (plain-list (a .depth) t (a .pool .now) (a .row) (w .kind) (w .a) (w .b) (w .size) (a .slot) (a .offset) (found .4) (found .0) (c .before .before .before .before .before .before .before .before .if1 .left) (found .2) (c .before .before .before .before .before .before .if2 .left) (c .before .before .before .before .if4 .taken)) (c .before .before .list .ensures)
+
+bracket-returns-5 : (t : ℕ) → bracket-lts.Need-returns-5 (bracket-calls t) (bracket-at t) bracket.Post
+bracket-returns-5 t c =
+    let a = c .before .before .before .before .before .before .before .before .before .before .before .args in
+    let t = table (a .types .now) (a .names .now) in
+    let w = a .w in
+    let found = c .before .before .before .before .before .before .before .before .before .before .before .pre .1 .2 in
+    gives-wrong (plain-kind (a .depth) t (a .pool .now) (a .row) (w .kind) (w .a) (w .b) (w .size) (a .slot) (a .offset) (found .4) (found .0) (found .3) (c .before .before .if3 .left) (c .before .if4 .left) (c .if5 .taken))
+
+bracket-count-of-requires : (t : ℕ) → bracket-lts.Need-count-of-requires (bracket-calls t) (bracket-at t) bracket.Post
+bracket-count-of-requires t c κs = search needs
+
+bracket-returns-6 : (t : ℕ) → bracket-lts.Need-returns-6 (bracket-calls t) (bracket-at t) bracket.Post
+bracket-returns-6 t c =
+    let a = c .before .before .before .before .before .before .before .before .before .before .before .before .before .before .args in
+    let t = table (a .types .now) (a .names .now) in
+    let w = a .w in
+    let found = c .before .before .before .before .before .before .before .before .before .before .before .before .before .before .pre .1 .2 in
+    gives-wrong (plain-position (a .depth) t (a .pool .now) (a .row) (w .kind) (w .a) (w .b) (w .size) (a .slot) (a .offset) (found .4) (found .0) (found .3) (c .before .before .before .before .before .if3 .left) (c .before .before .before .before .if4 .left) (omega (arith, c .before .before .count-of .ensures (a .names .now), c .if6 .taken)))
+
+bracket-sub-choice : (t : ℕ) → bracket-lts.Need-sub-choice (bracket-calls t) (bracket-at t) bracket.Post
+bracket-sub-choice t c = search needs
+
+bracket-choice-requires : (t : ℕ) → bracket-lts.Need-choice-requires (bracket-calls t) (bracket-at t) bracket.Post
+bracket-choice-requires t c κs =
+    let a = c .before .before .before .before .before .before .before .before .before .before .before .before .before .before .before .args in
+    let w = a .w in
+    let found = c .before .before .before .before .before .before .before .before .before .before .before .before .before .before .before .pre .1 .2 in
+    (omega arith, (c .before .before .before .before .before .before .before .before .before .before .before .before .before .before .before .pre .1 .0, c .before .before .before .before .before .before .before .before .before .before .before .before .before .before .before .pre .1 .1, found .1, found .4))
+
+bracket-same-length-3 : (t : ℕ) → bracket-lts.Need-same-length-3 (bracket-calls t) (bracket-at t) bracket.Post
+bracket-same-length-3 t c = search needs
+
+bracket-returns-7 : (t : ℕ) → bracket-lts.Need-returns-7 (bracket-calls t) (bracket-at t) bracket.Post
+bracket-returns-7 t c =
+    let a = c .before .before .before .before .before .before .before .before .before .before .before .before .before .before .before .before .before .before .args in
+    let t = table (a .types .now) (a .names .now) in
+    let w = a .w in
+    let found = c .before .before .before .before .before .before .before .before .before .before .before .before .before .before .before .before .before .before .pre .1 .2 in
+    writes-as (plain-choice (a .depth) t (a .pool .now) (a .row) (w .kind) (w .a) (w .b) (w .size) (a .slot) (a .offset) (found .4) (found .0) (c .before .before .before .before .before .before .before .before .before .before .before .before .if1 .left) (found .2) (c .before .before .before .before .before .before .before .before .before .before .if2 .left) (c .before .before .before .before .before .before .before .if5 .left) (omega (arith, c .before .before .before .before .before .before .count-of .ensures (a .names .now), c .before .before .before .before .if6 .left))) (c .before .before .choice .ensures)
 
 choice-put-byte-requires : (t : ℕ) → choice-lts.Need-put-byte-requires (choice-calls t) (choice-at t) choice.Post
 choice-put-byte-requires t c κs = search needs
@@ -373,103 +486,17 @@ plain-returns-3 t c =
     let found = rw (c .before .before .before .before .before .before .before .w .given .1) at (c .before .before .before .before .before .before .before .before .before .row-at .ensures) in
     writes-as (row-text (a .depth) t (a .pool .now) (a .row) (w .kind) (w .a) (w .b) (w .size) (a .slot) (a .offset) (c .before .before .before .before .before .before .before .before .before .before .before .before .before .before .before .pre .1 .2 .1) (found .0)) (c .before .before .leaf .ensures _ _)
 
-plain-returns-4 : (t : ℕ) → plain-lts.Need-returns-4 (plain-calls t) (plain-at t) plain.Post
-plain-returns-4 t c =
-    let a = c .before .before .before .before .before .before .before .before .before .before .before .before .args in
-    let t = table (a .types .now) (a .names .now) in
+plain-bracket-requires : (t : ℕ) → plain-lts.Need-bracket-requires (plain-calls t) (plain-at t) plain.Post
+plain-bracket-requires t c κs =
     let w = c .before .before .before .before .w .given .0 .0 in
     let found = rw (c .before .before .before .before .w .given .1) at (c .before .before .before .before .before .before .row-at .ensures) in
-    gives-wrong (plain-deep (a .depth) t (a .pool .now) (a .row) (w .kind) (w .a) (w .b) (w .size) (a .slot) (a .offset) (c .before .before .before .before .before .before .before .before .before .before .before .before .pre .1 .2 .1) (found .0) (c .before .if2 .left) (c .if3 .taken))
-
-plain-returns-5 : (t : ℕ) → plain-lts.Need-returns-5 (plain-calls t) (plain-at t) plain.Post
-plain-returns-5 t c =
-    let a = c .before .before .before .before .before .before .before .before .before .before .before .before .before .before .args in
-    let t = table (a .types .now) (a .names .now) in
-    let w = c .before .before .before .before .before .before .w .given .0 .0 in
-    let found = rw (c .before .before .before .before .before .before .w .given .1) at (c .before .before .before .before .before .before .before .before .row-at .ensures) in
-    gives-wrong (plain-b (a .depth) t (a .pool .now) (a .row) (w .kind) (w .a) (w .b) (w .size) (a .slot) (a .offset) (c .before .before .before .before .before .before .before .before .before .before .before .before .before .before .pre .1 .2 .1) (found .0) (c .before .before .before .if2 .left) (c .if4 .taken))
-
-plain-sub-sequence : (t : ℕ) → plain-lts.Need-sub-sequence (plain-calls t) (plain-at t) plain.Post
-plain-sub-sequence t c = search needs
-
-plain-sequence-requires : (t : ℕ) → plain-lts.Need-sequence-requires (plain-calls t) (plain-at t) plain.Post
-plain-sequence-requires t c κs =
-    let w = c .before .before .before .before .before .before .before .before .w .given .0 .0 in
-    let found = rw (c .before .before .before .before .before .before .before .before .w .given .1) at (c .before .before .before .before .before .before .before .before .before .before .row-at .ensures) in
-    (omega arith, (c .before .before .before .before .before .before .before .before .before .before .before .before .before .before .before .before .pre .1 .0, c .before .before .before .before .before .before .before .before .before .before .before .before .before .before .before .before .pre .1 .1, found .1))
+    (omega arith, (c .before .before .before .before .before .before .before .before .before .before .before .before .pre .1 .0, c .before .before .before .before .before .before .before .before .before .before .before .before .pre .1 .1, (found .0, found .1, c .before .before .if1 .left ∙ c .before .before .before .before .before .before .before .before .before .before .before .before .pre .1 .2 .0, c .before .if2 .left, c .before .before .before .before .before .before .before .before .before .before .before .before .pre .1 .2 .1)))
 
 plain-same-length-2 : (t : ℕ) → plain-lts.Need-same-length-2 (plain-calls t) (plain-at t) plain.Post
 plain-same-length-2 t c = search needs
 
-plain-returns-6 : (t : ℕ) → plain-lts.Need-returns-6 (plain-calls t) (plain-at t) plain.Post
-plain-returns-6 t c =
-    let a = c .before .before .before .before .before .before .before .before .before .before .before .before .before .before .before .before .before .before .before .args in
-    let t = table (a .types .now) (a .names .now) in
-    let w = c .before .before .before .before .before .before .before .before .before .before .before .w .given .0 .0 in
-    let found = rw (c .before .before .before .before .before .before .before .before .before .before .before .w .given .1) at (c .before .before .before .before .before .before .before .before .before .before .before .before .before .row-at .ensures) in
-    let kind = c .before .before .before .before .before .before .before .before .before .before .before .before .before .before .before .before .before .before .before .pre .1 .2 .0 in
-    writes-as (plain-seq (a .depth) t (a .pool .now) (a .row) (w .kind) (w .a) (w .b) (w .size) (a .slot) (a .offset) (c .before .before .before .before .before .before .before .before .before .before .before .before .before .before .before .before .before .before .before .pre .1 .2 .1) (found .0) (c .before .before .before .before .before .before .before .if3 .left) (c .before .before .before .before .before .before .before .before .before .if1 .left ∙ kind) (c .before .before .before .before .before .if4 .left) (c .before .before .before .before .if5 .taken)) (c .before .before .sequence .ensures)
-
-plain-sub-list : (t : ℕ) → plain-lts.Need-sub-list (plain-calls t) (plain-at t) plain.Post
-plain-sub-list t c = search needs
-
-plain-list-requires : (t : ℕ) → plain-lts.Need-list-requires (plain-calls t) (plain-at t) plain.Post
-plain-list-requires t c κs =
-    let w = c .before .before .before .before .before .before .before .before .before .w .given .0 .0 in
-    let found = rw (c .before .before .before .before .before .before .before .before .before .w .given .1) at (c .before .before .before .before .before .before .before .before .before .before .before .row-at .ensures) in
-    (omega arith, (c .before .before .before .before .before .before .before .before .before .before .before .before .before .before .before .before .before .pre .1 .0, c .before .before .before .before .before .before .before .before .before .before .before .before .before .before .before .before .before .pre .1 .1, found .1))
-
-plain-same-length-3 : (t : ℕ) → plain-lts.Need-same-length-3 (plain-calls t) (plain-at t) plain.Post
-plain-same-length-3 t c = search needs
-
-plain-returns-7 : (t : ℕ) → plain-lts.Need-returns-7 (plain-calls t) (plain-at t) plain.Post
-plain-returns-7 t c =
-    let a = c .before .before .before .before .before .before .before .before .before .before .before .before .before .before .before .before .before .before .before .before .args in
-    let t = table (a .types .now) (a .names .now) in
-    let w = c .before .before .before .before .before .before .before .before .before .before .before .before .w .given .0 .0 in
-    let found = rw (c .before .before .before .before .before .before .before .before .before .before .before .before .w .given .1) at (c .before .before .before .before .before .before .before .before .before .before .before .before .before .before .row-at .ensures) in
-    let kind = c .before .before .before .before .before .before .before .before .before .before .before .before .before .before .before .before .before .before .before .before .pre .1 .2 .0 in
-    writes-as (plain-list (a .depth) t (a .pool .now) (a .row) (w .kind) (w .a) (w .b) (w .size) (a .slot) (a .offset) (c .before .before .before .before .before .before .before .before .before .before .before .before .before .before .before .before .before .before .before .before .pre .1 .2 .1) (found .0) (c .before .before .before .before .before .before .before .before .if3 .left) (c .before .before .before .before .before .before .before .before .before .before .if1 .left ∙ kind) (c .before .before .before .before .before .before .if4 .left) (c .before .before .before .before .if6 .taken)) (c .before .before .list .ensures)
-
-plain-returns-8 : (t : ℕ) → plain-lts.Need-returns-8 (plain-calls t) (plain-at t) plain.Post
-plain-returns-8 t c =
-    let a = c .before .before .before .before .before .before .before .before .before .before .before .before .before .before .before .before .before .args in
-    let t = table (a .types .now) (a .names .now) in
-    let w = c .before .before .before .before .before .before .before .before .before .w .given .0 .0 in
-    let found = rw (c .before .before .before .before .before .before .before .before .before .w .given .1) at (c .before .before .before .before .before .before .before .before .before .before .before .row-at .ensures) in
-    gives-wrong (plain-kind (a .depth) t (a .pool .now) (a .row) (w .kind) (w .a) (w .b) (w .size) (a .slot) (a .offset) (c .before .before .before .before .before .before .before .before .before .before .before .before .before .before .before .before .before .pre .1 .2 .1) (found .0) (c .before .before .before .before .before .before .if2 .left) (c .before .before .if5 .left) (c .before .if6 .left) (c .if7 .taken))
-
-plain-count-of-requires : (t : ℕ) → plain-lts.Need-count-of-requires (plain-calls t) (plain-at t) plain.Post
-plain-count-of-requires t c κs = search needs
-
-plain-returns-9 : (t : ℕ) → plain-lts.Need-returns-9 (plain-calls t) (plain-at t) plain.Post
-plain-returns-9 t c =
-    let a = c .before .before .before .before .before .before .before .before .before .before .before .before .before .before .before .before .before .before .before .before .args in
-    let t = table (a .types .now) (a .names .now) in
-    let w = c .before .before .before .before .before .before .before .before .before .before .before .before .w .given .0 .0 in
-    let found = rw (c .before .before .before .before .before .before .before .before .before .before .before .before .w .given .1) at (c .before .before .before .before .before .before .before .before .before .before .before .before .before .before .row-at .ensures) in
-    gives-wrong (plain-position (a .depth) t (a .pool .now) (a .row) (w .kind) (w .a) (w .b) (w .size) (a .slot) (a .offset) (c .before .before .before .before .before .before .before .before .before .before .before .before .before .before .before .before .before .before .before .before .pre .1 .2 .1) (found .0) (c .before .before .before .before .before .before .before .before .before .if2 .left) (c .before .before .before .before .before .if5 .left) (c .before .before .before .before .if6 .left) (omega (arith, c .before .before .count-of .ensures (a .names .now), c .if8 .taken)))
-
-plain-sub-choice : (t : ℕ) → plain-lts.Need-sub-choice (plain-calls t) (plain-at t) plain.Post
-plain-sub-choice t c = search needs
-
-plain-choice-requires : (t : ℕ) → plain-lts.Need-choice-requires (plain-calls t) (plain-at t) plain.Post
-plain-choice-requires t c κs =
-    let w = c .before .before .before .before .before .before .before .before .before .before .before .before .before .w .given .0 .0 in
-    let found = rw (c .before .before .before .before .before .before .before .before .before .before .before .before .before .w .given .1) at (c .before .before .before .before .before .before .before .before .before .before .before .before .before .before .before .row-at .ensures) in
-    (omega arith, (c .before .before .before .before .before .before .before .before .before .before .before .before .before .before .before .before .before .before .before .before .before .pre .1 .0, c .before .before .before .before .before .before .before .before .before .before .before .before .before .before .before .before .before .before .before .before .before .pre .1 .1, found .1, c .before .before .before .before .before .before .before .before .before .before .before .before .before .before .before .before .before .before .before .before .before .pre .1 .2 .1))
-
-plain-same-length-4 : (t : ℕ) → plain-lts.Need-same-length-4 (plain-calls t) (plain-at t) plain.Post
-plain-same-length-4 t c = search needs
-
-plain-returns-10 : (t : ℕ) → plain-lts.Need-returns-10 (plain-calls t) (plain-at t) plain.Post
-plain-returns-10 t c =
-    let a = c .before .before .before .before .before .before .before .before .before .before .before .before .before .before .before .before .before .before .before .before .before .before .before .before .args in
-    let t = table (a .types .now) (a .names .now) in
-    let w = c .before .before .before .before .before .before .before .before .before .before .before .before .before .before .before .before .w .given .0 .0 in
-    let found = rw (c .before .before .before .before .before .before .before .before .before .before .before .before .before .before .before .before .w .given .1) at (c .before .before .before .before .before .before .before .before .before .before .before .before .before .before .before .before .before .before .row-at .ensures) in
-    let kind = c .before .before .before .before .before .before .before .before .before .before .before .before .before .before .before .before .before .before .before .before .before .before .before .before .pre .1 .2 .0 in
-    writes-as (plain-choice (a .depth) t (a .pool .now) (a .row) (w .kind) (w .a) (w .b) (w .size) (a .slot) (a .offset) (c .before .before .before .before .before .before .before .before .before .before .before .before .before .before .before .before .before .before .before .before .before .before .before .before .pre .1 .2 .1) (found .0) (c .before .before .before .before .before .before .before .before .before .before .before .before .if3 .left) (c .before .before .before .before .before .before .before .before .before .before .before .before .before .before .if1 .left ∙ kind) (c .before .before .before .before .before .before .before .before .before .before .if4 .left) (c .before .before .before .before .before .before .before .if7 .left) (omega (arith, c .before .before .before .before .before .before .count-of .ensures (a .names .now), c .before .before .before .before .if8 .left))) (c .before .before .choice .ensures)
+plain-returns-4 : (t : ℕ) → plain-lts.Need-returns-4 (plain-calls t) (plain-at t) plain.Post
+plain-returns-4 t c = c .before .before .bracket .ensures
 
 abbrev sequence-Inv-loop : sequence-lts.InvT-loop
 sequence-Inv-loop literal types names values pool text₀ w row slot offset place depth array count first i₀ present₀ kept₀ next₀ used₀ p₀ text i present kept next used p = (first ≡ firstOf (table types names) row) × (count ≡ countOf (table types names) row) × (count < 4294967296) × (length text ≡ length text₀) × Members depth (table types names) pool (rowsIn values) (valueRow w) row slot offset p₀ array text₀ text i present kept next used p
@@ -697,9 +724,27 @@ value-returns-3 t c =
     start-ends (a .depth) t (a .pool .now) rows (a .row) (a .slot) (a .offset) (c .before .before .before .before .before .before .before .before .before .before .start-of .ensures (a .names .now)) (c .before .before .before .before .before .before .before .before .before .before .before .before .before .before .before .before .pre .1 .0) (not-false _ (c .before .before .before .before .before .before .before .before .if1 .left))
     (value-got rows refl (c .before .before .before .before .before .before .before .before .before .before .start-of .result .slot) (c .before .before .before .before .before .before .plain .ensures) (c .before .before .next .given .1)) (c .closed .ensures)
 
-pub +choice+judged+leaf-or-value+list+plain+sequence+value-spec : {M : Type 1} → statement M
-+choice+judged+leaf-or-value+list+plain+sequence+value-spec =
-    close μ-choice μ-judged μ-leaf-or-value μ-list μ-plain μ-sequence μ-value
+pub +bracket+choice+judged+leaf-or-value+list+plain+sequence+value-spec : {M : Type 1} → statement M
++bracket+choice+judged+leaf-or-value+list+plain+sequence+value-spec =
+    close μ-bracket μ-choice μ-judged μ-leaf-or-value μ-list μ-plain μ-sequence μ-value
+    (λ t. bracket-lts.spec (bracket-calls t) (bracket-at t) bracket.Post
+    (bracket-returns t)
+    (bracket-returns-2 t)
+    (bracket-sub-sequence t)
+    (bracket-sequence-requires t)
+    (bracket-same-length t)
+    (bracket-returns-3 t)
+    (bracket-sub-list t)
+    (bracket-list-requires t)
+    (bracket-same-length-2 t)
+    (bracket-returns-4 t)
+    (bracket-returns-5 t)
+    (bracket-count-of-requires t)
+    (bracket-returns-6 t)
+    (bracket-sub-choice t)
+    (bracket-choice-requires t)
+    (bracket-same-length-3 t)
+    (bracket-returns-7 t))
     (λ t. choice-lts.spec (choice-calls t) (choice-at t) choice.Post
     (choice-put-byte-requires t)
     (choice-member-row-requires t)
@@ -762,23 +807,9 @@ pub +choice+judged+leaf-or-value+list+plain+sequence+value-spec : {M : Type 1} �
     (plain-leaf-requires t)
     (plain-same-length t)
     (plain-returns-3 t)
-    (plain-returns-4 t)
-    (plain-returns-5 t)
-    (plain-sub-sequence t)
-    (plain-sequence-requires t)
+    (plain-bracket-requires t)
     (plain-same-length-2 t)
-    (plain-returns-6 t)
-    (plain-sub-list t)
-    (plain-list-requires t)
-    (plain-same-length-3 t)
-    (plain-returns-7 t)
-    (plain-returns-8 t)
-    (plain-count-of-requires t)
-    (plain-returns-9 t)
-    (plain-sub-choice t)
-    (plain-choice-requires t)
-    (plain-same-length-4 t)
-    (plain-returns-10 t))
+    (plain-returns-4 t))
     (λ t. sequence-lts.spec (sequence-calls t) (sequence-at t) sequence.Post
     sequence-Inv-loop
     sequence-μ-loop
