@@ -17,7 +17,8 @@ use Rattle.jer.specs.declared.Judged.the-variants as judged
 use Rattle.jer.specs.declared.Writing.{Writing}
 use Rattle.jer.specs.declared.Writing.the-variants as writing
 use Rattle.jer.specs.Table.{Table}
-use Rattle.jer.specs.Valid.{firstBad}
+use Rattle.jer.specs.Valid.{goodAlone, goodPointers, goodRules, goodSizes, orElse, pass, firstBad}
+use Rattle.jer.proofs.ValidRows.{both}
 use Rattle.jer.specs.Value.{Val}
 use Rattle.jer.specs.Answer.{Res, ok, no, bind}
 use Rattle.jer.specs.Rows.{ValueRow}
@@ -27,23 +28,31 @@ use Rattle.jer.specs.Calls.{tableOf, goodTable, judgedBy, tableJudged, over, wr
 use Rattle.jer.proofs.ValidSane.{valid-sane}
 use Rattle.octets.proofs.AmountLaws.{amount-within}
 use Rattle.written.specs.declared.taken.Taken.{Taken}
-use Rattle.written.specs.Text.{Puts, valueText, Stored, Writes, Wrapped}
+use Rattle.written.specs.Text.{Puts, valueText, Stored, Writes}
 use Rattle.written.proofs.PutLaws.{fits}
 use Rattle.written.proofs.TextLaws.{Value, NoValue, text-of}
-use Rattle.writing.specs.Call.{valueWritten, Answers}
+use Rattle.writing.specs.Call.{GoodTable, valueWritten, Answers}
 
 -- ---- 1
 
 pub record Good (t : Table) (ns pool : List ℕ) : Type 0 where
-  pub wrapped : Wrapped t
+  pub table : GoodTable (t .rows) (t .names)
   pub text : valueWritten t ns pool ≡ writeText t ns pool
+
+rows-whole : (t : Table) → firstBad t ≡ none → length (t .rows) % 8 ≡ 0
+unfolding firstBad goodSizes
+rows-whole t e = go (goodSizes t) refl e
+  where
+    go : (c : Bool) → goodSizes t ≡ c → _≡_ {A = Option ℕ} (elim c [ false ↦ some 0 | true ↦ orElse (pass t (goodAlone t)) (orElse (pass t (goodPointers t)) (pass t (goodRules t))) ]) none → length (t .rows) % 8 ≡ 0
+    go true s w = let p = simp both at s in eqb-true (length (t .rows) % 8) 0 (p .1 .0)
+    go false s w = absurd (let z : _≡_ {A = ℕ} 0 1 = cc in omega arith)
 
 pub table-good : {t : Table} {ns pool : List ℕ} → judged.Good ≡ tableJudged t → Good t ns pool
 unfolding tableJudged judgedBy goodTable tableOf writeText valueWritten bind
 table-good {t} {ns} {pool} h = go (firstBad t) refl h
   where
     go : (x : Option ℕ) → firstBad t ≡ x → judged.Good ≡ judgedBy (tableOf t x) → Good t ns pool
-    go none e f = record { wrapped = valid-sane t e .plain; text = rw e }
+    go none e f = record { table = record { wrapped = valid-sane t e .plain; whole = rows-whole t e }; text = rw e }
     go (some r) e f = absurd (let z : _≡_ {A = ℕ} 0 1 = cc in omega arith)
 
 pub table-bad : (t : Table) (ns pool : List ℕ) {e : Refusal} → judged.Refused e ≡ tableJudged t → no e ≡ writeText t ns pool

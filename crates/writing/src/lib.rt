@@ -12,8 +12,7 @@ use written::taken::Taken;
 use written::value::value;
 ghost use Rattle.jer.specs.Contracts.{WriteCall};
 ghost use Rattle.jer.specs.Table.{table};
-ghost use Rattle.written.specs.Text.{Wrapped};
-ghost use Rattle.writing.specs.Call.{WritesText};
+ghost use Rattle.writing.specs.Call.{GoodTable, WritesText};
 
 // The one text of the value table, stored from the start of `text`. A refusal leaves it as it was.
 pub fn write(types: &[u32], names: &[u8], values: &[u32], pool: &[u8], text: &mut [u8]) -> Writing
@@ -30,7 +29,7 @@ const FEW: usize = 512;
 
 // With a good type table: the text is made in room of our own, on the stack, so that a refusal leaves `text` as it was.
 fn write_value(types: &[u32], names: &[u8], values: &[u32], pool: &[u8], text: &mut [u8]) -> Writing
-    requires { ⌜ Wrapped (table (now types) (now names)) ⌝ }
+    requires { ⌜ GoodTable (now types) (now names) ⌝ }
     ensures { λ r. ⌜ WritesText types names values pool text r ⌝ }
 {
     if values.len() <= FEW {
@@ -46,7 +45,7 @@ fn through_small(
     pool: &[u8],
     text: &mut [u8],
 ) -> Writing
-    requires { ⌜ Wrapped (table (now types) (now names)) ⌝ }
+    requires { ⌜ GoodTable (now types) (now names) ⌝ }
     ensures { λ r. ⌜ WritesText types names values pool text r ⌝ }
 {
     let mut room = [0u8; 4096];
@@ -60,7 +59,7 @@ fn through_large(
     pool: &[u8],
     text: &mut [u8],
 ) -> Writing
-    requires { ⌜ Wrapped (table (now types) (now names)) ⌝ }
+    requires { ⌜ GoodTable (now types) (now names) ⌝ }
     ensures { λ r. ⌜ WritesText types names values pool text r ⌝ }
 {
     let mut room = [0u8; 65536];
@@ -76,7 +75,7 @@ fn through(
     text: &mut [u8],
     room: &mut [u8],
 ) -> Writing
-    requires { ⌜ Wrapped (table (now types) (now names)) ⌝ }
+    requires { ⌜ GoodTable (now types) (now names) ⌝ }
     ensures { λ r. ⌜ WritesText types names values pool text r ⌝ }
 {
     let literal = literal::table();

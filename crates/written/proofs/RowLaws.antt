@@ -2,13 +2,13 @@
 use mathlib.Core.Path.{_≡_, refl, sym, ap, _∙_}
 use mathlib.Core.List.{List, [], _∷_}
 use mathlib.Core.Bool.{Bool, true, false, _&&_, _||_}
-use Prim.Native.Nat.{ℕ, zero, suc, _+_, _*_, _/_, _<_, _≤_}
+use Prim.Native.Nat.{ℕ, zero, suc, _+_, _*_, _/_, _%_, _<_, _≤_}
 use native.Mathlib.Omega.{arith}
 use lib.Dec.{eqb}
 use borrow.Author.Tests.{ne-eqb}
-use lib.ListN.{length, getD, take, drop}
+use lib.ListN.{length, getD, take, drop, List·getD-eq-default}
 use lib.Seq.{drop-nil}
-use Rattle.jer.specs.Table.{Table, kindOf, isUnwrapped, firstOf, countOf, rootOf, memberRow, typeAt, nameIn, mayBeAbsent}
+use Rattle.jer.specs.Table.{Table, table, field, tagOf, marksOf, kindOf, isUnwrapped, firstOf, countOf, rootOf, memberRow, typeAt, nameIn, mayBeAbsent}
 use Rattle.types.specs.Rows.{rowOf}
 use Rattle.types.specs.declared.row.Row.{Row}
 use Rattle.jer.specs.Rows.{ValueRow, row}
@@ -89,3 +89,11 @@ module _ (t : Table) (r i : ℕ) {w : Row} where
     pub member-name : {x y : ℕ} {s : List ℕ} → x ≡ w .members → y ≡ w .root → s ≡ take y (drop x (t .names)) → s ≡ nameIn t (memberRow t r i)
     unfolding nameIn countOf rootOf
     member-name f g h = h ∙ rw (f ∙ ap (λ (v : Row). v .members) e, g ∙ ap (λ (v : Row). v .root) e)
+
+-- past the rows of a table all is 0
+pub row-past : (ts ns : List ℕ) (r : ℕ) → length ts % 8 ≡ 0 → length ts / 8 ≤ r → _≡_ {A = Row} (record { kind = 0; marks = 0; first = 0; members = 0; root = 0 }) (rowOf (table ts ns) r)
+unfolding tagOf marksOf firstOf countOf rootOf field
+row-past ts ns r w h = sym (rw (nought 0, nought 1, nought 2, nought 3, nought 4))
+  where
+    nought : (i : ℕ) → getD ts (r * 8 + i) 0 ≡ 0
+    nought i = List·getD-eq-default ts 0 {n = r * 8 + i} (omega arith)

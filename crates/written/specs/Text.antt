@@ -1,5 +1,5 @@
 -- What a call inside answers and stores: the text of what `jer` takes of the value table, from a place of the lent text on.
-use Prim.Native.Nat.{ℕ, zero, suc, _+_, _-_, _≤_, _<_}
+use Prim.Native.Nat.{ℕ, zero, suc, _+_, _-_, _%_, _≤_, _<_}
 use mathlib.Core.Path.{_≡_}
 use mathlib.Core.List.{List, [], _∷_, _++_}
 use mathlib.Core.Bool.{Bool, true, false}
@@ -17,6 +17,7 @@ use Rattle.jer.specs.Judge.{Took, took, wrong, andThen, Taker, takeRow, takeVal
 use Rattle.jer.specs.Octets.{hex, base64}
 use Rattle.jer.specs.Write.{nullText, escapes, stringText, write}
 use Rattle.jer.specs.Calls.{amount}
+use Rattle.written.specs.Literal.{IsLiteral}
 use Rattle.written.specs.Rows.{rowsFrom, valueRow}
 use Rattle.written.specs.declared.rows.ValueRow.{ValueRow as Cells}
 use Rattle.written.specs.declared.put.Form.{Form}
@@ -56,6 +57,12 @@ pub record Writes (x : Took (List ℕ)) (k : ℕ) (before after : List ℕ) (a :
 -- 01, Type table: "An UNWRAPPED choice has no UNWRAPPED alternative"
 abbrev pub Wrapped : Table → Type 0
 Wrapped t = (r i : ℕ) → isUnwrapped t r ≡ true → i < countOf t r → isUnwrapped t (typeAt t r i) ≡ false
+
+-- what the members of the cycle ask for: a type table that was judged good is so, and the table of bytes is
+pub record Ready (types names bytes : List ℕ) : Type 0 where
+  pub wrapped : Wrapped (table types names)
+  pub whole : length types % 8 ≡ 0
+  pub literal : IsLiteral bytes
 
 -- the kind of the type at r, which is not UNWRAPPED
 abbrev pub PlainRow : Table → ℕ → ℕ → Type 0

@@ -7,7 +7,8 @@ use types::row::type_at;
 ghost use mathlib.Core.Path.{_≡_};
 ghost use mathlib.Core.Bool.{true, _&&_};
 ghost use mathlib.Core.List.{List};
-ghost use Prim.Native.Nat.{ℕ, _<_};
+ghost use Prim.Native.Nat.{ℕ, _<_, _%_};
+ghost use lib.ListN.{length};
 ghost use Rattle.jer.specs.Judge.{isAbsent};
 ghost use Rattle.jer.specs.Table.{table};
 ghost use Rattle.types.specs.Rows.{rowOf};
@@ -90,12 +91,19 @@ pub fn null_in(array: bool, types: &[u32], values: &[u32], r: usize, q: usize) -
     false
 }
 
-// Row r of the type table, with one test for all its fields.
+// Row r of a type table of whole rows, with one test for all its fields.
 pub fn type_row(types: &[u32], r: usize) -> Row
+    requires { ⌜ length (now types) % 8 ≡ 0 ⌝ }
     ensures { λ w. ⌜ ((ns : List ℕ) → w ≡ rowOf (table (now (types .entry)) ns) r) ⌝ }
 {
-    if r < types.len() / 8 {
-        return row_in(types, r);
+    if types.len() / 8 <= r {
+        return Row {
+            kind: 0,
+            marks: 0,
+            first: 0,
+            members: 0,
+            root: 0,
+        };
     }
-    Row::at(types, r)
+    row_in(types, r)
 }

@@ -9,7 +9,8 @@ use types::row::kind_of;
 use types::row::type_at;
 ghost use mathlib.Core.Path.{_≡_};
 ghost use mathlib.Core.List.{List};
-ghost use Prim.Native.Nat.{ℕ};
+ghost use Prim.Native.Nat.{ℕ, _%_};
+ghost use lib.ListN.{length};
 ghost use Rattle.jer.specs.Judge.{rowsIn};
 ghost use Rattle.jer.specs.Table.{table};
 ghost use Rattle.written.specs.Start.{Starts, closedAs};
@@ -27,6 +28,7 @@ pub struct Start {
 
 // Of a value of the type at `row`, whose rows begin at `slot`.
 pub fn start_of(types: &[u32], values: &[u32], row: usize, slot: usize) -> Start
+    requires { ⌜ length (now types) % 8 ≡ 0 ⌝ }
     ensures { λ s. ⌜ ((ns : List ℕ) → Starts (table (now (types .entry)) ns) (rowsIn (now (values .entry))) row slot s) ⌝ }
 {
     let own = type_row(types, row);

@@ -31,9 +31,8 @@ ghost use Prim.Native.Nat.{_<_};
 ghost use lib.ListN.{length};
 ghost use Rattle.jer.specs.Table.{isUnwrapped, table};
 ghost use Rattle.jer.specs.Judge.{takeSequence, takeList, takeChoice};
-ghost use Rattle.written.specs.Literal.{IsLiteral};
 ghost use Rattle.written.specs.Rows.{valueRow};
-ghost use Rattle.written.specs.Text.{PlainRow, BracketRow, WritesValue, Measures, WritesParts, Wrapped};
+ghost use Rattle.written.specs.Text.{PlainRow, BracketRow, WritesValue, Measures, WritesParts, Ready};
 
 // The value of the type at `row` whose rows begin at `slot`, with the pool used up to `offset`; its text from `place` on.
 pub fn value(
@@ -49,7 +48,7 @@ pub fn value(
     place: usize,
     depth: u32,
 ) -> Taken
-    requires { ⌜ Wrapped (table (now types) (now names)) × IsLiteral (now literal) ⌝ }
+    requires { ⌜ Ready (now types) (now names) (now literal) ⌝ }
     ensures { λ a. ⌜ WritesValue depth types names values pool row slot offset place text a ⌝ }
 {
     let start = start_of(types, values, row, slot);
@@ -92,7 +91,7 @@ fn plain(
     place: usize,
     depth: u32,
 ) -> Taken
-    requires { ⌜ Wrapped (table (now types) (now names)) × IsLiteral (now literal) × PlainRow (table (now types) (now names)) due row ⌝ }
+    requires { ⌜ Ready (now types) (now names) (now literal) × PlainRow (table (now types) (now names)) due row ⌝ }
     ensures { λ a. ⌜ WritesValue depth types names values pool row slot offset place text a ⌝ }
 {
     let Found::Row(w) = row_at(values, slot) else {
@@ -147,7 +146,7 @@ fn bracket(
     place: usize,
     depth: u32,
 ) -> Taken
-    requires { ⌜ Wrapped (table (now types) (now names)) × IsLiteral (now literal) × BracketRow (table (now types) (now names)) (now values) w row slot ⌝ }
+    requires { ⌜ Ready (now types) (now names) (now literal) × BracketRow (table (now types) (now names)) (now values) w row slot ⌝ }
     ensures { λ a. ⌜ WritesValue depth types names values pool row slot offset place text a ⌝ }
 {
     let kind = w.kind;
@@ -226,7 +225,7 @@ fn list(
     place: usize,
     depth: u32,
 ) -> Taken
-    requires { ⌜ Wrapped (table (now types) (now names)) × IsLiteral (now literal) × (slot < length (now values)) ⌝ }
+    requires { ⌜ Ready (now types) (now names) (now literal) × (slot < length (now values)) ⌝ }
     ensures { λ a. ⌜ WritesParts takeList depth types names values pool row (valueRow w) slot offset place text a ⌝ }
 {
     let e = element_of(types, row);
@@ -281,7 +280,7 @@ fn sequence(
     place: usize,
     depth: u32,
 ) -> Taken
-    requires { ⌜ Wrapped (table (now types) (now names)) × IsLiteral (now literal) × (slot < length (now values)) ⌝ }
+    requires { ⌜ Ready (now types) (now names) (now literal) × (slot < length (now values)) ⌝ }
     ensures { λ a. ⌜ WritesParts takeSequence depth types names values pool row (valueRow w) slot offset place text a ⌝ }
 {
     let own = type_row(types, row);
@@ -363,7 +362,7 @@ fn leaf_or_value(
     place: usize,
     depth: u32,
 ) -> Taken
-    requires { ⌜ Wrapped (table (now types) (now names)) × IsLiteral (now literal) ⌝ }
+    requires { ⌜ Ready (now types) (now names) (now literal) ⌝ }
     ensures { λ a. ⌜ WritesValue depth types names values pool row slot offset place text a ⌝ }
 {
     let own = type_row(types, row);
@@ -415,7 +414,7 @@ pub fn judged(
     offset: usize,
     depth: u32,
 ) -> Taken
-    requires { ⌜ Wrapped (table (now types) (now names)) × IsLiteral (now literal) ⌝ }
+    requires { ⌜ Ready (now types) (now names) (now literal) ⌝ }
     ensures { λ a. ⌜ Measures depth types names values pool row slot offset a ⌝ }
 {
     let mut one = [0u8; 1];
@@ -449,7 +448,7 @@ fn choice(
     place: usize,
     depth: u32,
 ) -> Taken
-    requires { ⌜ Wrapped (table (now types) (now names)) × IsLiteral (now literal) × (slot < length (now values)) × (isUnwrapped (table (now types) (now names)) row ≡ false) ⌝ }
+    requires { ⌜ Ready (now types) (now names) (now literal) × (slot < length (now values)) × (isUnwrapped (table (now types) (now names)) row ≡ false) ⌝ }
     ensures { λ a. ⌜ WritesParts takeChoice depth types names values pool row (valueRow w) slot offset place text a ⌝ }
 {
     let p = put_byte(text, place, 0x7B);

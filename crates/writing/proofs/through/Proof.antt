@@ -1,4 +1,4 @@
--- Made by tools/answers.py from answers/through.ans: edit that. ab9c553ec227bcb6
+-- Made by tools/answers.py from answers/through.ans: edit that. 70ac0ff10310cad4
 use mathlib.Core.Path.{refl}
 use borrow.Author.Tests.{not-true, not-false}
 use Rattle.jer.specs.Judge.{rowsIn}
@@ -15,7 +15,7 @@ table-requires : tie.Need-table-requires
 table-requires c κs = search needs
 
 value-requires : tie.Need-value-requires
-value-requires c κs = search needs
+value-requires c κs = record { wrapped = c .before .before .before .before .before .before .before .before .before .pre .wrapped; whole = c .before .before .before .before .before .before .before .before .before .pre .whole; literal = c .before .before .table .ensures }
 
 enum-known-slot : tie.Need-enum-known-slot
 enum-known-slot c = search needs
@@ -75,7 +75,7 @@ returns-4 c =
     (written (a .text .now) (write (v .what) t 0) e (c .before .before .before .before .before .before .before .before .if2 .left) (c .before .before .before .before .before .before .before .if3 .left) (copied (a .text .now) (v .puts) (c .before .before .before .before .before .before .before .before .if2 .left) (omega (arith, c .before .before .before .before .before .before .if4 .taken, c .before .before .before .before .before .before .before .before .before .before .before .before .before .before .before .value .kept .1 .1 .1 .1 .1 .0)) (c .before .before .before .part .ensures) (c .before .before .copy .ensures)))
 
 value-requires-2 : tie.Need-value-requires-2
-value-requires-2 c κs = search needs
+value-requires-2 c κs = record { wrapped = c .before .before .before .before .before .before .before .before .before .before .before .before .before .before .before .before .before .before .before .before .before .pre .wrapped; whole = c .before .before .before .before .before .before .before .before .before .before .before .before .before .before .before .before .before .before .before .before .before .pre .whole; literal = c .before .before .before .before .before .before .before .before .before .before .before .before .before .before .table .ensures }
 
 same-length-6 : tie.Need-same-length-6
 same-length-6 c = search needs

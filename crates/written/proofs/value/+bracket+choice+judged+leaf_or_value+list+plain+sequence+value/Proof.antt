@@ -1,4 +1,4 @@
--- Made by tools/answers.py from answers/value/+bracket+choice+judged+leaf_or_value+list+plain+sequence+value.ans: edit that. 29dfe183d00e5d5c
+-- Made by tools/answers.py from answers/value/+bracket+choice+judged+leaf_or_value+list+plain+sequence+value.ans: edit that. d72c74560b050212
 use Prim.Native.Nat.{ℕ, _<_, _+_, _-_, _*_}
 use mathlib.Core.Path.{_≡_, refl, sym, ap, _∙_}
 use native.Mathlib.Omega.{arith}
@@ -168,7 +168,7 @@ bracket-returns t c =
     let a = c .before .before .before .before .before .before .args in
     let t = table (a .types .now) (a .names .now) in
     let w = a .w in
-    let found = c .before .before .before .before .before .before .pre .1 .2 in
+    let found = c .before .before .before .before .before .before .pre .1 .1 in
     gives-wrong (plain-deep (a .depth) t (a .pool .now) (a .row) (w .kind) (w .a) (w .b) (w .size) (a .slot) (a .offset) (found .4) (found .0) (found .3) (c .if1 .taken))
 
 bracket-returns-2 : (t : ℕ) → bracket-lts.Need-returns-2 (bracket-calls t) (bracket-at t) bracket.Post
@@ -176,7 +176,7 @@ bracket-returns-2 t c =
     let a = c .before .before .before .before .before .before .before .before .args in
     let t = table (a .types .now) (a .names .now) in
     let w = a .w in
-    let found = c .before .before .before .before .before .before .before .before .pre .1 .2 in
+    let found = c .before .before .before .before .before .before .before .before .pre .1 .1 in
     gives-wrong (plain-b (a .depth) t (a .pool .now) (a .row) (w .kind) (w .a) (w .b) (w .size) (a .slot) (a .offset) (found .4) (found .0) (found .3) (c .if2 .taken))
 
 bracket-sub-sequence : (t : ℕ) → bracket-lts.Need-sub-sequence (bracket-calls t) (bracket-at t) bracket.Post
@@ -186,8 +186,8 @@ bracket-sequence-requires : (t : ℕ) → bracket-lts.Need-sequence-requires (br
 bracket-sequence-requires t c κs =
     let a = c .before .before .before .before .before .before .before .before .before .before .args in
     let w = a .w in
-    let found = c .before .before .before .before .before .before .before .before .before .before .pre .1 .2 in
-    (omega arith, (c .before .before .before .before .before .before .before .before .before .before .pre .1 .0, c .before .before .before .before .before .before .before .before .before .before .pre .1 .1, found .1))
+    let found = c .before .before .before .before .before .before .before .before .before .before .pre .1 .1 in
+    (omega arith, (c .before .before .before .before .before .before .before .before .before .before .pre .1 .0, found .1))
 
 bracket-same-length : (t : ℕ) → bracket-lts.Need-same-length (bracket-calls t) (bracket-at t) bracket.Post
 bracket-same-length t c = search needs
@@ -197,7 +197,7 @@ bracket-returns-3 t c =
     let a = c .before .before .before .before .before .before .before .before .before .before .before .before .before .args in
     let t = table (a .types .now) (a .names .now) in
     let w = a .w in
-    let found = c .before .before .before .before .before .before .before .before .before .before .before .before .before .pre .1 .2 in
+    let found = c .before .before .before .before .before .before .before .before .before .before .before .before .before .pre .1 .1 in
     writes-as (plain-seq (a .depth) t (a .pool .now) (a .row) (w .kind) (w .a) (w .b) (w .size) (a .slot) (a .offset) (found .4) (found .0) (c .before .before .before .before .before .before .before .if1 .left) (found .2) (c .before .before .before .before .before .if2 .left) (c .before .before .before .before .if3 .taken)) (c .before .before .sequence .ensures)
 
 bracket-sub-list : (t : ℕ) → bracket-lts.Need-sub-list (bracket-calls t) (bracket-at t) bracket.Post
@@ -207,8 +207,8 @@ bracket-list-requires : (t : ℕ) → bracket-lts.Need-list-requires (bracket-ca
 bracket-list-requires t c κs =
     let a = c .before .before .before .before .before .before .before .before .before .before .before .args in
     let w = a .w in
-    let found = c .before .before .before .before .before .before .before .before .before .before .before .pre .1 .2 in
-    (omega arith, (c .before .before .before .before .before .before .before .before .before .before .before .pre .1 .0, c .before .before .before .before .before .before .before .before .before .before .before .pre .1 .1, found .1))
+    let found = c .before .before .before .before .before .before .before .before .before .before .before .pre .1 .1 in
+    (omega arith, (c .before .before .before .before .before .before .before .before .before .before .before .pre .1 .0, found .1))
 
 bracket-same-length-2 : (t : ℕ) → bracket-lts.Need-same-length-2 (bracket-calls t) (bracket-at t) bracket.Post
 bracket-same-length-2 t c = search needs
@@ -218,7 +218,7 @@ bracket-returns-4 t c =
     let a = c .before .before .before .before .before .before .before .before .before .before .before .before .before .before .args in
     let t = table (a .types .now) (a .names .now) in
     let w = a .w in
-    let found = c .before .before .before .before .before .before .before .before .before .before .before .before .before .before .pre .1 .2 in
+    let found = c .before .before .before .before .before .before .before .before .before .before .before .before .before .before .pre .1 .1 in
     writes-as (plain-list (a .depth) t (a .pool .now) (a .row) (w .kind) (w .a) (w .b) (w .size) (a .slot) (a .offset) (found .4) (found .0) (c .before .before .before .before .before .before .before .before .if1 .left) (found .2) (c .before .before .before .before .before .before .if2 .left) (c .before .before .before .before .if4 .taken)) (c .before .before .list .ensures)
 
 bracket-returns-5 : (t : ℕ) → bracket-lts.Need-returns-5 (bracket-calls t) (bracket-at t) bracket.Post
@@ -226,7 +226,7 @@ bracket-returns-5 t c =
     let a = c .before .before .before .before .before .before .before .before .before .before .before .args in
     let t = table (a .types .now) (a .names .now) in
     let w = a .w in
-    let found = c .before .before .before .before .before .before .before .before .before .before .before .pre .1 .2 in
+    let found = c .before .before .before .before .before .before .before .before .before .before .before .pre .1 .1 in
     gives-wrong (plain-kind (a .depth) t (a .pool .now) (a .row) (w .kind) (w .a) (w .b) (w .size) (a .slot) (a .offset) (found .4) (found .0) (found .3) (c .before .before .if3 .left) (c .before .if4 .left) (c .if5 .taken))
 
 bracket-count-of-requires : (t : ℕ) → bracket-lts.Need-count-of-requires (bracket-calls t) (bracket-at t) bracket.Post
@@ -237,7 +237,7 @@ bracket-returns-6 t c =
     let a = c .before .before .before .before .before .before .before .before .before .before .before .before .before .before .args in
     let t = table (a .types .now) (a .names .now) in
     let w = a .w in
-    let found = c .before .before .before .before .before .before .before .before .before .before .before .before .before .before .pre .1 .2 in
+    let found = c .before .before .before .before .before .before .before .before .before .before .before .before .before .before .pre .1 .1 in
     gives-wrong (plain-position (a .depth) t (a .pool .now) (a .row) (w .kind) (w .a) (w .b) (w .size) (a .slot) (a .offset) (found .4) (found .0) (found .3) (c .before .before .before .before .before .if3 .left) (c .before .before .before .before .if4 .left) (omega (arith, c .before .before .count-of .ensures (a .names .now), c .if6 .taken)))
 
 bracket-sub-choice : (t : ℕ) → bracket-lts.Need-sub-choice (bracket-calls t) (bracket-at t) bracket.Post
@@ -247,8 +247,8 @@ bracket-choice-requires : (t : ℕ) → bracket-lts.Need-choice-requires (bracke
 bracket-choice-requires t c κs =
     let a = c .before .before .before .before .before .before .before .before .before .before .before .before .before .before .before .args in
     let w = a .w in
-    let found = c .before .before .before .before .before .before .before .before .before .before .before .before .before .before .before .pre .1 .2 in
-    (omega arith, (c .before .before .before .before .before .before .before .before .before .before .before .before .before .before .before .pre .1 .0, c .before .before .before .before .before .before .before .before .before .before .before .before .before .before .before .pre .1 .1, found .1, found .4))
+    let found = c .before .before .before .before .before .before .before .before .before .before .before .before .before .before .before .pre .1 .1 in
+    (omega arith, (c .before .before .before .before .before .before .before .before .before .before .before .before .before .before .before .pre .1 .0, found .1, found .4))
 
 bracket-same-length-3 : (t : ℕ) → bracket-lts.Need-same-length-3 (bracket-calls t) (bracket-at t) bracket.Post
 bracket-same-length-3 t c = search needs
@@ -258,7 +258,7 @@ bracket-returns-7 t c =
     let a = c .before .before .before .before .before .before .before .before .before .before .before .before .before .before .before .before .before .before .args in
     let t = table (a .types .now) (a .names .now) in
     let w = a .w in
-    let found = c .before .before .before .before .before .before .before .before .before .before .before .before .before .before .before .before .before .before .pre .1 .2 in
+    let found = c .before .before .before .before .before .before .before .before .before .before .before .before .before .before .before .before .before .before .pre .1 .1 in
     writes-as (plain-choice (a .depth) t (a .pool .now) (a .row) (w .kind) (w .a) (w .b) (w .size) (a .slot) (a .offset) (found .4) (found .0) (c .before .before .before .before .before .before .before .before .before .before .before .before .if1 .left) (found .2) (c .before .before .before .before .before .before .before .before .before .before .if2 .left) (c .before .before .before .before .before .before .before .if5 .left) (omega (arith, c .before .before .before .before .before .before .count-of .ensures (a .names .now), c .before .before .before .before .if6 .left))) (c .before .before .choice .ensures)
 
 choice-put-byte-requires : (t : ℕ) → choice-lts.Need-put-byte-requires (choice-calls t) (choice-at t) choice.Post
@@ -311,7 +311,7 @@ choice-returns-2 t c =
     let a = c .before .before .before .before .before .before .before .before .before .before .before .before .before .before .before .before .before .before .before .before .before .before .before .before .before .before .before .before .args in
     let rows = rowsIn (a .values .now) in
     let v = value-got rows (c .before .before .before .before .before .before .before .before .before .before .before .before .type-at .ensures (a .names .now)) (a .slot + 1) (c .before .before .before .before .before .before .before .before .before .before .value .ensures) (c .before .before .before .before .before .before .next .given .1) in
-    writes-is (c .ended .ensures) (choice-ends _ _ _ rows _ (a .slot) _ (valueRow (a .w)) (c .before .before .before .before .before .before .before .before .before .before .before .before .before .before .before .before .before .before .before .before .before .before .before .before .before .before .before .before .pre .1 .3) (c .before .before .before .before .before .before .before .before .before .before .before .before .before .before .before .before .before .before .before .before .before .put-byte .ensures) (c .before .before .before .before .before .before .before .before .before .before .before .before .before .before .before .before .before .member-row .ensures (a .names .now)) (c .before .before .before .before .before .before .before .before .before .before .before .before .before .before .before .before .name-in .ensures) (c .before .before .before .before .before .before .before .before .before .before .before .before .before .before .before .put-name .ensures) v (c .before .before .before .put-byte2 .ensures))
+    writes-is (c .ended .ensures) (choice-ends _ _ _ rows _ (a .slot) _ (valueRow (a .w)) (c .before .before .before .before .before .before .before .before .before .before .before .before .before .before .before .before .before .before .before .before .before .before .before .before .before .before .before .before .pre .1 .2) (c .before .before .before .before .before .before .before .before .before .before .before .before .before .before .before .before .before .before .before .before .before .put-byte .ensures) (c .before .before .before .before .before .before .before .before .before .before .before .before .before .before .before .before .before .member-row .ensures (a .names .now)) (c .before .before .before .before .before .before .before .before .before .before .before .before .before .before .before .before .name-in .ensures) (c .before .before .before .before .before .before .before .before .before .before .before .before .before .before .before .put-name .ensures) v (c .before .before .before .put-byte2 .ensures))
 
 judged-slice-aggregate-value : (t : ℕ) → judged-lts.Need-slice-aggregate-value (judged-calls t) (judged-at t) judged.Post
 judged-slice-aggregate-value t c = search needs
@@ -323,7 +323,7 @@ judged-returns : (t : ℕ) → judged-lts.Need-returns (judged-calls t) (judged-
 judged-returns t c = writes-none (c .before .value .ensures)
 
 leaf-or-value-type-row-requires : (t : ℕ) → leaf-or-value-lts.Need-type-row-requires (leaf-or-value-calls t) (leaf-or-value-at t) leaf-or-value.Post
-leaf-or-value-type-row-requires t c κs = search needs
+leaf-or-value-type-row-requires t c κs = c .before .before .before .before .before .pre .1 .whole
 
 leaf-or-value-value-requires : (t : ℕ) → leaf-or-value-lts.Need-value-requires (leaf-or-value-calls t) (leaf-or-value-at t) leaf-or-value.Post
 leaf-or-value-value-requires t c κs = (omega arith, c .before .before .before .before .before .before .before .before .pre .1)
@@ -363,7 +363,7 @@ leaf-or-value-leaf-requires t c κs =
     let t = table (a .types .now) (a .names .now) in
     let w = c .before .before .before .before .w .given .0 .0 in
     let found = rw (c .before .before .before .before .w .given .1) at (c .before .before .before .before .before .before .row-at .ensures) in
-    (c .before .if2 .left ∙ kind-of t (a .row) (c .before .before .before .before .before .before .before .before .type-row .ensures (a .names .now)), omega (arith, c .before .if2 .left, c .before .before .before .before .before .before .before .if1 .left), found .2, c .before .before .before .before .before .before .before .before .before .before .before .before .before .before .pre .1 .1)
+    (c .before .if2 .left ∙ kind-of t (a .row) (c .before .before .before .before .before .before .before .before .type-row .ensures (a .names .now)), omega (arith, c .before .if2 .left, c .before .before .before .before .before .before .before .if1 .left), found .2, c .before .before .before .before .before .before .before .before .before .before .before .before .before .before .pre .1 .literal)
 
 leaf-or-value-same-length-2 : (t : ℕ) → leaf-or-value-lts.Need-same-length-2 (leaf-or-value-calls t) (leaf-or-value-at t) leaf-or-value.Post
 leaf-or-value-same-length-2 t c = search needs
@@ -465,15 +465,15 @@ plain-returns-2 t c =
     let t = table (a .types .now) (a .names .now) in
     let w = c .before .before .w .given .0 .0 in
     let found = rw (c .before .before .w .given .1) at (c .before .before .before .before .row-at .ensures) in
-    let kind = c .before .before .before .before .before .before .before .before .before .before .pre .1 .2 .0 in
-    gives-wrong (plain-other (a .depth) t (a .pool .now) (a .row) (w .kind) (w .a) (w .b) (w .size) (a .slot) (a .offset) (c .before .before .before .before .before .before .before .before .before .before .pre .1 .2 .1) (found .0) (λ e. c .if1 .taken (e ∙ sym kind)))
+    let kind = c .before .before .before .before .before .before .before .before .before .before .pre .1 .1 .0 in
+    gives-wrong (plain-other (a .depth) t (a .pool .now) (a .row) (w .kind) (w .a) (w .b) (w .size) (a .slot) (a .offset) (c .before .before .before .before .before .before .before .before .before .before .pre .1 .1 .1) (found .0) (λ e. c .if1 .taken (e ∙ sym kind)))
 
 plain-leaf-requires : (t : ℕ) → plain-lts.Need-leaf-requires (plain-calls t) (plain-at t) plain.Post
 plain-leaf-requires t c κs =
     let w = c .before .before .before .before .w .given .0 .0 in
     let found = rw (c .before .before .before .before .w .given .1) at (c .before .before .before .before .before .before .row-at .ensures) in
-    let kind = c .before .before .before .before .before .before .before .before .before .before .before .before .pre .1 .2 .0 in
-    (c .before .before .if1 .left ∙ kind, omega (arith, c .before .if2 .taken), found .2, c .before .before .before .before .before .before .before .before .before .before .before .before .pre .1 .1)
+    let kind = c .before .before .before .before .before .before .before .before .before .before .before .before .pre .1 .1 .0 in
+    (c .before .before .if1 .left ∙ kind, omega (arith, c .before .if2 .taken), found .2, c .before .before .before .before .before .before .before .before .before .before .before .before .pre .1 .0 .literal)
 
 plain-same-length : (t : ℕ) → plain-lts.Need-same-length (plain-calls t) (plain-at t) plain.Post
 plain-same-length t c = search needs
@@ -484,13 +484,13 @@ plain-returns-3 t c =
     let t = table (a .types .now) (a .names .now) in
     let w = c .before .before .before .before .before .before .before .w .given .0 .0 in
     let found = rw (c .before .before .before .before .before .before .before .w .given .1) at (c .before .before .before .before .before .before .before .before .before .row-at .ensures) in
-    writes-as (row-text (a .depth) t (a .pool .now) (a .row) (w .kind) (w .a) (w .b) (w .size) (a .slot) (a .offset) (c .before .before .before .before .before .before .before .before .before .before .before .before .before .before .before .pre .1 .2 .1) (found .0)) (c .before .before .leaf .ensures _ _)
+    writes-as (row-text (a .depth) t (a .pool .now) (a .row) (w .kind) (w .a) (w .b) (w .size) (a .slot) (a .offset) (c .before .before .before .before .before .before .before .before .before .before .before .before .before .before .before .pre .1 .1 .1) (found .0)) (c .before .before .leaf .ensures _ _)
 
 plain-bracket-requires : (t : ℕ) → plain-lts.Need-bracket-requires (plain-calls t) (plain-at t) plain.Post
 plain-bracket-requires t c κs =
     let w = c .before .before .before .before .w .given .0 .0 in
     let found = rw (c .before .before .before .before .w .given .1) at (c .before .before .before .before .before .before .row-at .ensures) in
-    (omega arith, (c .before .before .before .before .before .before .before .before .before .before .before .before .pre .1 .0, c .before .before .before .before .before .before .before .before .before .before .before .before .pre .1 .1, (found .0, found .1, c .before .before .if1 .left ∙ c .before .before .before .before .before .before .before .before .before .before .before .before .pre .1 .2 .0, c .before .if2 .left, c .before .before .before .before .before .before .before .before .before .before .before .before .pre .1 .2 .1)))
+    (omega arith, (c .before .before .before .before .before .before .before .before .before .before .before .before .pre .1 .0, (found .0, found .1, c .before .before .if1 .left ∙ c .before .before .before .before .before .before .before .before .before .before .before .before .pre .1 .1 .0, c .before .if2 .left, c .before .before .before .before .before .before .before .before .before .before .before .before .pre .1 .1 .1)))
 
 plain-same-length-2 : (t : ℕ) → plain-lts.Need-same-length-2 (plain-calls t) (plain-at t) plain.Post
 plain-same-length-2 t c = search needs
@@ -505,7 +505,7 @@ abbrev sequence-μ-loop : sequence-lts.MeasureT-loop
 sequence-μ-loop literal types names values pool text₀ w row slot offset place depth array count first i₀ present₀ kept₀ next₀ used₀ p₀ text i present kept next used p = count - i
 
 sequence-type-row-requires : (t : ℕ) → sequence-lts.Need-type-row-requires (sequence-calls t) (sequence-at t) sequence.Post sequence-Inv-loop sequence-μ-loop
-sequence-type-row-requires t c κs = search needs
+sequence-type-row-requires t c κs = c .before .before .before .before .before .pre .1 .0 .whole
 
 sequence-is-array-requires : (t : ℕ) → sequence-lts.Need-is-array-requires (sequence-calls t) (sequence-at t) sequence.Post sequence-Inv-loop sequence-μ-loop
 sequence-is-array-requires t c κs = search needs
@@ -533,7 +533,7 @@ sequence-add-type-row : (t : ℕ) → sequence-lts.Need-add-type-row (sequence-c
 sequence-add-type-row t c = search needs
 
 sequence-type-row-requires-2 : (t : ℕ) → sequence-lts.Need-type-row-requires-2 (sequence-calls t) (sequence-at t) sequence.Post sequence-Inv-loop sequence-μ-loop
-sequence-type-row-requires-2 t c κs = search needs
+sequence-type-row-requires-2 t c κs = c .before .before .before .before .before .before .before .before .before .before .before .before .before .before .before .pre .1 .0 .whole
 
 sequence-wide-requires-3 : (t : ℕ) → sequence-lts.Need-wide-requires-3 (sequence-calls t) (sequence-at t) sequence.Post sequence-Inv-loop sequence-μ-loop
 sequence-wide-requires-3 t c κs = search needs
@@ -561,7 +561,7 @@ sequence-null-in-requires : (t : ℕ) → sequence-lts.Need-null-in-requires (se
 sequence-null-in-requires t c κs = search needs
 
 sequence-judged-requires : (t : ℕ) → sequence-lts.Need-judged-requires (sequence-calls t) (sequence-at t) sequence.Post sequence-Inv-loop sequence-μ-loop
-sequence-judged-requires t c κs = (omega (arith, c .before .before .before .before .before .before .before .before .before .before .before .before .before .before .before .before .before .before .before .before .before .pre .0), (c .before .before .before .before .before .before .before .before .before .before .before .before .before .before .before .before .before .before .before .before .before .pre .1 .0, c .before .before .before .before .before .before .before .before .before .before .before .before .before .before .before .before .before .before .before .before .before .pre .1 .1))
+sequence-judged-requires t c κs = (omega (arith, c .before .before .before .before .before .before .before .before .before .before .before .before .before .before .before .before .before .before .before .before .before .pre .0), c .before .before .before .before .before .before .before .before .before .before .before .before .before .before .before .before .before .before .before .before .before .pre .1 .0)
 
 sequence-enum-known-t : (t : ℕ) → sequence-lts.Need-enum-known-t (sequence-calls t) (sequence-at t) sequence.Post sequence-Inv-loop sequence-μ-loop
 sequence-enum-known-t t c = search needs
@@ -605,13 +605,13 @@ sequence-loop-again-2 t c =
     let inside = rw (inv .1) at (c .before .before .before .before .before .before .before .before .before .before .before .loop-test .taken) in
     let null = null-is t (drop (c .before .before .before .before .before .before .before .before .before .before .before .before .loop .next) rows) (c .before .before .before .before .before .before .before .before .before .before .before .before .before .before .before .before .before .before .is-array .result) type (c .before .before .before .before .before .null-in .ensures (a .names .now)) (c .before .before .before .before .if2 .taken) in
     let v = value-got rows type (c .before .before .before .before .before .before .before .before .before .before .before .before .loop .next) (c .before .before .before .judged .ensures) (c .before .t .given .1) in
-    (inv .0, inv .1, inv .2, inv .3, members-null (inv .4) inside absent (c .before .before .before .before .before .before .before .before .before .before .before .before .before .before .before .before .before .before .before .before .before .before .before .before .before .pre .1 .0) v null)
+    (inv .0, inv .1, inv .2, inv .3, members-null (inv .4) inside absent (c .before .before .before .before .before .before .before .before .before .before .before .before .before .before .before .before .before .before .before .before .before .before .before .before .before .pre .1 .0 .wrapped) v null)
 
 sequence-put-lead-requires : (t : ℕ) → sequence-lts.Need-put-lead-requires (sequence-calls t) (sequence-at t) sequence.Post sequence-Inv-loop sequence-μ-loop
-sequence-put-lead-requires t c κs = c .before .before .before .before .before .before .before .before .before .before .before .before .before .before .before .before .before .before .before .before .before .before .pre .1 .1
+sequence-put-lead-requires t c κs = c .before .before .before .before .before .before .before .before .before .before .before .before .before .before .before .before .before .before .before .before .before .before .pre .1 .0 .literal
 
 sequence-leaf-or-value-requires : (t : ℕ) → sequence-lts.Need-leaf-or-value-requires (sequence-calls t) (sequence-at t) sequence.Post sequence-Inv-loop sequence-μ-loop
-sequence-leaf-or-value-requires t c κs = (omega (arith, c .before .before .before .before .before .before .before .before .before .before .before .before .before .before .before .before .before .before .before .before .before .before .before .before .before .before .pre .0), (c .before .before .before .before .before .before .before .before .before .before .before .before .before .before .before .before .before .before .before .before .before .before .before .before .before .before .pre .1 .0, c .before .before .before .before .before .before .before .before .before .before .before .before .before .before .before .before .before .before .before .before .before .before .before .before .before .before .pre .1 .1))
+sequence-leaf-or-value-requires t c κs = (omega (arith, c .before .before .before .before .before .before .before .before .before .before .before .before .before .before .before .before .before .before .before .before .before .before .before .before .before .before .pre .0), c .before .before .before .before .before .before .before .before .before .before .before .before .before .before .before .before .before .before .before .before .before .before .before .before .before .before .pre .1 .0)
 
 sequence-enum-known-t-2 : (t : ℕ) → sequence-lts.Need-enum-known-t-2 (sequence-calls t) (sequence-at t) sequence.Post sequence-Inv-loop sequence-μ-loop
 sequence-enum-known-t-2 t c = search needs
@@ -660,7 +660,7 @@ sequence-loop-again-3 t c =
     let inside = rw (inv .1) at (c .before .before .before .before .before .before .before .before .before .before .before .before .before .before .before .before .before .before .before .loop-test .taken) in
     let null = null-is t (drop (c .before .before .before .before .before .before .before .before .before .before .before .before .before .before .before .before .before .before .before .before .loop .next) rows) (c .before .before .before .before .before .before .before .before .before .before .before .before .before .before .before .before .before .before .before .before .before .before .before .before .before .before .is-array .result) type (c .before .before .before .before .before .before .before .before .before .before .before .before .before .null-in .ensures (a .names .now)) (c .before .before .before .before .before .before .before .before .before .before .before .before .if2 .left) in
     let v = value-got rows type (c .before .before .before .before .before .before .before .before .before .before .before .before .before .before .before .before .before .before .before .before .loop .next) (c .before .before .before .before .before .before .leaf-or-value .ensures) (c .before .before .t2 .given .1) in
-    (inv .0, inv .1, inv .2, c .before .before .before .before .before .before .leaf-or-value .kept .1 .1 .1 .1 .1 .0 ∙ c .before .before .before .before .before .before .before .before .before .before .put-lead .kept .1 .1 .0 ∙ inv .3, rw (c .kept-after .ensures) (members-part (inv .4) inside absent (c .before .before .before .before .before .before .before .before .before .before .before .before .before .before .before .before .before .before .before .before .before .before .before .before .before .before .before .before .before .before .before .before .before .pre .1 .0) v null (c .before .before .before .before .before .before .before .before .before .before .put-lead .ensures (a .types .now) (a .row) member)))
+    (inv .0, inv .1, inv .2, c .before .before .before .before .before .before .leaf-or-value .kept .1 .1 .1 .1 .1 .0 ∙ c .before .before .before .before .before .before .before .before .before .before .put-lead .kept .1 .1 .0 ∙ inv .3, rw (c .kept-after .ensures) (members-part (inv .4) inside absent (c .before .before .before .before .before .before .before .before .before .before .before .before .before .before .before .before .before .before .before .before .before .before .before .before .before .before .before .before .before .before .before .before .before .pre .1 .0 .wrapped) v null (c .before .before .before .before .before .before .before .before .before .before .put-lead .ensures (a .types .now) (a .row) member)))
 
 sequence-put-closing-requires : (t : ℕ) → sequence-lts.Need-put-closing-requires (sequence-calls t) (sequence-at t) sequence.Post sequence-Inv-loop sequence-μ-loop
 sequence-put-closing-requires t c κs = search needs
@@ -677,7 +677,7 @@ sequence-returns-3 t c =
     writes-is (c .ended .ensures) (members-end (inv .4) (rw (inv .1) at (c .before .before .before .before .before .before .loop-test .left)) (c .before .before .before .before .before .before .before .before .before .before .put-opening .ensures) (c .before .before .before .before .put-closing .ensures))
 
 value-start-of-requires : (t : ℕ) → value-lts.Need-start-of-requires (value-calls t) (value-at t) value.Post
-value-start-of-requires t c κs = search needs
+value-start-of-requires t c κs = c .before .before .before .before .before .pre .1 .whole
 
 value-returns : (t : ℕ) → value-lts.Need-returns (value-calls t) (value-at t) value.Post
 value-returns t c =
@@ -691,7 +691,7 @@ value-plain-requires t c κs =
     let a = c .before .before .before .before .before .before .before .before .before .args in
     let t = table (a .types .now) (a .names .now) in
     let rows = rowsIn (a .values .now) in
-    (omega (arith, c .before .before .before .before .before .before .before .before .before .pre .0), (c .before .before .before .before .before .before .before .before .before .pre .1 .0, c .before .before .before .before .before .before .before .before .before .pre .1 .1, start-plain (a .depth) t (a .pool .now) rows (a .row) (a .slot) (a .offset) (c .before .before .before .start-of .ensures (a .names .now)) (c .before .before .before .before .before .before .before .before .before .pre .1 .0) (not-false _ (c .before .if1 .left))))
+    (omega (arith, c .before .before .before .before .before .before .before .before .before .pre .0), (c .before .before .before .before .before .before .before .before .before .pre .1, start-plain (a .depth) t (a .pool .now) rows (a .row) (a .slot) (a .offset) (c .before .before .before .start-of .ensures (a .names .now)) (c .before .before .before .before .before .before .before .before .before .pre .1 .wrapped) (not-false _ (c .before .if1 .left))))
 
 value-enum-known-b : (t : ℕ) → value-lts.Need-enum-known-b (value-calls t) (value-at t) value.Post
 value-enum-known-b t c = search needs
@@ -710,7 +710,7 @@ value-returns-2 t c =
     let a = c .before .before .before .before .before .before .before .before .before .before .before .before .before .before .before .args in
     let t = table (a .types .now) (a .names .now) in
     let rows = rowsIn (a .values .now) in
-    gives-wrong (start-fails (a .depth) t (a .pool .now) rows (a .row) (a .slot) (a .offset) (c .before .before .before .before .before .before .before .before .before .start-of .ensures (a .names .now)) (c .before .before .before .before .before .before .before .before .before .before .before .before .before .before .before .pre .1 .0) (not-false _ (c .before .before .before .before .before .before .before .if1 .left))
+    gives-wrong (start-fails (a .depth) t (a .pool .now) rows (a .row) (a .slot) (a .offset) (c .before .before .before .before .before .before .before .before .before .start-of .ensures (a .names .now)) (c .before .before .before .before .before .before .before .before .before .before .before .before .before .before .before .pre .1 .wrapped) (not-false _ (c .before .before .before .before .before .before .before .if1 .left))
     (value-wrong rows refl (c .before .before .before .before .before .before .before .before .before .start-of .result .slot) (c .before .before .before .before .before .plain .ensures) (c .before .b .given .1)))
 
 value-same-length-2 : (t : ℕ) → value-lts.Need-same-length-2 (value-calls t) (value-at t) value.Post
@@ -721,7 +721,7 @@ value-returns-3 t c =
     let a = c .before .before .before .before .before .before .before .before .before .before .before .before .before .before .before .before .args in
     let t = table (a .types .now) (a .names .now) in
     let rows = rowsIn (a .values .now) in
-    start-ends (a .depth) t (a .pool .now) rows (a .row) (a .slot) (a .offset) (c .before .before .before .before .before .before .before .before .before .before .start-of .ensures (a .names .now)) (c .before .before .before .before .before .before .before .before .before .before .before .before .before .before .before .before .pre .1 .0) (not-false _ (c .before .before .before .before .before .before .before .before .if1 .left))
+    start-ends (a .depth) t (a .pool .now) rows (a .row) (a .slot) (a .offset) (c .before .before .before .before .before .before .before .before .before .before .start-of .ensures (a .names .now)) (c .before .before .before .before .before .before .before .before .before .before .before .before .before .before .before .before .pre .1 .wrapped) (not-false _ (c .before .before .before .before .before .before .before .before .if1 .left))
     (value-got rows refl (c .before .before .before .before .before .before .before .before .before .before .start-of .result .slot) (c .before .before .before .before .before .before .plain .ensures) (c .before .before .next .given .1)) (c .closed .ensures)
 
 pub +bracket+choice+judged+leaf-or-value+list+plain+sequence+value-spec : {M : Type 1} → statement M
