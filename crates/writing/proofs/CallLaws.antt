@@ -1,12 +1,12 @@
 -- The call from outside: document 01's order of refusals, 1, 12, 13, 14.
 use mathlib.Core.Path.{_≡_, refl, sym, ap, _∙_}
-use mathlib.Core.List.{List, _++_}
+use mathlib.Core.List.{List, [], _∷_, _++_}
 use mathlib.Core.Bool.{Bool, true, false, _&&_}
 use mathlib.Core.Option.{Option, none, some}
-use Prim.Native.Nat.{ℕ, _+_, _*_, _/_, _%_, _≤_, _<_}
+use Prim.Native.Nat.{ℕ, zero, suc, _+_, _*_, _/_, _%_, _≤_, _<_}
 use native.Mathlib.Omega.{arith}
 use lib.Dec.{eqb, leb}
-use lib.ListN.{length, drop}
+use lib.ListN.{length, drop, take}
 use lib.Seq.{sets, sets-eq}
 use borrow.Author.Tests.{eq-eqb, ne-eqb, eqb-true, eqb-false, le-leb, lt-leb, leb-true, leb-false}
 use Rattle.jer.specs.declared.Which.the-variants.{ValueTable}
@@ -17,7 +17,8 @@ use Rattle.jer.specs.declared.Judged.the-variants as judged
 use Rattle.jer.specs.declared.Writing.{Writing}
 use Rattle.jer.specs.declared.Writing.the-variants as writing
 use Rattle.jer.specs.Table.{Table}
-use Rattle.jer.specs.Valid.{firstBad}
+use Rattle.jer.specs.Valid.{goodAlone, goodPointers, goodRules, goodSizes, orElse, pass, firstBad}
+use Rattle.jer.proofs.ValidRows.{both}
 use Rattle.jer.specs.Value.{Val}
 use Rattle.jer.specs.Answer.{Res, ok, no, bind}
 use Rattle.jer.specs.Rows.{ValueRow}
@@ -26,23 +27,32 @@ use Rattle.jer.specs.Write.{write}
 use Rattle.jer.specs.Calls.{tableOf, goodTable, judgedBy, tableJudged, over, writeText, amount, writeAnswer, textAfter}
 use Rattle.jer.proofs.ValidSane.{valid-sane}
 use Rattle.octets.proofs.AmountLaws.{amount-within}
-use Rattle.writing.specs.declared.taken.Taken.{Taken}
-use Rattle.writing.specs.Text.{Puts, valueText, Stored, Writes, Wrapped, valueWritten, Answers}
-use Rattle.writing.proofs.PutLaws.{fits}
-use Rattle.writing.proofs.TextLaws.{Value, NoValue, text-of}
+use Rattle.written.specs.declared.taken.Taken.{Taken}
+use Rattle.written.specs.Text.{Puts, valueText, Stored, Writes}
+use Rattle.written.proofs.PutLaws.{fits}
+use Rattle.written.proofs.TextLaws.{Value, NoValue, text-of}
+use Rattle.writing.specs.Call.{GoodTable, valueWritten, Answers}
 
 -- ---- 1
 
 pub record Good (t : Table) (ns pool : List ℕ) : Type 0 where
-  pub wrapped : Wrapped t
+  pub table : GoodTable (t .rows) (t .names)
   pub text : valueWritten t ns pool ≡ writeText t ns pool
+
+rows-whole : (t : Table) → firstBad t ≡ none → length (t .rows) % 8 ≡ 0
+unfolding firstBad goodSizes
+rows-whole t e = go (goodSizes t) refl e
+  where
+    go : (c : Bool) → goodSizes t ≡ c → _≡_ {A = Option ℕ} (elim c [ false ↦ some 0 | true ↦ orElse (pass t (goodAlone t)) (orElse (pass t (goodPointers t)) (pass t (goodRules t))) ]) none → length (t .rows) % 8 ≡ 0
+    go true s w = let p = simp both at s in eqb-true (length (t .rows) % 8) 0 (p .1 .0)
+    go false s w = absurd (let z : _≡_ {A = ℕ} 0 1 = cc in omega arith)
 
 pub table-good : {t : Table} {ns pool : List ℕ} → judged.Good ≡ tableJudged t → Good t ns pool
 unfolding tableJudged judgedBy goodTable tableOf writeText valueWritten bind
 table-good {t} {ns} {pool} h = go (firstBad t) refl h
   where
     go : (x : Option ℕ) → firstBad t ≡ x → judged.Good ≡ judgedBy (tableOf t x) → Good t ns pool
-    go none e f = record { wrapped = valid-sane t e .plain; text = rw e }
+    go none e f = record { table = record { wrapped = valid-sane t e .plain; whole = rows-whole t e }; text = rw e }
     go (some r) e f = absurd (let z : _≡_ {A = ℕ} 0 1 = cc in omega arith)
 
 pub table-bad : (t : Table) (ns pool : List ℕ) {e : Refusal} → judged.Refused e ≡ tableJudged t → no e ≡ writeText t ns pool
@@ -143,6 +153,28 @@ module _ (t : Table) (ns pool : List ℕ) where
 -- where it ends, from the start of the text
 pub end-of : {s : List ℕ} {l m : List ℕ} {e : ℕ} → Puts s 0 l m e → e ≡ amount (length s)
 end-of {s} f = f .ends ∙ ap amount (let z : 0 + length s ≡ length s = omega arith in z)
+
+-- ---- copied
+
+front-is : (s x : List ℕ) → take (length s) (s ++ x) ≡ s
+front-is [] x = refl
+front-is (b ∷ s) x = ap (λ (l : List ℕ). b ∷ l) (front-is s x)
+
+-- a text that was put into room of its own, and the front c of the room into the lent text
+pub copied : {s c : List ℕ} {l m : List ℕ} (l₁ : List ℕ) {m₁ : List ℕ} {e : ℕ} → Puts s 0 l m e → e ≤ 65536 → e ≤ length l → c ≡ take e (drop 0 m) → m₁ ≡ sets l₁ 0 c → m₁ ≡ sets l₁ 0 s
+copied {s} {c} {l} {m} l₁ {m₁} {e} p b r f g =
+    let n : e ≡ length s = end-is l s (end-of p) b in
+    let w : m ≡ s ++ drop (0 + length s) l = p .stands (omega arith) ∙ sets-eq s l 0 (omega arith) in
+    let d : take e m ≡ s = ap (λ (i : ℕ). take i m) n ∙ ap (take (length s)) w ∙ front-is s (drop (0 + length s) l) in
+    g ∙ ap (sets l₁ 0) (f ∙ d)
+
+pub front-few : (e : ℕ) {c : List ℕ} (m : List ℕ) → c ≡ take e (drop 0 m) → length c ≤ e
+front-few e m f = rw f (few e m)
+  where
+    few : (e : ℕ) (l : List ℕ) → length (take e l) ≤ e
+    few zero l = omega arith
+    few (suc e) [] = omega arith
+    few (suc e) (x ∷ l) = let h = few e l in omega arith
 
 -- the same value once more
 pub stored-again : (t : Table) (ns pool : List ℕ) {k q o e : ℕ} {l m l₁ m₁ : List ℕ} {a : Taken} (v : Value 32 t pool (rowsIn ns) 0 0 0 k l m q o e) → Writes (valueText 32 t pool (drop 0 (rowsIn ns)) 0 0 0) 0 l₁ m₁ a → e ≡ amount (length (write (v .what) t 0)) → e ≤ 65536 → m₁ ≡ sets l₁ 0 (write (v .what) t 0)

@@ -1,4 +1,4 @@
--- Made by tools/answers.py from answers/write.ans: edit that. d3fa8cf86e5ce156
+-- Made by tools/answers.py from answers/write.ans: edit that. 47f2f16f06daf761
 use mathlib.Core.Path.{sym, _∙_}
 use Rattle.jer.specs.Table.{table}
 use Rattle.writing.proofs.CallLaws.{answers-as, refuses, table-good, table-bad}
@@ -18,7 +18,7 @@ enum-told c = search needs
 write-value-requires : tie.Need-write-value-requires
 write-value-requires c κs =
     let a = c .before .before .before .before .before .before .before .before .before .args in
-    table-good {t = table (a .types .now) (a .names .now)} {ns = a .values .now} {pool = a .pool .now} (sym (c .before .enum-told .given .1) ∙ c .before .before .before .check .ensures) .wrapped
+    table-good {t = table (a .types .now) (a .names .now)} {ns = a .values .now} {pool = a .pool .now} (sym (c .before .enum-told .given .1) ∙ c .before .before .before .check .ensures) .table
 
 returns : tie.Need-returns
 returns c =

@@ -1,0 +1,4 @@
+pub mod Rows
+pub mod Text
+pub mod Literal
+pub mod Start
