@@ -1,7 +1,7 @@
 -- Strings whose bytes stand for themselves, put between quotation marks.
 use mathlib.Core.Path.{_≡_, refl, sym, ap, _∙_}
 use mathlib.Core.List.{List, [], _∷_, _++_}
-use mathlib.Core.Bool.{Bool, true, false, _&&_}
+use mathlib.Core.Bool.{Bool, true, false}
 use Prim.Native.Nat.{ℕ, zero, suc, _+_, _<_, _≤_}
 use native.Mathlib.Omega.{arith}
 use native.Mathlib.Nat.{add-zero}
@@ -15,13 +15,14 @@ use Rattle.jer.specs.Table.{sameBytes}
 use Rattle.jer.specs.Write.{escaped, escapes, quotes, stringText}
 use Rattle.jer.specs.Calls.{amount}
 use Rattle.jer.proofs.ValidLaws.{sameBytes-eq}
-use Rattle.jer.proofs.ValidRows.{both}
 use Rattle.slices.proofs.PartLaws.{sets-append}
 use Rattle.octets.proofs.AmountLaws.{amount-within}
 use Rattle.octets.proofs.EscapeLaws.{escapes-few}
 use Rattle.types.proofs.ByteLaws.{ascii-utf8}
 use Rattle.written.specs.Literal.{LiteralByte, IsLiteral, PutsLiteral}
-use Rattle.written.specs.Text.{Puts, spelled}
+use Rattle.written.specs.Text.{Puts, PutsWhole, spelled}
+use Rattle.written.specs.declared.put.Form.{Form}
+use Rattle.written.proofs.PutLaws.{spelled-few}
 use Rattle.written.specs.declared.put.Form.the-variants.{Escaped}
 use Rattle.written.proofs.RowLaws.{never}
 
@@ -29,7 +30,7 @@ use Rattle.written.proofs.RowLaws.{never}
 
 -- the entry for a byte
 unfoldable pub literalOf : ℕ → ℕ
-literalOf b = elim (sameBytes (escaped b) (b ∷ []) && leb b 0x7F) [ true ↦ 0x2E | false ↦ 0x30 ]
+literalOf b = elim (sameBytes (escaped b) (b ∷ [])) [ true ↦ elim (leb b 0x7F) [ true ↦ 0x2E | false ↦ 0x2D ] | false ↦ 0x21 ]
 
 -- the entries for n bytes from b on
 abbrev pub entries : ℕ → ℕ → List ℕ
@@ -41,34 +42,40 @@ entry-at b zero i h = absurd (omega arith)
 entry-at b (suc n) zero h = ap literalOf (sym (add-zero b))
 entry-at b (suc n) (suc i) h = entry-at (suc b) n i (omega arith) ∙ ap literalOf (let e : suc b + i ≡ b + suc i = omega arith in e)
 
-pub table-literal : IsLiteral (entries 0 256)
+entry-right : (b mark : ℕ) → 0x2D ≤ mark → mark ≤ literalOf b → LiteralByte mark b
 unfolding literalOf
-table-literal b h e = go (sameBytes (escaped b) (b ∷ []) && leb b 0x7F) refl (sym (entry-at 0 256 b h ∙ ap literalOf (let z : 0 + b ≡ b = omega arith in z)) ∙ e)
+entry-right b mark h l = go (sameBytes (escaped b) (b ∷ [])) (leb b 0x7F) refl refl l
   where
-    go : (c : Bool) → (sameBytes (escaped b) (b ∷ []) && leb b 0x7F) ≡ c → _≡_ {A = ℕ} (elim c as (λ x. ℕ) [ true ↦ 0x2E | false ↦ 0x30 ]) 0x2E → LiteralByte b
-    go true u w = let y = simp both at u in (sameBytes-eq (escaped b) (b ∷ []) (y .0), leb-true b 0x7F (y .1))
-    go false u w = absurd (omega arith)
+    go : (c d : Bool) → sameBytes (escaped b) (b ∷ []) ≡ c → leb b 0x7F ≡ d → mark ≤ elim c as (λ x. ℕ) [ true ↦ elim d as (λ x. ℕ) [ true ↦ 0x2E | false ↦ 0x2D ] | false ↦ 0x21 ] → LiteralByte mark b
+    go true true u w l = (sameBytes-eq (escaped b) (b ∷ []) u, λ _. leb-true b 0x7F w)
+    go true false u w l = (sameBytes-eq (escaped b) (b ∷ []) u, λ z. absurd (omega arith))
+    go false d u w l = absurd (omega arith)
+
+pub table-literal : IsLiteral (entries 0 256)
+table-literal b mark h low l =
+    let e : getD (entries 0 256) b 0 ≡ literalOf b = entry-at 0 256 b h ∙ ap literalOf (let z : 0 + b ≡ b = omega arith in z) in
+    entry-right b mark low (rw e at l)
 
 -- ---- a string of such bytes
 
-pub literal-escapes : (s : List ℕ) → ((i : ℕ) → i < length s → LiteralByte (getD s i 0)) → escapes s ≡ s
+pub literal-escapes : (mark : ℕ) (s : List ℕ) → ((i : ℕ) → i < length s → LiteralByte mark (getD s i 0)) → escapes s ≡ s
 unfolding escapes
-literal-escapes [] h = refl
-literal-escapes (b ∷ s) h = rw (h 0 (omega arith) .0, literal-escapes s (λ i l. h (suc i) (omega arith)))
+literal-escapes mark [] h = refl
+literal-escapes mark (b ∷ s) h = rw (h 0 (omega arith) .0, literal-escapes mark s (λ i l. h (suc i) (omega arith)))
 
-pub literal-utf8 : (s : List ℕ) → ((i : ℕ) → i < length s → LiteralByte (getD s i 0)) → utf8 s ≡ true
+pub literal-utf8 : (s : List ℕ) → ((i : ℕ) → i < length s → LiteralByte 0x2E (getD s i 0)) → utf8 s ≡ true
 unfolding utf8
-literal-utf8 s h = ascii-utf8 s (λ i l. h i l .1)
+literal-utf8 s h = ascii-utf8 s (λ i l. h i l .1 (omega arith))
 
 -- ---- the loop
 
-pub literal-start : (s : List ℕ) (k : ℕ) (l : List ℕ) → PutsLiteral s k l l 0
-literal-start s k l = record { few = omega arith; same = λ i h. absurd (omega arith); stands = refl }
+pub literal-start : (mark : ℕ) (s : List ℕ) (k : ℕ) (l : List ℕ) → PutsLiteral mark s k l l 0
+literal-start mark s k l = record { few = omega arith; same = λ i h. absurd (omega arith); stands = refl }
 
-pub literal-next : (s : List ℕ) (k : ℕ) (l : List ℕ) {m : List ℕ} (j : ℕ) → PutsLiteral s k l m j → j < length s → LiteralByte (getD s j 0) → PutsLiteral s k l (set m (k + j) (getD s j 0)) (j + 1)
-literal-next s k l {m} j p h b = record { few = omega arith; same = λ i c. go i c (eqb i j) refl; stands = stand }
+pub literal-next : {mark : ℕ} (s : List ℕ) (k : ℕ) (l : List ℕ) {m : List ℕ} (j : ℕ) → PutsLiteral mark s k l m j → j < length s → LiteralByte mark (getD s j 0) → PutsLiteral mark s k l (set m (k + j) (getD s j 0)) (j + 1)
+literal-next {mark} s k l {m} j p h b = record { few = omega arith; same = λ i c. go i c (eqb i j) refl; stands = stand }
   where
-    go : (i : ℕ) → i < j + 1 → (c : Bool) → eqb i j ≡ c → LiteralByte (getD s i 0)
+    go : (i : ℕ) → i < j + 1 → (c : Bool) → eqb i j ≡ c → LiteralByte mark (getD s i 0)
     go i c true e = rw (eqb-true i j e) b
     go i c false e = p .same i (omega (arith, eqb-false i j e))
 
@@ -83,12 +90,12 @@ literal-next s k l {m} j p h b = record { few = omega arith; same = λ i c. go i
 -- ---- between quotation marks
 
 -- all of them
-pub quoted : (s : List ℕ) (k : ℕ) (l : List ℕ) {m : List ℕ} {n : ℕ} → PutsLiteral s (k + 1) (set l k 0x22) m n → length s ≤ n → k + length s + 2 ≤ length l → length l ≤ 18446744073709551615
+pub quoted : {mark : ℕ} (s : List ℕ) (k : ℕ) (l : List ℕ) {m : List ℕ} {n : ℕ} → PutsLiteral mark s (k + 1) (set l k 0x22) m n → length s ≤ n → k + length s + 2 ≤ length l → length l ≤ 18446744073709551615
     → Puts (stringText s) k l (set m (k + 1 + n) 0x22) (k + n + 2)
 unfolding stringText quotes
-quoted s k l {m} {n} p h r f =
+quoted {mark} s k l {m} {n} p h r f =
     let e : n ≡ length s = omega (arith, p .few) in
-    let x : escapes s ≡ s = literal-escapes s (λ i c. p .same i (omega arith)) in
+    let x : escapes s ≡ s = literal-escapes mark s (λ i c. p .same i (omega arith)) in
     let y : length (0x22 ∷ (s ++ (0x22 ∷ []))) ≡ n + 2 = omega (arith, length-append s (0x22 ∷ [])) in
     rw x record { ends = sym (ap (λ (i : ℕ). amount (k + i)) y ∙ sym (amount-within (k + (n + 2)) (omega arith)) ∙ (let z : k + (n + 2) ≡ k + n + 2 = omega arith in z)); stands = λ _. stand e }
   where
@@ -112,7 +119,7 @@ over l k (y ∷ ys) (x ∷ xs) h =
     ∙ over (set l k x) (suc k) ys xs (omega arith)
 
 -- some of them, and then the string with its escapes
-pub escaped-over : (s : List ℕ) (k : ℕ) (l : List ℕ) {m o : List ℕ} {n e : ℕ} → PutsLiteral s (k + 1) (set l k 0x22) m n → Puts (quotes (spelled Escaped s)) k m o e → Puts (stringText s) k l o e
+pub escaped-over : {mark : ℕ} (s : List ℕ) (k : ℕ) (l : List ℕ) {m o : List ℕ} {n e : ℕ} → PutsLiteral mark s (k + 1) (set l k 0x22) m n → Puts (quotes (spelled Escaped s)) k m o e → Puts (stringText s) k l o e
 unfolding stringText quotes spelled
 escaped-over s k l {m} {o} {n} {e} p f = record { ends = f .ends; stands = λ z. f .stands z ∙ ap (λ (u : List ℕ). sets u k (0x22 ∷ (escapes s ++ (0x22 ∷ [])))) first ∙ over l k (0x22 ∷ take n s) (0x22 ∷ (escapes s ++ (0x22 ∷ []))) few }
   where
@@ -125,3 +132,29 @@ escaped-over s k l {m} {o} {n} {e} p f = record { ends = f .ends; stands = λ z.
 pub escaped-all : (s : List ℕ) {k e : ℕ} {l o : List ℕ} → Puts (quotes (spelled Escaped s)) k l o e → Puts (stringText s) k l o e
 unfolding stringText spelled
 escaped-all s f = f
+
+-- ---- whole, or some of it
+
+pub whole-all : {mark : ℕ} (s : List ℕ) (k : ℕ) (l : List ℕ) {m : List ℕ} {n : ℕ} → PutsLiteral mark s (k + 1) (set l k 0x22) m n → length s ≤ n → k + length s + 2 ≤ length l → length l ≤ 18446744073709551615 → PutsWhole Escaped s k l (set m (k + 1 + n) 0x22) true
+unfolding stringText spelled
+whole-all s k l {m} {n} p h r f =
+    let e : n ≡ length s = omega (arith, p .few) in
+    record { all = λ _. (ap-end (ap (λ (i : ℕ). k + i + 2) e) (quoted s k l p h r f), r); some = λ z. never (sym z) }
+  where
+    ap-end : {x : List ℕ} {o : List ℕ} {a b : ℕ} → a ≡ b → Puts x k l o a → Puts x k l o b
+    ap-end h f = rw h at f
+
+pub whole-some : {mark : ℕ} (s : List ℕ) (k : ℕ) (l : List ℕ) {m : List ℕ} {n : ℕ} → PutsLiteral mark s (k + 1) (set l k 0x22) m n → PutsWhole Escaped s k l m false
+whole-some s k l {n = n} p = record { all = λ z. never z; some = λ _. (suc n, omega (arith, p .few), p .stands ∙ ap (λ (i : ℕ). sets (set l k 0x22) i (take n s)) (add-one k)) }
+
+pub whole-none : (form : Form) (s : List ℕ) (k : ℕ) (l : List ℕ) → PutsWhole form s k l l false
+whole-none form s k l = record { all = λ z. never z; some = λ _. (0, omega arith, refl) }
+
+-- the whole string over some of it
+pub whole-over : {form : Form} {s : List ℕ} {k : ℕ} {l m o : List ℕ} {b : Bool} {e : ℕ} → PutsWhole form s k l m b → b ≡ false → Puts (quotes (spelled form s)) k m o e → Puts (quotes (spelled form s)) k l o e
+unfolding quotes
+whole-over {form} {s} {k} {l} {m} {o} p z f =
+    let g = p .some z in
+    let n = g .0 in
+    let few : length (take n (0x22 ∷ s)) ≤ length (0x22 ∷ (spelled form s ++ (0x22 ∷ []))) = omega (arith, length-take-le n (0x22 ∷ s) (omega (arith, g .1)), spelled-few form s, g .1, length-append (spelled form s) (0x22 ∷ [])) in
+    record { ends = f .ends; stands = λ y. f .stands y ∙ ap (λ (u : List ℕ). sets u k (0x22 ∷ (spelled form s ++ (0x22 ∷ [])))) (g .2) ∙ over l k (take n (0x22 ∷ s)) (0x22 ∷ (spelled form s ++ (0x22 ∷ []))) few }

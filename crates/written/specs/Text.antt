@@ -5,7 +5,7 @@ use mathlib.Core.List.{List, [], _∷_, _++_}
 use mathlib.Core.Bool.{Bool, true, false}
 use mathlib.Core.Option.{Option}
 use lib.Dec.{eqb}
-use lib.ListN.{length}
+use lib.ListN.{length, take}
 use lib.Seq.{sets}
 use Rattle.slices.specs.Lent.{Lent, before, after, tableIn}
 use Rattle.jer.specs.Table.{Table, table, memberRow, UTF8String, kindOf, isBase64, isUnwrapped, countOf, typeAt, nameAt}
@@ -15,7 +15,7 @@ use Rattle.jer.specs.Value.{Val}
 use Rattle.jer.specs.Rows.{ValueRow}
 use Rattle.jer.specs.Judge.{Took, took, wrong, andThen, Taker, takeRow, takeValue}
 use Rattle.jer.specs.Octets.{hex, base64}
-use Rattle.jer.specs.Write.{nullText, escapes, stringText, write}
+use Rattle.jer.specs.Write.{nullText, escapes, quotes, stringText, write}
 use Rattle.jer.specs.Calls.{amount}
 use Rattle.written.specs.Literal.{IsLiteral}
 use Rattle.written.specs.Rows.{rowsFrom, valueRow}
@@ -78,6 +78,11 @@ unfoldable pub spelled : Form → List ℕ → List ℕ
 spelled Escaped s = escapes s
 spelled Hexadecimal s = hex s
 spelled Base64 s = base64 s
+
+-- the string s is put whole, in quotation marks; or else some of it
+pub record PutsWhole (form : Form) (s : List ℕ) (k : ℕ) (before after : List ℕ) (b : Bool) : Type 0 where
+  pub all : b ≡ true → Puts (quotes (spelled form s)) k before after (k + length s + 2) × (k + length s + 2 ≤ length before)
+  pub some : b ≡ false → (n : ℕ) × (n ≤ length s + 1) × (after ≡ sets before k (take n (0x22 ∷ s)))
 
 -- how a string of the type at r is spelled
 unfoldable pub formOf : Table → ℕ → Form

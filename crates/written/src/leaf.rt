@@ -38,6 +38,7 @@ fn form_of(types: &[u32], row: usize) -> Form
 
 // An OCTET STRING, from where the pool has got to.
 fn octets(
+    literal: &[u8; 256],
     types: &[u32],
     names: &[u8],
     pool: &[u8],
@@ -48,13 +49,13 @@ fn octets(
     offset: usize,
     place: usize,
 ) -> Taken
-    requires { ⌜ (w .kind ≡ kindOf (table (now types) (now names)) row) × (w .kind ≡ 4) × (slot < 18446744073709551615) ⌝ }
+    requires { ⌜ (w .kind ≡ kindOf (table (now types) (now names)) row) × (w .kind ≡ 4) × (slot < 18446744073709551615) × IsLiteral (now literal) ⌝ }
     ensures { λ a. ⌜ WritesLeaf types names pool row (valueRow w) slot offset place text a ⌝ }
 {
     let start = wide(w.a);
     let len = wide(w.b);
     let s = part(pool, offset, len);
-    let end = put_string(text, place, form_of(types, row), s);
+    let end = put_string(literal, text, place, form_of(types, row), s);
     let inside = (start == offset) & (start + len <= pool.len());
     ended(inside, w.size, slot, slot + 1, add(offset, len), end)
 }
@@ -136,7 +137,18 @@ pub fn leaf(
             let end = put_null(text, place);
             ended((w.a == 0) & (w.b == 0), w.size, slot, slot + 1, offset, end)
         }
-        Row::OCTET_STRING => octets(types, names, pool, text, w, row, slot, offset, place),
+        Row::OCTET_STRING => octets(
+            literal,
+            types,
+            names,
+            pool,
+            text,
+            w,
+            row,
+            slot,
+            offset,
+            place,
+        ),
         _ => string(
             literal,
             types,

@@ -1,4 +1,6 @@
 // Pieces of text, stored from a place on as far as there is room. Each call hands back the place after its piece; a place that would pass 2^64-1 is 2^64-1.
+use crate::literal::ANY;
+use crate::literal::ASCII;
 use octets::amount;
 use octets::encode;
 use octets::escape;
@@ -17,7 +19,8 @@ ghost use Rattle.jer.specs.Write.{nullText, boolText, intText, quotes, stringTe
 ghost use Rattle.jer.specs.Calls.{amount};
 ghost use Rattle.json.specs.Utf8.{utf8};
 ghost use Rattle.written.specs.Literal.{IsLiteral, PutsLiteral};
-ghost use Rattle.written.specs.Text.{Puts, Leads, spelled, comma, nulls, nameText, opening, closing, keptAfter};
+ghost use Rattle.written.specs.declared.put.Form.the-variants.{Escaped};
+ghost use Rattle.written.specs.Text.{Puts, PutsWhole, Leads, spelled, comma, nulls, nameText, opening, closing, keptAfter};
 
 // The place b bytes after a.
 pub fn add(a: usize, b: usize) -> usize
@@ -184,24 +187,15 @@ fn put_spelled(text: &mut [u8], k: usize, form: Form, s: &[u8]) -> usize
     add(k, n)
 }
 
-// A string in quotation marks.
-pub fn put_string(text: &mut [u8], k: usize, form: Form, s: &[u8]) -> usize
-    ensures { λ e. ⌜ Puts (quotes (spelled form (now (s .entry)))) k (now (text .entry)) (now (text .exit)) e ⌝ }
-{
-    let start = put_byte(text, k, 0x22);
-    let end = put_spelled(text, start, form, s);
-    put_byte(text, end, 0x22)
-}
-
-// The bytes of s, for which there is room, up to the first that does not stand for itself. Returns how many they are.
-fn put_literal(literal: &[u8; 256], text: &mut [u8], k: usize, s: &[u8]) -> usize
-    requires { ⌜ IsLiteral (now literal) × (k + length (now s) ≤ length (now text)) ⌝ }
-    ensures { λ n. ⌜ PutsLiteral (now (s .entry)) k (now (text .entry)) (now (text .exit)) n ⌝ }
+// The bytes of s, for which there is room, up to the first with less than the least mark. Returns how many they are.
+fn put_literal(literal: &[u8; 256], least: u8, text: &mut [u8], k: usize, s: &[u8]) -> usize
+    requires { ⌜ IsLiteral (now literal) × (0x2D ≤ least) × (k + length (now s) ≤ length (now text)) ⌝ }
+    ensures { λ n. ⌜ PutsLiteral least (now (s .entry)) k (now (text .entry)) (now (text .exit)) n ⌝ }
 {
     let mut j = 0;
     while j < s.len() {
         let b = s[j];
-        if literal[b as usize] != 0x2E {
+        if literal[b as usize] < least {
             return j;
         }
         text[k + j] = b;
@@ -210,29 +204,70 @@ fn put_literal(literal: &[u8; 256], text: &mut [u8], k: usize, s: &[u8]) -> usiz
     j
 }
 
+// A string of characters that stand for themselves, in quotation marks: whether there is room and they do.
+fn put_quoted(literal: &[u8; 256], text: &mut [u8], k: usize, s: &[u8]) -> bool
+    requires { ⌜ IsLiteral (now literal) ⌝ }
+    ensures { λ b. ⌜ PutsWhole Escaped (now (s .entry)) k (now (text .entry)) (now (text .exit)) b ⌝ }
+{
+    if !has_quoted(text.len(), k, s.len()) {
+        return false;
+    }
+    text[k] = 0x22;
+    let n = put_literal(literal, ANY, text, k + 1, s);
+    if n < s.len() {
+        return false;
+    }
+    text[k + 1 + n] = 0x22;
+    true
+}
+
+fn put_whole(literal: &[u8; 256], text: &mut [u8], k: usize, form: Form, s: &[u8]) -> bool
+    requires { ⌜ IsLiteral (now literal) ⌝ }
+    ensures { λ b. ⌜ PutsWhole form (now (s .entry)) k (now (text .entry)) (now (text .exit)) b ⌝ }
+{
+    match form {
+        Form::Escaped => put_quoted(literal, text, k, s),
+        Form::Hexadecimal => false,
+        Form::Base64 => false,
+    }
+}
+
+// A string in quotation marks: whole where it can be, else byte by byte.
+pub fn put_string(literal: &[u8; 256], text: &mut [u8], k: usize, form: Form, s: &[u8]) -> usize
+    requires { ⌜ IsLiteral (now literal) ⌝ }
+    ensures { λ e. ⌜ Puts (quotes (spelled form (now (s .entry)))) k (now (text .entry)) (now (text .exit)) e ⌝ }
+{
+    if put_whole(literal, text, k, form, s) {
+        return k + s.len() + 2;
+    }
+    let start = put_byte(text, k, 0x22);
+    let end = put_spelled(text, start, form, s);
+    put_byte(text, end, 0x22)
+}
+
 // Where a string of characters ends, and whether they are known to be ASCII.
 pub struct Chars {
     pub end: usize,
     pub ascii: bool,
 }
 
-// A string of characters in quotation marks: byte by byte if they stand for themselves, else once more with its escapes.
+// A string of characters in quotation marks: as it stands if it is ASCII that stands for itself, else once more.
 pub fn put_chars(literal: &[u8; 256], text: &mut [u8], k: usize, s: &[u8]) -> Chars
     requires { ⌜ IsLiteral (now literal) ⌝ }
     ensures { λ c. ⌜ Puts (stringText (now (s .entry))) k (now (text .entry)) (now (text .exit)) (c .end) ⌝ }
     ensures { λ c. ⌜ (c .ascii ≡ true → utf8 (now (s .entry)) ≡ true) ⌝ }
 {
     if !has_quoted(text.len(), k, s.len()) {
-        let end = put_string(text, k, Form::Escaped, s);
+        let end = put_string(literal, text, k, Form::Escaped, s);
         return Chars {
             end: end,
             ascii: false,
         };
     }
     text[k] = 0x22;
-    let n = put_literal(literal, text, k + 1, s);
+    let n = put_literal(literal, ASCII, text, k + 1, s);
     if n < s.len() {
-        let end = put_string(text, k, Form::Escaped, s);
+        let end = put_string(literal, text, k, Form::Escaped, s);
         return Chars {
             end: end,
             ascii: false,

@@ -1,4 +1,4 @@
--- Made by tools/answers.py from answers/put/put_chars.ans: edit that. 535cb6b99f4d5954
+-- Made by tools/answers.py from answers/put/put_chars.ans: edit that. dc550e2c86f9e6f0
 use Prim.Native.Nat.{_+_}
 use mathlib.Core.Path.{_∙_}
 use native.Mathlib.Omega.{arith}
@@ -39,7 +39,7 @@ put-literal-requires c κs =
     let a = c .before .before .before .before .before .args in
     let room = c .before .before .has-quoted .ensures (not-false _ (c .before .if1 .left)) in
     let set = length-set (a .text .now) (a .k) 0x22 in
-    (c .before .before .before .before .before .pre, omega (arith, room, set))
+    (c .before .before .before .before .before .pre, omega arith, omega (arith, room, set))
 
 put-string-requires-2 : tie.Need-put-string-requires-2
 put-string-requires-2 c κs = search needs
@@ -48,7 +48,7 @@ same-length-2 : tie.Need-same-length-2
 same-length-2 c =
     let a = c .before .before .before .before .before .before .before .before .before .before .before .before .before .args in
     let set = length-set (a .text .now) (a .k) 0x22 in
-    c .before .before .put-string2 .kept .0 ∙ c .before .before .before .before .before .before .before .put-literal .kept .1 .0 ∙ set
+    c .before .before .put-string2 .kept .1 .0 ∙ c .before .before .before .before .before .before .before .put-literal .kept .1 .1 .0 ∙ set
 
 returns-2 : tie.Need-returns-2
 returns-2 c =
@@ -73,7 +73,7 @@ slice-write-text-2 c =
     let room = c .before .before .before .before .before .before .has-quoted .ensures (not-false _ (c .before .before .before .before .before .if1 .left)) in
     let set = length-set (a .text .now) (a .k) 0x22 in
     let put = c .before .before .before .put-literal .ensures in
-    omega (arith, room, put .few, c .before .before .before .put-literal .kept .1 .0, set)
+    omega (arith, room, put .few, c .before .before .before .put-literal .kept .1 .1 .0, set)
 
 add-t9 : tie.Need-add-t9
 add-t9 c =
@@ -91,7 +91,7 @@ same-length-3 : tie.Need-same-length-3
 same-length-3 c =
     let a = c .before .before .before .before .before .before .before .before .before .args in
     let set = length-set (a .text .now) (a .k) 0x22 in
-    length-set (c .before .before .before .put-literal .last .1 .0) (a .k + 1 + c .before .before .before .put-literal .result) 0x22 ∙ c .before .before .before .put-literal .kept .1 .0 ∙ set
+    length-set (c .before .before .before .put-literal .last .1 .1 .0) (a .k + 1 + c .before .before .before .put-literal .result) 0x22 ∙ c .before .before .before .put-literal .kept .1 .1 .0 ∙ set
 
 returns-3 : tie.Need-returns-3
 returns-3 c =

@@ -1,5 +1,5 @@
--- Made by tools/answers.py from answers/put/put_literal.ans: edit that. 33ada4f59d5b453b
--- The bytes before j stand for themselves and are put; `length s - j` falls.
+-- Made by tools/answers.py from answers/put/put_literal.ans: edit that. 540432b23c51f9d9
+-- The bytes before j have the mark and are put; `length s - j` falls.
 use Prim.Native.Nat.{_-_}
 use mathlib.Core.Path.{_≡_, refl}
 use native.Mathlib.Omega.{arith}
@@ -11,15 +11,15 @@ use Rattle.written.proofs.put.put_literal.Statement.{statement}
 use Rattle.written.proofs.put.put_literal.Tie as tie
 
 abbrev Inv-loop : tie.InvT-loop
-Inv-loop literal text₀ k s j₀ text j = (length text ≡ length text₀) × PutsLiteral s k text₀ text j
+Inv-loop literal least text₀ k s j₀ text j = (length text ≡ length text₀) × PutsLiteral least s k text₀ text j
 
 abbrev μ-loop : tie.MeasureT-loop
-μ-loop literal text₀ k s j₀ text j = length s - j
+μ-loop literal least text₀ k s j₀ text j = length s - j
 
 loop-holds : tie.Need-loop-holds Inv-loop μ-loop
 loop-holds c =
     let a = c .args in
-    (refl, literal-start (a .s .now) (a .k) (a .text .now))
+    (refl, literal-start (a .least) (a .s .now) (a .k) (a .text .now))
 
 shared-slice-read-b : tie.Need-shared-slice-read-b Inv-loop μ-loop
 shared-slice-read-b c = search needs
@@ -56,7 +56,7 @@ loop-again : tie.Need-loop-again Inv-loop μ-loop
 loop-again c =
     let a = c .before .before .before .before .before .args in
     let inv = c .before .before .before .before .loop .inv in
-    (search needs, literal-next (a .s .now) (a .k) (a .text .now) (c .before .before .before .before .loop .j) (inv .1) (c .before .before .before .loop-test .taken) (c .before .before .before .before .before .pre .0 _ (omega (arith, c .before .before .shared-slice-known .given (c .before .before .before .before .loop .j))) (c .if1 .left)))
+    (search needs, literal-next (a .s .now) (a .k) (a .text .now) (c .before .before .before .before .loop .j) (inv .1) (c .before .before .before .loop-test .taken) (c .before .before .before .before .before .pre .0 _ (a .least) (omega (arith, c .before .before .shared-slice-known .given (c .before .before .before .before .loop .j))) (c .before .before .before .before .before .pre .1) (c .if1 .left)))
 
 same-length-2 : tie.Need-same-length-2 Inv-loop μ-loop
 same-length-2 c = search needs
