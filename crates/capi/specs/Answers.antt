@@ -10,63 +10,63 @@ use Rattle.jer.specs.declared.Writing.{Writing}
 use Rattle.jer.specs.declared.Writing.TheVariants as writing
 use Rattle.jer.specs.Table.{Table}
 use Rattle.jer.specs.Answer.{Values, values, values_of}
-use Rattle.jer.specs.Contracts.{TableCall, ReadCall, WriteCall}
+use Rattle.jer.specs.CallClauses.{TableCall, ReadCall, WriteCall}
 use Rattle.jer.specs.Each.{EachCall}
 
 -- A success is number 0; a refusal has document 01's number and amounts (`values_of`).
 
 -- a good type table: no amounts
-unfoldable pub ofTable : Judged → Values
-ofTable judged.Good = values 0 0 0
-ofTable (judged.Refused e) = values_of e
+unfoldable pub of_table : Judged → Values
+of_table judged.Good = values 0 0 0
+of_table (judged.Refused e) = values_of e
 
 -- a text that was read: value rows and pool bytes
-unfoldable pub ofReading : Reading → Values
-ofReading (reading.Read n m) = values 0 n m
-ofReading (reading.Refused e) = values_of e
+unfoldable pub of_reading : Reading → Values
+of_reading (reading.Read n m) = values 0 n m
+of_reading (reading.Refused e) = values_of e
 
 -- many texts: how many are answered
-unfoldable pub ofReadings : Readings → Values
-ofReadings (readings.Answered n) = values 0 n 0
-ofReadings (readings.Refused e) = values_of e
+unfoldable pub of_readings : Readings → Values
+of_readings (readings.Answered n) = values 0 n 0
+of_readings (readings.Refused e) = values_of e
 
 -- a text that was written: its bytes
-unfoldable pub ofWriting : Writing → Values
-ofWriting (writing.Written n) = values 0 n 0
-ofWriting (writing.Refused e) = values_of e
+unfoldable pub of_writing : Writing → Values
+of_writing (writing.Written n) = values 0 n 0
+of_writing (writing.Refused e) = values_of e
 
 -- `amounts` afterwards: its first two numbers are replaced; where it has room for less than two, nothing is stored
-unfoldable pub amountsAfter : List ℕ → ℕ → ℕ → List ℕ
-amountsAfter [] first second = []
-amountsAfter (x ∷ []) first second = x ∷ []
-amountsAfter (x ∷ y ∷ zs) first second = first ∷ second ∷ zs
+unfoldable pub amounts_after : List ℕ → ℕ → ℕ → List ℕ
+amounts_after [] first second = []
+amounts_after (x ∷ []) first second = x ∷ []
+amounts_after (x ∷ y ∷ zs) first second = first ∷ second ∷ zs
 
 -- the same, by an answer's two amounts
-abbrev pub amountsBy : List ℕ → Values → List ℕ
-amountsBy amounts v = amountsAfter amounts v.first v.second
+abbrev pub amounts_by : List ℕ → Values → List ℕ
+amounts_by amounts v = amounts_after amounts v.first v.second
 
 -- A call from C is the library's call: r and what is left in `amounts` say its answer, and the buffers are as it leaves them.
 
 pub record TableFromC (t : Table) (amounts : List ℕ) (r : ℕ) (amounts' : List ℕ) : Type 0 where
   pub answer : Judged
   pub call : TableCall t answer
-  pub number : r ≡ (ofTable answer).number
-  pub told : amounts' ≡ amountsBy amounts (ofTable answer)
+  pub number : r ≡ (of_table answer).number
+  pub told : amounts' ≡ amounts_by amounts (of_table answer)
 
 pub record ReadFromC (t : Table) (s rows pool amounts : List ℕ) (r : ℕ) (rows' pool' amounts' : List ℕ) : Type 0 where
   pub answer : Reading
   pub call : ReadCall t s rows pool answer rows' pool'
-  pub number : r ≡ (ofReading answer).number
-  pub told : amounts' ≡ amountsBy amounts (ofReading answer)
+  pub number : r ≡ (of_reading answer).number
+  pub told : amounts' ≡ amounts_by amounts (of_reading answer)
 
 pub record EachFromC (t : Table) (texts ends rows pool tells amounts : List ℕ) (r : ℕ) (rows' pool' tells' amounts' : List ℕ) : Type 0 where
   pub answer : Readings
   pub call : EachCall t texts ends rows pool tells answer rows' pool' tells'
-  pub number : r ≡ (ofReadings answer).number
-  pub told : amounts' ≡ amountsBy amounts (ofReadings answer)
+  pub number : r ≡ (of_readings answer).number
+  pub told : amounts' ≡ amounts_by amounts (of_readings answer)
 
 pub record WriteFromC (t : Table) (ns pool text amounts : List ℕ) (r : ℕ) (text' amounts' : List ℕ) : Type 0 where
   pub answer : Writing
   pub call : WriteCall t ns pool text answer text'
-  pub number : r ≡ (ofWriting answer).number
-  pub told : amounts' ≡ amountsBy amounts (ofWriting answer)
+  pub number : r ≡ (of_writing answer).number
+  pub told : amounts' ≡ amounts_by amounts (of_writing answer)

@@ -1,16 +1,16 @@
 // The calls for programs in C and other languages, as include/attrywind.h declares them: numbers and lent slices alone.
-// Contracts cite specs/Answers.antt: each is a call of the library (`jer`'s Contracts.antt) whose answer is told in numbers.
+// Contracts cite specs/Answers.antt: each is a call of the library (`jer`'s CallClauses.antt) whose answer is told in numbers.
 ghost use Rattle.std.specs.Prelude.{◌≡◌};
 ghost use Rattle.jer.specs.Answer.{values_of};
 ghost use Rattle.jer.specs.Table.{table};
-ghost use Rattle.capi.specs.Answers.{amountsAfter, amountsBy, TableFromC, ReadFromC, EachFromC, WriteFromC};
+ghost use Rattle.capi.specs.Answers.{amounts_after, amounts_by, TableFromC, ReadFromC, EachFromC, WriteFromC};
 
 use jer::{Judged, Reading, Readings, Refusal, Writing, report};
 use reading::each::read_each;
 
 // Stores two amounts, if there is room for both.
 fn told(amounts: &mut [u64], first: u64, second: u64)
-    ensures { amounts.new ≡ amountsAfter amounts.old first second }
+    ensures { amounts.new ≡ amounts_after amounts.old first second }
 {
     if 2 <= amounts.len() {
         amounts[0] = first;
@@ -21,7 +21,7 @@ fn told(amounts: &mut [u64], first: u64, second: u64)
 // Stores a refusal's amounts, and returns its number.
 fn refused(amounts: &mut [u64], e: Refusal) -> u32
     ensures value { result ≡ (values_of e).number }
-    ensures amounts_after { amounts.new ≡ amountsBy amounts.old (values_of e) }
+    ensures amounts_after { amounts.new ≡ amounts_by amounts.old (values_of e) }
 {
     let t = report(e);
     told(amounts, t.first, t.second);

@@ -2,7 +2,7 @@
 // struct apart and calls a covered function on the slice and the number. `outermost`, whose parameter is a plain slice, stands above, and
 // serves `reading::read`.
 ghost use Rattle.std.specs.Prelude.{◌≡◌};
-ghost use Rattle.tokens.specs.Places.{pastSpace};
+ghost use Rattle.tokens.specs.Places.{past_space};
 
 use tokens::cursor::Cursor;
 
@@ -22,7 +22,7 @@ pub fn new<'a>(src: &'a [u8]) -> Reader<'a>
 
 // The place of the next token.
 fn token_at(s: &[u8], p: usize) -> usize
-    ensures { result ≡ pastSpace s.now p }
+    ensures { result ≡ past_space s.now p }
 {
     let c = Cursor { at: p };
     let d = c.skip_space(s);
@@ -31,7 +31,7 @@ fn token_at(s: &[u8], p: usize) -> usize
 
 // Past white space.
 pub fn to_token<'a>(r: Reader<'a>) -> Reader<'a>
-    ensures { (result.src ≡ r.entry.src) × (result.at ≡ pastSpace r.entry.src.now r.entry.at) }
+    ensures { (result.src ≡ r.entry.src) × (result.at ≡ past_space r.entry.src.now r.entry.at) }
 {
     let at = token_at(r.src, r.at);
     Reader { src: r.src, at }
@@ -39,7 +39,7 @@ pub fn to_token<'a>(r: Reader<'a>) -> Reader<'a>
 
 // The place of the outermost token of a text, its length if there is none. Callers need no walk.
 pub fn outermost(s: &[u8]) -> usize
-    ensures { result ≡ pastSpace s.now 0 }
+    ensures { result ≡ past_space s.now 0 }
 {
     let r = to_token(new(s));
     r.at

@@ -2,13 +2,13 @@
 use Prim.Native.Nat.{ℕ}
 use mathlib.Core.Path.{◌≡◌}
 use mathlib.Core.Bool.{true}
-use Rattle.jer.specs.Table.{Table, mayMiss, mayBeAbsent}
+use Rattle.jer.specs.Table.{Table, may_miss, may_be_absent}
 
 module _ (t : Table) (r i : ℕ) where
-  pub left-absent : mayMiss t r i ≡ true → mayBeAbsent t r i ≡ true
-  unfolding mayMiss mayBeAbsent
+  pub left-absent : may_miss t r i ≡ true → may_be_absent t r i ≡ true
+  unfolding may_miss may_be_absent
   left-absent m = m
 
-  pub absent-left : mayBeAbsent t r i ≡ true → mayMiss t r i ≡ true
-  unfolding mayMiss mayBeAbsent
+  pub absent-left : may_be_absent t r i ≡ true → may_miss t r i ≡ true
+  unfolding may_miss may_be_absent
   absent-left m = m

@@ -6,22 +6,22 @@ use mathlib.Core.Bool.{true, ◌&&◌}
 use mathlib.Core.Option.{Option, none, some}
 use native.Mathlib.Omega.{arith}
 use lib.Dec.{eqb}
-use Rattle.jer.specs.Table.{Table, SEQUENCE-OF, kind_of, extensible, isArray, elementOf, countOf, type_at, mayMiss, openUnwrapped}
+use Rattle.jer.specs.Table.{Table, SEQUENCE-OF, kind_of, extensible, is_array, element_of, count_of, type_at, may_miss, open_unwrapped}
 use Rattle.jer.specs.Value.{Val, vcons, Parts, pnil, absent, present}
 use Rattle.jer.specs.Answer.{Res, ok}
-use Rattle.jer.specs.Read.{Element, withAbsent, withPresent, nullValue, missingElement, readElement, surplus, readElements, readItems, readArray}
-use Rattle.jer.specs.Skipped.{SameAnswer, sameValue}
+use Rattle.jer.specs.Read.{Element, with_absent, with_present, null_value, missing_element, read_element, surplus, read_elements, read_items, read_array}
+use Rattle.jer.specs.Skipped.{SameAnswer, same_value}
 use Rattle.jer.proofs.OlderAgrees.{Each, end, more}
-use Rattle.jer.proofs.AlikeSame.{same-cause, same-bind, same_map, same_test}
+use Rattle.jer.proofs.AlikeSame.{same_cause, same-bind, same_map, same_test}
 
 -- ---- members one after the other
 
-pub same-absent : {x y : Res Parts} → SameAnswer x y → SameAnswer (withAbsent x) (withAbsent y)
-unfolding withAbsent
+pub same-absent : {x y : Res Parts} → SameAnswer x y → SameAnswer (with_absent x) (with_absent y)
+unfolding with_absent
 same-absent h = same_map absent h
 
-pub same-present : {v w : Res Val} {x y : Res Parts} → SameAnswer v w → SameAnswer x y → SameAnswer (withPresent v x) (withPresent w y)
-unfolding withPresent
+pub same-present : {v w : Res Val} {x y : Res Parts} → SameAnswer v w → SameAnswer x y → SameAnswer (with_present v x) (with_present w y)
+unfolding with_present
 same-present g h = same-bind g (λ v. same_map (present v) h)
 
 -- ---- items
@@ -30,9 +30,9 @@ same-present g h = same-bind g (λ v. same_map (present v) h)
 abbrev pub ReadAlike : ℕ → Element → Element → Type 0
 ReadAlike r e f = SameAnswer (e.means r) (f.means r)
 
-pub items-same : (r : ℕ) {es fs : List Element} → Each (ReadAlike r) es fs → SameAnswer (readItems es r) (readItems fs r)
-unfolding readItems
-items-same r end = sameValue
+pub items-same : (r : ℕ) {es fs : List Element} → Each (ReadAlike r) es fs → SameAnswer (read_items es r) (read_items fs r)
+unfolding read_items
+items-same r end = same_value
 items-same r (more h t) = same-bind h (λ v. same_map (vcons v) (items-same r t))
 
 -- ---- elements in member order
@@ -42,25 +42,25 @@ pub data Elementwise (t : Table) (r : ℕ) : ℕ → List Element → List Eleme
   done : {i : ℕ} → Elementwise t r i [] []
   each : {i : ℕ} {e f : Element} {es fs : List Element} → e.is_null ≡ f.is_null → SameAnswer (e.means (type_at t r i)) (f.means (type_at t r i)) → Elementwise t r (suc i) es fs
       → Elementwise t r i (e ∷ es) (f ∷ fs)
-  rest : {i : ℕ} {es fs : List Element} → countOf t r ≤ i → extensible t r ≡ true → Elementwise t r i es fs
+  rest : {i : ℕ} {es fs : List Element} → count_of t r ≤ i → extensible t r ≡ true → Elementwise t r i es fs
 
 module _ (t : Table) (r o u : ℕ) where
-  missing-same : (i : ℕ) → SameAnswer (missingElement t r o i) (missingElement t r u i)
-  unfolding missingElement
-  missing-same i = go (nullValue t (type_at t r i)) (same_test (openUnwrapped t (type_at t r i)) (same-cause _ o u) (same-cause _ o u))
+  missing-same : (i : ℕ) → SameAnswer (missing_element t r o i) (missing_element t r u i)
+  unfolding missing_element
+  missing-same i = go (null_value t (type_at t r i)) (same_test (open_unwrapped t (type_at t r i)) (same_cause _ o u) (same_cause _ o u))
     where
       go : (x : Option Val) {y z : Res Val} → SameAnswer y z → SameAnswer {A = Val} (elim x [ some v ↦ ok v | none ↦ y ]) (elim x [ some v ↦ ok v | none ↦ z ])
       go none h = h
-      go (some v) h = sameValue
+      go (some v) h = same_value
 
-  no-element-same : (i : ℕ) {x y : Res Parts} → SameAnswer x y → SameAnswer (readElement t r o i none x) (readElement t r u i none y)
-  unfolding readElement
-  no-element-same i h = same_test (mayMiss t r i) (same-absent h) (same-present (missing-same i) h)
+  no-element-same : (i : ℕ) {x y : Res Parts} → SameAnswer x y → SameAnswer (read_element t r o i none x) (read_element t r u i none y)
+  unfolding read_element
+  no-element-same i h = same_test (may_miss t r i) (same-absent h) (same-present (missing-same i) h)
 
   element-same : (i : ℕ) (e f : Element) {x y : Res Parts} → e.is_null ≡ f.is_null → SameAnswer (e.means (type_at t r i)) (f.means (type_at t r i)) → SameAnswer x y
-      → SameAnswer (readElement t r o i (some e) x) (readElement t r u i (some f) y)
-  unfolding readElement
-  element-same i e f z m h = rw (z, readElement) (same_test (f.is_null && mayMiss t r i) (same-absent h) (same-present m h))
+      → SameAnswer (read_element t r o i (some e) x) (read_element t r u i (some f) y)
+  unfolding read_element
+  element-same i e f z m h = rw (z, read_element) (same_test (f.is_null && may_miss t r i) (same-absent h) (same-present m h))
 
   pub surplus-skipped : (es : List Element) → extensible t r ≡ true → surplus t r es ≡ ok pnil
   unfolding surplus
@@ -69,12 +69,12 @@ module _ (t : Table) (r o u : ℕ) where
 
   surplus-same : (i : ℕ) {es fs : List Element} → Elementwise t r i es fs → SameAnswer (surplus t r es) (surplus t r fs)
   unfolding surplus
-  surplus-same i done = sameValue
-  surplus-same i (each z m h) = same_test (extensible t r) sameValue (same-cause _ _ _)
-  surplus-same i (rest {es = es} {fs = fs} l x) = rw (surplus-skipped es x, surplus-skipped fs x) sameValue
+  surplus-same i done = same_value
+  surplus-same i (each z m h) = same_test (extensible t r) same_value (same_cause _ _ _)
+  surplus-same i (rest {es = es} {fs = fs} l x) = rw (surplus-skipped es x, surplus-skipped fs x) same_value
 
-  pub elements_same : (i n : ℕ) {es fs : List Element} → i + n ≡ countOf t r → Elementwise t r i es fs → SameAnswer (readElements t r o es i n) (readElements t r u fs i n)
-  unfolding readElements
+  pub elements_same : (i n : ℕ) {es fs : List Element} → i + n ≡ count_of t r → Elementwise t r i es fs → SameAnswer (read_elements t r o es i n) (read_elements t r u fs i n)
+  unfolding read_elements
   elements_same i zero c h = surplus-same i h
   elements_same i (suc n) c done = no-element-same i (elements_same (suc i) n (omega arith) done)
   elements_same i (suc n) c (each {e = e} {f = f} z m h) = element-same i e f z m (elements_same (suc i) n (omega arith) h)
@@ -82,9 +82,9 @@ module _ (t : Table) (r o u : ℕ) where
 
   -- ---- an array
 
-  pub array_same : {es fs : List Element} → Each (ReadAlike (elementOf t r)) es fs → Elementwise t r 0 es fs → SameAnswer (readArray t o es r) (readArray t u fs r)
-  unfolding readArray
+  pub array_same : {es fs : List Element} → Each (ReadAlike (element_of t r)) es fs → Elementwise t r 0 es fs → SameAnswer (read_array t o es r) (read_array t u fs r)
+  unfolding read_array
   array_same g h =
       same_test (eqb (kind_of t r) SEQUENCE-OF)
-      (same_map _ (items-same (elementOf t r) g))
-      (same_test (isArray t r) (same_map _ (elements_same 0 (countOf t r) (omega arith) h)) (same-cause _ o u))
+      (same_map _ (items-same (element_of t r) g))
+      (same_test (is_array t r) (same_map _ (elements_same 0 (count_of t r) (omega arith) h)) (same_cause _ o u))

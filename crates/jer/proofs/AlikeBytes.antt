@@ -5,16 +5,16 @@ use mathlib.Core.List.{List, [], ◌∷◌, ◌++◌}
 use mathlib.Core.Option.{none}
 use native.Mathlib.Omega.{arith}
 use lib.ListN.{length}
-use Rattle.json.specs.Bytes.{past}
-use Rattle.json.specs.Tree.{Json, place_of}
-use Rattle.json.specs.Grammar.{Value, literalNull, literalTrue, literalFalse, whole, real, string, noElements, elements, noMembers, members, Text}
-use Rattle.json.proofs.Takes.{takes-text}
+use Rattle.json_text.specs.Bytes.{past}
+use Rattle.json_text.specs.Tree.{Json, place_of}
+use Rattle.json_text.specs.Grammar.{Value, literal_null, literal_true, literal_false, whole, real, string, no_elements, elements, no_members, members, Text}
+use Rattle.json_text.proofs.Takes.{takes_text}
 use Rattle.jer.specs.Table.{Table}
-use Rattle.jer.specs.Valid.{firstBad}
+use Rattle.jer.specs.Valid.{first_bad}
 use Rattle.jer.specs.Answer.{Res}
-use Rattle.jer.specs.Skipped.{SameAnswer, sameValue, sameNumber, moved}
+use Rattle.jer.specs.Skipped.{SameAnswer, same_value, same_number, moved}
 use Rattle.jer.specs.Replaced.{Skips, Replaceable}
-use Rattle.jer.proofs.ValidSane.{valid-sane}
+use Rattle.jer.proofs.ValidSane.{valid_sane}
 use Rattle.jer.proofs.AlikeBack.{moved_back}
 use Rattle.jer.proofs.Whole.{whole-skipped}
 use Rattle.jer.proofs.AlikeElsewhere.{padded-at}
@@ -22,8 +22,8 @@ use Rattle.jer.proofs.AlikeReplaced.{text-splits}
 use Rattle.jer.proofs.SpellCalls.{read-text}
 
 same_then : {A : Type 0} {x y z : Res A} → SameAnswer x y → SameAnswer y z → SameAnswer x z
-same_then sameValue sameValue = sameValue
-same_then (sameNumber e) (sameNumber f) = sameNumber (e ∙ f)
+same_then same_value same_value = same_value
+same_then (same_number e) (same_number f) = same_number (e ∙ f)
 
 -- ---- places
 
@@ -34,26 +34,26 @@ past-length p (x ∷ xs) = omega (arith, past-length (suc p) xs)
 
 value-place : {d p : ℕ} {j : Json} {bs : List ℕ} → Value d p j bs → place_of j ≡ p
 unfolding place_of
-value-place literalNull = refl
-value-place literalTrue = refl
-value-place literalFalse = refl
+value-place literal_null = refl
+value-place literal_true = refl
+value-place literal_false = refl
 value-place (whole x) = refl
 value-place (real x y e) = refl
 value-place (string x) = refl
-value-place (noElements x e) = refl
+value-place (no_elements x e) = refl
 value-place (elements x) = refl
-value-place (noMembers x e) = refl
+value-place (no_members x e) = refl
 value-place (members x) = refl
 
 -- ---- texts
 
 -- a text has one tree
 one-tree : {d : ℕ} {j k : Json} (s : List ℕ) → Text d j s → Text d k s → j ≡ k
-one-tree {d} {j} {k} s x y = cc (takes-text d j s x, takes-text d k s y)
+one-tree {d} {j} {k} s x y = cc (takes_text d j s x, takes_text d k s y)
 
-pub skipped-bytes : {t : Table} {i j : Json} (s : List ℕ) → firstBad t ≡ none → Text 32 j s → length s ≤ 65536 → Skips t i 0 j → Replaceable t s i
+pub skipped-bytes : {t : Table} {i j : Json} (s : List ℕ) → first_bad t ≡ none → Text 32 j s → length s ≤ 65536 → Skips t i 0 j → Replaceable t s i
 skipped-bytes {t} {i} {j} s good x l h =
-    let g = valid-sane t good in
+    let g = valid_sane t good in
     let c = text-splits t i 32 h x in
     let e : past 0 c.before ≡ length c.before = omega (arith, past-length 0 c.before) in
     record {

@@ -7,21 +7,21 @@ use mathlib.Core.Option.{Option, none, some}
 use native.Mathlib.Omega.{arith}
 use lib.Dec.{eqb}
 use borrow.Author.Tests.{eqb-true}
-use Rattle.json.specs.Tree.{jnull}
-use Rattle.jer.specs.Table.{Table, NULL, kind_of, extensible, isUnwrapped, countOf, type_at, mayMiss, tNull, alternative, openUnwrapped}
-use Rattle.jer.specs.Value.{Val, vNull, vChoice, vcons, Parts, absent, present}
+use Rattle.json_text.specs.Tree.{jnull}
+use Rattle.jer.specs.Table.{Table, NULL, kind_of, extensible, is_unwrapped, count_of, type_at, may_miss, t_null, alternative, open_unwrapped}
+use Rattle.jer.specs.Value.{Val, v_null, v_choice, vcons, Parts, absent, present}
 use Rattle.jer.specs.Answer.{Res, ok, bind}
-use Rattle.jer.specs.Read.{Element, withAbsent, withPresent, nullValue, missingElement, readElement, surplus, readElements, readItems, null?, read}
-use Rattle.jer.specs.Moved.{tokenIn}
-use Rattle.jer.specs.Skipped.{SameAnswer, sameValue, sameNumber}
+use Rattle.jer.specs.Read.{Element, with_absent, with_present, null_value, missing_element, read_element, surplus, read_elements, read_items, null?, read}
+use Rattle.jer.specs.Moved.{token_in}
+use Rattle.jer.specs.Skipped.{SameAnswer, same_value, same_number}
 use Rattle.jer.proofs.JudgeRead.{null-kind}
 use Rattle.jer.proofs.ValidLaws.{alternative-some}
 use Rattle.jer.proofs.WeightGot.{cases, refused, nothing, got, found, steps}
 use Rattle.jer.proofs.OlderAgrees.{Each, end, more}
 use Rattle.jer.proofs.OlderChoice.{refused-both}
 use Rattle.jer.proofs.SpellRead.{null-read, null-is-value}
-use Rattle.jer.proofs.AlikeRead.{wrapped, picked-as}
-use Rattle.jer.proofs.AlikeSame.{same-cause, same_test}
+use Rattle.jer.proofs.AlikeRead.{wrapped, picked_as}
+use Rattle.jer.proofs.AlikeSame.{same_cause, same_test}
 use Rattle.jer.proofs.AlikeArray.{done, rest, elements_same}
 
 -- ---- results
@@ -30,8 +30,8 @@ pub record Keeps {A : Type 0} (x y : Res A) : Type 0 where
   pub keeps : (a : A) → x ≡ ok a → y ≡ ok a
 
 pub keeps_same : {A : Type 0} {x y : Res A} → SameAnswer x y → Keeps x y
-keeps_same sameValue = record { keeps = λ a e. e }
-keeps_same (sameNumber n) = record { keeps = λ a e. refused e }
+keeps_same same_value = record { keeps = λ a e. e }
+keeps_same (same_number n) = record { keeps = λ a e. refused e }
 
 pub keeps-bind : {A B : Type 0} {x y : Res A} {f g : A → Res B} → Keeps x y → ((a : A) → Keeps (f a) (g a)) → Keeps (bind x f) (bind y g)
 unfolding bind
@@ -44,12 +44,12 @@ pub keeps-test : {A : Type 0} (c : Bool) {x y u w : Res A} → Keeps x y → Kee
 keeps-test true h k = h
 keeps-test false h k = k
 
-pub keeps-absent : {x y : Res Parts} → Keeps x y → Keeps (withAbsent x) (withAbsent y)
-unfolding withAbsent
+pub keeps-absent : {x y : Res Parts} → Keeps x y → Keeps (with_absent x) (with_absent y)
+unfolding with_absent
 keeps-absent h = keeps-map absent h
 
-pub keeps-present : {v w : Res Val} {x y : Res Parts} → Keeps v w → Keeps x y → Keeps (withPresent v x) (withPresent w y)
-unfolding withPresent
+pub keeps-present : {v w : Res Val} {x y : Res Parts} → Keeps v w → Keeps x y → Keeps (with_present v x) (with_present w y)
+unfolding with_present
 keeps-present g h = keeps-bind g (λ v. keeps-map (present v) h)
 
 -- ---- items
@@ -57,47 +57,47 @@ keeps-present g h = keeps-bind g (λ v. keeps-map (present v) h)
 abbrev pub KeptAt : ℕ → Element → Element → Type 0
 KeptAt r e f = Keeps (e.means r) (f.means r)
 
-pub items_kept : (r : ℕ) {es fs : List Element} → Each (KeptAt r) es fs → Keeps (readItems es r) (readItems fs r)
-unfolding readItems
-items_kept r end = keeps_same sameValue
+pub items_kept : (r : ℕ) {es fs : List Element} → Each (KeptAt r) es fs → Keeps (read_items es r) (read_items fs r)
+unfolding read_items
+items_kept r end = keeps_same same_value
 items_kept r (more h t) = keeps-bind h (λ v. keeps-map (vcons v) (items_kept r t))
 
 -- ---- null and a missing element
 
 -- the null value is what null is read as
-pub value-of-null : (t : Table) (r p : ℕ) (v : Val) → nullValue t r ≡ some v → read (jnull p) t r ≡ ok v
-unfolding nullValue tokenIn bind
+pub value-of-null : (t : Table) (r p : ℕ) (v : Val) → null_value t r ≡ some v → read (jnull p) t r ≡ ok v
+unfolding null_value token_in bind
 value-of-null t r p v =
-    cases (isUnwrapped t r) (λ w. chosen (alternative t r tNull) refl w) (λ w. cases (eqb (kind_of t r) NULL) (λ k e. null-read t r p (eqb-true _ _ k) ∙ ap ok (found e)) (λ k e. nothing e))
+    cases (is_unwrapped t r) (λ w. chosen (alternative t r t_null) refl w) (λ w. cases (eqb (kind_of t r) NULL) (λ k e. null-read t r p (eqb-true _ _ k) ∙ ap ok (found e)) (λ k e. nothing e))
   where
-    chosen : (x : Option ℕ) → alternative t r tNull ≡ x → isUnwrapped t r ≡ true → ◌≡◌ {A = Option Val} (elim x [ none ↦ none | some i ↦ some (vChoice i vNull) ]) (some v) → read (jnull p) t r ≡ ok v
+    chosen : (x : Option ℕ) → alternative t r t_null ≡ x → is_unwrapped t r ≡ true → ◌≡◌ {A = Option Val} (elim x [ none ↦ none | some i ↦ some (v_choice i v_null) ]) (some v) → read (jnull p) t r ≡ ok v
     chosen none a w e = nothing e
     chosen (some i) a w e =
-        let k = null-kind t (type_at t r i) (alternative-some t r tNull i a).1 in
-        picked-as (jnull p) t r i w a (wrapped t _ NULL k (λ z. omega arith)) ∙ rw (null-read t (type_at t r i) p k) (ap ok (found e))
+        let k = null-kind t (type_at t r i) (alternative-some t r t_null i a).1 in
+        picked_as (jnull p) t r i w a (wrapped t _ NULL k (λ z. omega arith)) ∙ rw (null-read t (type_at t r i) p k) (ap ok (found e))
 
 module _ (t : Table) (r o u i : ℕ) where
-  null-dropped : Keeps (read (jnull o) t (type_at t r i)) (missingElement t r u i)
-  unfolding missingElement null?
-  null-dropped = record { keeps = λ v e. rw (null-is-value (jnull o) t (type_at t r i) v refl e, missingElement) }
+  null-dropped : Keeps (read (jnull o) t (type_at t r i)) (missing_element t r u i)
+  unfolding missing_element null?
+  null-dropped = record { keeps = λ v e. rw (null-is-value (jnull o) t (type_at t r i) v refl e, missing_element) }
 
-  null-added : Keeps (missingElement t r o i) (read (jnull u) t (type_at t r i))
-  unfolding missingElement
-  null-added = record { keeps = λ v. go (nullValue t (type_at t r i)) refl v }
+  null-added : Keeps (missing_element t r o i) (read (jnull u) t (type_at t r i))
+  unfolding missing_element
+  null-added = record { keeps = λ v. go (null_value t (type_at t r i)) refl v }
     where
-      go : (x : Option Val) → nullValue t (type_at t r i) ≡ x → (v : Val) → missingElement t r o i ≡ ok v → read (jnull u) t (type_at t r i) ≡ ok v
-      go none n v e = refused-both (openUnwrapped t (type_at t r i)) _ _ (rw (n, missingElement) at e)
-      go (some w) n v e = value-of-null t (type_at t r i) u v (n ∙ ap some (got (rw (n, missingElement) at e)))
+      go : (x : Option Val) → null_value t (type_at t r i) ≡ x → (v : Val) → missing_element t r o i ≡ ok v → read (jnull u) t (type_at t r i) ≡ ok v
+      go none n v e = refused-both (open_unwrapped t (type_at t r i)) _ _ (rw (n, missing_element) at e)
+      go (some w) n v e = value-of-null t (type_at t r i) u v (n ∙ ap some (got (rw (n, missing_element) at e)))
 
 -- ---- elements in member order
 
 -- what the elements es from i on are read as, fs are read as too, whatever n members are left
 abbrev pub KeptFrom : Table → ℕ → ℕ → List Element → List Element → Type 0
-KeptFrom t r i es fs = (o u n : ℕ) → i + n ≡ countOf t r → Keeps (readElements t r o es i n) (readElements t r u fs i n)
+KeptFrom t r i es fs = (o u n : ℕ) → i + n ≡ count_of t r → Keeps (read_elements t r o es i n) (read_elements t r u fs i n)
 
 -- the element that null is
-abbrev nullElement : Table → ℕ → Element
-nullElement t p = record { place = p; is_null = true; means = λ r. read (jnull p) t r }
+abbrev null_element : Table → ℕ → Element
+null_element t p = record { place = p; is_null = true; means = λ r. read (jnull p) t r }
 
 module _ (t : Table) (r i : ℕ) where
   pub none_kept : KeptFrom t r i [] []
@@ -105,20 +105,20 @@ module _ (t : Table) (r i : ℕ) where
 
   pub element-kept : (e f : Element) (es fs : List Element) → e.is_null ≡ f.is_null → Keeps (e.means (type_at t r i)) (f.means (type_at t r i)) → KeptFrom t r (suc i) es fs
       → KeptFrom t r i (e ∷ es) (f ∷ fs)
-  unfolding readElements readElement surplus
-  element-kept e f es fs z h hs o u zero c = keeps_same (same_test (extensible t r) sameValue (same-cause _ _ _))
+  unfolding read_elements read_element surplus
+  element-kept e f es fs z h hs o u zero c = keeps_same (same_test (extensible t r) same_value (same_cause _ _ _))
   element-kept e f es fs z h hs o u (suc n) c =
-      let k = hs o u n (omega arith) in rw (z, readElement) (keeps-test (f.is_null && mayMiss t r i) (keeps-absent k) (keeps-present h k))
+      let k = hs o u n (omega arith) in rw (z, read_element) (keeps-test (f.is_null && may_miss t r i) (keeps-absent k) (keeps-present h k))
 
-  pub dropped-kept : (p : ℕ) (es : List Element) → i < countOf t r → KeptFrom t r (suc i) es [] → KeptFrom t r i (nullElement t p ∷ es) []
-  unfolding readElements readElement
+  pub dropped-kept : (p : ℕ) (es : List Element) → i < count_of t r → KeptFrom t r (suc i) es [] → KeptFrom t r i (null_element t p ∷ es) []
+  unfolding read_elements read_element
   dropped-kept p es l hs o u zero c = absurd (omega arith)
-  dropped-kept p es l hs o u (suc n) c = let k = hs o u n (omega arith) in keeps-test (mayMiss t r i) (keeps-absent k) (keeps-present (null-dropped t r p u i) k)
+  dropped-kept p es l hs o u (suc n) c = let k = hs o u n (omega arith) in keeps-test (may_miss t r i) (keeps-absent k) (keeps-present (null-dropped t r p u i) k)
 
-  pub added-kept : (q : ℕ) (fs : List Element) → i < countOf t r → KeptFrom t r (suc i) [] fs → KeptFrom t r i [] (nullElement t q ∷ fs)
-  unfolding readElements readElement
+  pub added-kept : (q : ℕ) (fs : List Element) → i < count_of t r → KeptFrom t r (suc i) [] fs → KeptFrom t r i [] (null_element t q ∷ fs)
+  unfolding read_elements read_element
   added-kept q fs l hs o u zero c = absurd (omega arith)
-  added-kept q fs l hs o u (suc n) c = let k = hs o u n (omega arith) in keeps-test (mayMiss t r i) (keeps-absent k) (keeps-present (null-added t r o q i) k)
+  added-kept q fs l hs o u (suc n) c = let k = hs o u n (omega arith) in keeps-test (may_miss t r i) (keeps-absent k) (keeps-present (null-added t r o q i) k)
 
-  pub surplus-kept : (es fs : List Element) → countOf t r ≤ i → extensible t r ≡ true → KeptFrom t r i es fs
+  pub surplus-kept : (es fs : List Element) → count_of t r ≤ i → extensible t r ≡ true → KeptFrom t r i es fs
   surplus-kept es fs l x o u n c = keeps_same (elements_same t r o u i n c (rest l x))

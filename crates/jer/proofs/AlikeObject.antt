@@ -9,16 +9,16 @@ use lib.Dec.{eqb}
 use borrow.Author.Tests.{eqb-true}
 use Rattle.jer.specs.declared.Cause.TheVariants.{OtherKind}
 use Rattle.jer.specs.declared.Refusal.{Refusal}
-use Rattle.jer.specs.Table.{Table, SEQUENCE, CHOICE, kind_of, is_type, extensible, isArray, countOf, type_at, name_at, mayMiss, sameBytes, position, is_some}
-use Rattle.jer.specs.Value.{Val, vSeq, Parts}
+use Rattle.jer.specs.Table.{Table, SEQUENCE, CHOICE, kind_of, is_type, extensible, is_array, count_of, type_at, name_at, may_miss, same_bytes, position, is_some}
+use Rattle.jer.specs.Value.{Val, v_seq, Parts}
 use Rattle.jer.specs.Answer.{Res, ok, no, bind, at, number_of}
-use Rattle.jer.specs.Read.{Meaning, Entry, lookup, namesGood, nullAbsent, readMember, readMembers, readObject, readChosen, readChoice, readBraces}
-use Rattle.jer.specs.Skipped.{SameAnswer, sameValue, sameNumber}
+use Rattle.jer.specs.Read.{Meaning, Entry, lookup, names_good, null_absent, read_member, read_members, read_object, read_chosen, read_choice, read_braces}
+use Rattle.jer.specs.Skipped.{SameAnswer, same_value, same_number}
 use Rattle.jer.specs.Sane.{Sane}
-use Rattle.jer.proofs.ValidLaws.{sameBytes-eq, position-of}
+use Rattle.jer.proofs.ValidLaws.{same_bytes-eq, position-of}
 use Rattle.jer.proofs.ValidRows.{both, sequence-type}
 use Rattle.jer.proofs.OlderAgrees.{Each, end, more}
-use Rattle.jer.proofs.AlikeSame.{same-cause, same_map, same_test}
+use Rattle.jer.proofs.AlikeSame.{same_cause, same_map, same_test}
 use Rattle.jer.proofs.AlikeArray.{same-absent, same-present}
 
 module _ (t : Table) (r : ℕ) where
@@ -39,11 +39,11 @@ module _ (t : Table) (r : ℕ) where
   looked : (s : List ℕ) {es fs : List Entry} → Each Twin es fs → Looked s (lookup s es) (lookup s fs)
   unfolding lookup
   looked s end = nothing
-  looked s (more {es = es} {fs = fs} (twin {p = p} {q = q} {s = u} {z = z} {y = y} {m = m} {n = n} h) t) = go (sameBytes u s) refl (looked s t)
+  looked s (more {es = es} {fs = fs} (twin {p = p} {q = q} {s = u} {z = z} {y = y} {m = m} {n = n} h) t) = go (same_bytes u s) refl (looked s t)
     where
-      go : (c : Bool) → sameBytes u s ≡ c → Looked s (lookup s es) (lookup s fs)
+      go : (c : Bool) → same_bytes u s ≡ c → Looked s (lookup s es) (lookup s fs)
           → Looked s (lookup s (record { place = p; name = u; is_null = z; means = m } ∷ es)) (lookup s (record { place = q; name = u; is_null = y; means = n } ∷ fs))
-      go true w ih = rw (w, lookup) (found (rw (sameBytes-eq u s w) at h))
+      go true w ih = rw (w, lookup) (found (rw (same_bytes-eq u s w) at h))
       go false w ih = rw (w, lookup) ih
 
   -- ---- the names of an object
@@ -60,76 +60,76 @@ module _ (t : Table) (r : ℕ) where
       go nothing = refl
       go (found h) = refl
 
-  name-met : (es fs : List Entry) {e f : Entry} {xs ys : List Entry} → Twin e f → Each Twin xs ys → Met (namesGood t r xs es) (namesGood t r ys fs) → Met (namesGood t r (e ∷ xs) es) (namesGood t r (f ∷ ys) fs)
-      → Met (namesGood t r xs (e ∷ es)) (namesGood t r ys (f ∷ fs))
-  unfolding namesGood number_of
+  name-met : (es fs : List Entry) {e f : Entry} {xs ys : List Entry} → Twin e f → Each Twin xs ys → Met (names_good t r xs es) (names_good t r ys fs) → Met (names_good t r (e ∷ xs) es) (names_good t r (f ∷ ys) fs)
+      → Met (names_good t r xs (e ∷ es)) (names_good t r ys (f ∷ fs))
+  unfolding names_good number_of
   name-met es fs {e} {f} {xs} {ys} (twin {s = s} h) m skip keep = go (position t r s) refl
     where
-      skipping : (c : Bool) → extensible t r ≡ c → position t r s ≡ none → Met (namesGood t r xs (e ∷ es)) (namesGood t r ys (f ∷ fs))
-      skipping true x w = rw (w, x, namesGood) skip
-      skipping false x w = rw (w, x, namesGood) (refused refl)
+      skipping : (c : Bool) → extensible t r ≡ c → position t r s ≡ none → Met (names_good t r xs (e ∷ es)) (names_good t r ys (f ∷ fs))
+      skipping true x w = rw (w, x, names_good) skip
+      skipping false x w = rw (w, x, names_good) (refused refl)
 
-      keeping : (c : Bool) → is_some (lookup s ys) ≡ c → (i : ℕ) → position t r s ≡ some i → Met (namesGood t r xs (e ∷ es)) (namesGood t r ys (f ∷ fs))
-      keeping true x i w = rw (w, seen_same s m, x, namesGood) (refused refl)
-      keeping false x i w = rw (w, seen_same s m, x, namesGood) keep
+      keeping : (c : Bool) → is_some (lookup s ys) ≡ c → (i : ℕ) → position t r s ≡ some i → Met (names_good t r xs (e ∷ es)) (names_good t r ys (f ∷ fs))
+      keeping true x i w = rw (w, seen_same s m, x, names_good) (refused refl)
+      keeping false x i w = rw (w, seen_same s m, x, names_good) keep
 
-      go : (x : Option ℕ) → position t r s ≡ x → Met (namesGood t r xs (e ∷ es)) (namesGood t r ys (f ∷ fs))
+      go : (x : Option ℕ) → position t r s ≡ x → Met (names_good t r xs (e ∷ es)) (names_good t r ys (f ∷ fs))
       go none w = skipping (extensible t r) refl w
       go (some i) w = keeping (is_some (lookup s ys)) refl i w
 
-  names-met : {es fs xs ys : List Entry} → Each Twin es fs → Each Twin xs ys → Met (namesGood t r xs es) (namesGood t r ys fs)
-  unfolding namesGood
+  names-met : {es fs xs ys : List Entry} → Each Twin es fs → Each Twin xs ys → Met (names_good t r xs es) (names_good t r ys fs)
+  unfolding names_good
   names-met end m = met m
   names-met (more {es = es} {fs = fs} h t) m = name-met es fs h m (names-met t m) (names-met t (more h m))
 
   -- ---- members in table order
 
   member-same : (o u i : ℕ) {x y : Option Entry} {v w : Res Parts} → position t r (name_at t r i) ≡ some i → Looked (name_at t r i) x y → SameAnswer v w
-      → SameAnswer (readMember t r o i x v) (readMember t r u i y w)
-  unfolding readMember
-  member-same o u i a nothing h = same_test (mayMiss t r i) (same-absent h) (same-cause _ o u)
+      → SameAnswer (read_member t r o i x v) (read_member t r u i y w)
+  unfolding read_member
+  member-same o u i a nothing h = same_test (may_miss t r i) (same-absent h) (same_cause _ o u)
   member-same o u i a (found {e = e} {f = f} k) h =
-      let b = k i a in rw (b.0, readMember) (same_test (f.is_null && nullAbsent t r i) (same-absent h) (same-present b.1 h))
+      let b = k i a in rw (b.0, read_member) (same_test (f.is_null && null_absent t r i) (same-absent h) (same-present b.1 h))
 
   module _ (g : Sane t) (k : is_type t r ≡ true) (o u : ℕ) where
-    members-same : (i n : ℕ) {xs ys : List Entry} → i + n ≡ countOf t r → Each Twin xs ys → SameAnswer (readMembers t r o xs i n) (readMembers t r u ys i n)
-    unfolding readMembers
-    members-same i zero c h = sameValue
+    members-same : (i n : ℕ) {xs ys : List Entry} → i + n ≡ count_of t r → Each Twin xs ys → SameAnswer (read_members t r o xs i n) (read_members t r u ys i n)
+    unfolding read_members
+    members-same i zero c h = same_value
     members-same i (suc n) c h = member-same o u i (position-of t r i g k (omega arith)) (looked (name_at t r i) h) (members-same (suc i) n (omega arith) h)
 
-    object-same : {es fs : List Entry} → Each Twin es fs → SameAnswer (readObject t o es r) (readObject t u fs r)
-    unfolding readObject bind
+    object-same : {es fs : List Entry} → Each Twin es fs → SameAnswer (read_object t o es r) (read_object t u fs r)
+    unfolding read_object bind
     object-same h = go (names-met h end)
       where
         go : {x y : Res (List Entry)} → Met x y
-            → SameAnswer (bind x (λ xs. bind (readMembers t r o xs 0 (countOf t r)) (λ ps. ok (vSeq ps)))) (bind y (λ ys. bind (readMembers t r u ys 0 (countOf t r)) (λ ps. ok (vSeq ps))))
-        go (met m) = same_map vSeq (members-same 0 (countOf t r) (omega arith) m)
-        go (refused n) = sameNumber n
+            → SameAnswer (bind x (λ xs. bind (read_members t r o xs 0 (count_of t r)) (λ ps. ok (v_seq ps)))) (bind y (λ ys. bind (read_members t r u ys 0 (count_of t r)) (λ ps. ok (v_seq ps))))
+        go (met m) = same_map v_seq (members-same 0 (count_of t r) (omega arith) m)
+        go (refused n) = same_number n
 
   -- ---- a wrapped choice
 
-  chosen-same : (o u : ℕ) {e f : Entry} → Twin e f → SameAnswer (readChosen t r o e (position t r e.name)) (readChosen t r u f (position t r f.name))
-  unfolding readChosen
+  chosen-same : (o u : ℕ) {e f : Entry} → Twin e f → SameAnswer (read_chosen t r o e (position t r e.name)) (read_chosen t r u f (position t r f.name))
+  unfolding read_chosen
   chosen-same o u {e} {f} (twin {s = s} h) = go (position t r s) h
     where
-      go : (x : Option ℕ) → ((i : ℕ) → x ≡ some i → (e.is_null ≡ f.is_null) × SameAnswer (e.means (type_at t r i)) (f.means (type_at t r i))) → SameAnswer (readChosen t r o e x) (readChosen t r u f x)
-      go none k = same_test (extensible t r) (same-cause _ o u) (same-cause _ _ _)
+      go : (x : Option ℕ) → ((i : ℕ) → x ≡ some i → (e.is_null ≡ f.is_null) × SameAnswer (e.means (type_at t r i)) (f.means (type_at t r i))) → SameAnswer (read_chosen t r o e x) (read_chosen t r u f x)
+      go none k = same_test (extensible t r) (same_cause _ o u) (same_cause _ _ _)
       go (some i) k = same_map _ (k i refl).1
 
-  choice-same : (o u : ℕ) {es fs : List Entry} → Each Twin es fs → SameAnswer (readChoice t r o es) (readChoice t r u fs)
-  unfolding readChoice
-  choice-same o u end = same-cause _ o u
+  choice-same : (o u : ℕ) {es fs : List Entry} → Each Twin es fs → SameAnswer (read_choice t r o es) (read_choice t r u fs)
+  unfolding read_choice
+  choice-same o u end = same_cause _ o u
   choice-same o u (more h end) = chosen-same o u h
-  choice-same o u (more h (more k t)) = same-cause _ o u
+  choice-same o u (more h (more k t)) = same_cause _ o u
 
 -- ---- an object
 
-pub braces-same : (t : Table) (r o u : ℕ) → Sane t → {es fs : List Entry} → Each (Twin t r) es fs → SameAnswer (readBraces t o es r) (readBraces t u fs r)
-unfolding readBraces
+pub braces-same : (t : Table) (r o u : ℕ) → Sane t → {es fs : List Entry} → Each (Twin t r) es fs → SameAnswer (read_braces t o es r) (read_braces t u fs r)
+unfolding read_braces
 braces-same t r o u g {es} {fs} h =
-    same_test (eqb (kind_of t r) CHOICE) (choice-same t r o u h) (sequence (eqb (kind_of t r) SEQUENCE && not (isArray t r)) refl)
+    same_test (eqb (kind_of t r) CHOICE) (choice-same t r o u h) (sequence (eqb (kind_of t r) SEQUENCE && not (is_array t r)) refl)
   where
-    sequence : (c : Bool) → (eqb (kind_of t r) SEQUENCE && not (isArray t r)) ≡ c
-        → SameAnswer {A = Val} (elim c [ true ↦ readObject t o es r | false ↦ at OtherKind o ]) (elim c [ true ↦ readObject t u fs r | false ↦ at OtherKind u ])
+    sequence : (c : Bool) → (eqb (kind_of t r) SEQUENCE && not (is_array t r)) ≡ c
+        → SameAnswer {A = Val} (elim c [ true ↦ read_object t o es r | false ↦ at OtherKind o ]) (elim c [ true ↦ read_object t u fs r | false ↦ at OtherKind u ])
     sequence true w = object-same t r g (sequence-type t r (eqb-true (kind_of t r) SEQUENCE ((both _ _).0 w).0)) o u h
-    sequence false w = same-cause _ o u
+    sequence false w = same_cause _ o u

@@ -4,15 +4,15 @@ use mathlib.Core.Path.{◌≡◌, refl}
 use mathlib.Core.List.{List, [], ◌∷◌, ◌++◌}
 use mathlib.Core.Option.{Option, none, some}
 use native.Mathlib.Omega.{arith}
-use Rattle.json.specs.Bytes.{past}
-use Rattle.json.specs.Tree.{Json, jarr, jobj, Items, inil, icons, Members, mnil, mcons}
-use Rattle.json.specs.Grammar.{Value, noElements, elements, noMembers, members, Padded, padded, Elements, Named}
+use Rattle.json_text.specs.Bytes.{past}
+use Rattle.json_text.specs.Tree.{Json, jarr, jobj, Items, inil, icons, Members, mnil, mcons}
+use Rattle.json_text.specs.Grammar.{Value, no_elements, elements, no_members, members, Padded, padded, Elements, Named}
 use Rattle.jer.specs.Table.{Table, position}
 use Rattle.jer.specs.Moved as moved
 use Rattle.jer.specs.Moved.{Moved, MovedItems, MovedMembers}
 use Rattle.jer.specs.Skipped as skip
 use Rattle.jer.specs.Skipped.{SkipAlike, SkipAlikeItems, SkipAlikeElements, SkipAlikeMembers}
-use Rattle.jer.specs.Replaced.{Skips, inItems, inElements, inMembers, inPicked, SkipsItems, inItem, laterItem, SkipsElements, inElement, laterElement, surplusElement, SkipsMembers, inMember, laterMember, unknownMember}
+use Rattle.jer.specs.Replaced.{Skips, in_items, in_elements, in_members, in_picked, SkipsItems, in_item, later_item, SkipsElements, in_element, later_element, surplus_element, SkipsMembers, in_member, later_member, unknown_member}
 use Rattle.jer.proofs.AlikeElsewhere.{Made, more-brackets}
 use Rattle.jer.proofs.AlikeSplit.{Split, behind, before, padded-split, first-element, later-elements, first_member, later-members}
 
@@ -65,13 +65,13 @@ module _ (i : Json) where
 
   in_array : (o : ℕ) (is : Items) (L : Items → Type 0) (K : Json → Type 0) → (is ≡ inil → ⊥) → ((q : ℕ) (js : Items) → L js → K (jarr q js)) → ElementsSplit is L → ValueSplits (jarr o is) K
   unfolding past
-  in_array o is L K n f h d p bs (noElements x e) = absurd (n refl)
+  in_array o is L K n f h d p bs (no_elements x e) = absurd (n refl)
   in_array o is L K n f h d p bs (elements {d = c} {bs = xs} x) =
       behind (0x5B ∷ []) refl (h c (suc p) xs x) (λ m cs a. rw (more-brackets m c) record { tree = _; text = elements a.text; like = f _ _ a.like })
 
   in-object : (o : ℕ) (ms : Members) (L : Members → Type 0) (K : Json → Type 0) → (ms ≡ mnil → ⊥) → ((q : ℕ) (ns : Members) → L ns → K (jobj q ns)) → NamedSplit ms L → ValueSplits (jobj o ms) K
   unfolding past
-  in-object o ms L K n f h d p bs (noMembers x e) = absurd (n refl)
+  in-object o ms L K n f h d p bs (no_members x e) = absurd (n refl)
   in-object o ms L K n f h d p bs (members {d = c} {bs = xs} x) =
       behind (0x7B ∷ []) refl (h c (suc p) xs x) (λ m cs a. rw (more-brackets m c) record { tree = _; text = members a.text; like = f _ _ a.like })
 
@@ -82,7 +82,7 @@ moved-items moved.no_item = skip.no_item
 moved-items (moved.item h hs) = skip.item (skip.moved h) (moved-items hs)
 
 moved-elements : {t : Table} {r n : ℕ} {is js : Items} → MovedItems is js → SkipAlikeElements t r n is js
-moved-elements moved.no_item = skip.noElement
+moved-elements moved.no_item = skip.no_element
 moved-elements (moved.item h hs) = skip.element (skip.moved h) (moved-elements hs)
 
 moved-member : (t : Table) (r p q : ℕ) (s : List ℕ) {j k : Json} {ms ns : Members} → Moved j k → SkipAlikeMembers t r ms ns → SkipAlikeMembers t r (mcons p s j ms) (mcons q s k ns)
@@ -93,25 +93,25 @@ moved-member t r p q s {j} {k} {ms} {ns} h hs = go (position t r s) refl
     go (some i) w = skip.known w (skip.moved h) hs
 
 moved-members : {t : Table} {r : ℕ} {ms ns : Members} → MovedMembers ms ns → SkipAlikeMembers t r ms ns
-moved-members moved.noMember = skip.noMember
+moved-members moved.no_member = skip.no_member
 moved-members {t} {r} (moved.member {p = p} {q = q} {s = s} h hs) = moved-member t r p q s h (moved-members hs)
 
 -- ---- the way to a skipped value
 
 module _ {t : Table} {i : Json} where
   some_item : {r : ℕ} {is : Items} → SkipsItems t i r is → is ≡ inil → ⊥
-  some_item (inItem h) e = let z : ◌≡◌ {A = ℕ} 0 1 = cc in omega arith
-  some_item (laterItem h) e = let z : ◌≡◌ {A = ℕ} 0 1 = cc in omega arith
+  some_item (in_item h) e = let z : ◌≡◌ {A = ℕ} 0 1 = cc in omega arith
+  some_item (later_item h) e = let z : ◌≡◌ {A = ℕ} 0 1 = cc in omega arith
 
   some-element : {r n : ℕ} {is : Items} → SkipsElements t i r n is → is ≡ inil → ⊥
-  some-element (inElement h) e = let z : ◌≡◌ {A = ℕ} 0 1 = cc in omega arith
-  some-element (laterElement h) e = let z : ◌≡◌ {A = ℕ} 0 1 = cc in omega arith
-  some-element (surplusElement l x w) e = let z : ◌≡◌ {A = ℕ} 0 1 = cc in omega arith
+  some-element (in_element h) e = let z : ◌≡◌ {A = ℕ} 0 1 = cc in omega arith
+  some-element (later_element h) e = let z : ◌≡◌ {A = ℕ} 0 1 = cc in omega arith
+  some-element (surplus_element l x w) e = let z : ◌≡◌ {A = ℕ} 0 1 = cc in omega arith
 
   some-member : {r : ℕ} {ms : Members} → SkipsMembers t i r ms → ms ≡ mnil → ⊥
-  some-member (inMember a h) e = let z : ◌≡◌ {A = ℕ} 0 1 = cc in omega arith
-  some-member (laterMember h) e = let z : ◌≡◌ {A = ℕ} 0 1 = cc in omega arith
-  some-member (unknownMember a x w) e = let z : ◌≡◌ {A = ℕ} 0 1 = cc in omega arith
+  some-member (in_member a h) e = let z : ◌≡◌ {A = ℕ} 0 1 = cc in omega arith
+  some-member (later_member h) e = let z : ◌≡◌ {A = ℕ} 0 1 = cc in omega arith
+  some-member (unknown_member a x w) e = let z : ◌≡◌ {A = ℕ} 0 1 = cc in omega arith
 
 module _ (t : Table) (i : Json) where
   picked-splits : (j : Json) (K L : Json → Type 0) → ((k : Json) → K k → L k) → ValueSplits i j K → ValueSplits i j L
@@ -120,24 +120,24 @@ module _ (t : Table) (i : Json) where
 
   mutual
     pub splits : {r : ℕ} {j : Json} → Skips t i r j → ValueSplits i j (SkipAlike t r j)
-    splits (inItems {r = r} {p = p} {is = is} c h) = in_array i p is _ _ (some_item h) (λ q js. skip.items c) (items-split h)
-    splits (inElements {r = r} {p = p} {is = is} c h) = in_array i p is _ _ (some-element h) (λ q js. skip.elements c) (elements-split h)
-    splits (inMembers {r = r} {p = p} {ms = ms} c h) = in-object i p ms _ _ (some-member h) (λ q ns. skip.members c) (members-split h)
-    splits (inPicked {j = j} c a h) = picked-splits j _ _ (λ k. skip.picked c a) (splits h)
+    splits (in_items {r = r} {p = p} {is = is} c h) = in_array i p is _ _ (some_item h) (λ q js. skip.items c) (items-split h)
+    splits (in_elements {r = r} {p = p} {is = is} c h) = in_array i p is _ _ (some-element h) (λ q js. skip.elements c) (elements-split h)
+    splits (in_members {r = r} {p = p} {ms = ms} c h) = in-object i p ms _ _ (some-member h) (λ q ns. skip.members c) (members-split h)
+    splits (in_picked {j = j} c a h) = picked-splits j _ _ (λ k. skip.picked c a) (splits h)
 
     items-split : {r : ℕ} {is : Items} → SkipsItems t i r is → ElementsSplit i is (SkipAlikeItems t r is)
-    items-split (inItem {j = j} {is = is} h) = first-in i j _ is _ (λ k js a m. skip.item a (moved-items m)) (in-padded i j _ (splits h))
-    items-split (laterItem {j = j} {is = is} h) = later-in i j is _ _ (some_item h) (λ k js m a. skip.item (skip.moved m) a) (items-split h)
+    items-split (in_item {j = j} {is = is} h) = first-in i j _ is _ (λ k js a m. skip.item a (moved-items m)) (in-padded i j _ (splits h))
+    items-split (later_item {j = j} {is = is} h) = later-in i j is _ _ (some_item h) (λ k js m a. skip.item (skip.moved m) a) (items-split h)
 
     elements-split : {r n : ℕ} {is : Items} → SkipsElements t i r n is → ElementsSplit i is (SkipAlikeElements t r n is)
-    elements-split (inElement {j = j} {is = is} h) = first-in i j _ is _ (λ k js a m. skip.element a (moved-elements m)) (in-padded i j _ (splits h))
-    elements-split (laterElement {j = j} {is = is} h) = later-in i j is _ _ (some-element h) (λ k js m a. skip.element (skip.moved m) a) (elements-split h)
-    elements-split (surplusElement {j = j} {is = is} l x w) = first-in i j (λ k. Unit {0}) is _ (λ k js a m. skip.surplus l x) (λ d p bs v. padded-split (rw w at v))
+    elements-split (in_element {j = j} {is = is} h) = first-in i j _ is _ (λ k js a m. skip.element a (moved-elements m)) (in-padded i j _ (splits h))
+    elements-split (later_element {j = j} {is = is} h) = later-in i j is _ _ (some-element h) (λ k js m a. skip.element (skip.moved m) a) (elements-split h)
+    elements-split (surplus_element {j = j} {is = is} l x w) = first-in i j (λ k. Unit {0}) is _ (λ k js a m. skip.surplus l x) (λ d p bs v. padded-split (rw w at v))
 
     members-split : {r : ℕ} {ms : Members} → SkipsMembers t i r ms → NamedSplit i ms (SkipAlikeMembers t r ms)
-    members-split (inMember {p = p} {s = s} {j = j} {ms = ms} a h) = first-named i j _ p s ms _ (λ k ns b m. skip.known a b (moved-members m)) (in-padded i j _ (splits h))
-    members-split (laterMember {r = r} {p = p} {s = s} {j = j} {ms = ms} h) = later-named i p s j ms _ _ (some-member h) (λ k ns m a. moved-member t r p p s m a) (members-split h)
-    members-split (unknownMember {p = p} {s = s} {j = j} {ms = ms} a x w) =
+    members-split (in_member {p = p} {s = s} {j = j} {ms = ms} a h) = first-named i j _ p s ms _ (λ k ns b m. skip.known a b (moved-members m)) (in-padded i j _ (splits h))
+    members-split (later_member {r = r} {p = p} {s = s} {j = j} {ms = ms} h) = later-named i p s j ms _ _ (some-member h) (λ k ns m a. moved-member t r p p s m a) (members-split h)
+    members-split (unknown_member {p = p} {s = s} {j = j} {ms = ms} a x w) =
         first-named i j (λ k. Unit {0}) p s ms _ (λ k ns b m. skip.unknown a (moved-members m)) (λ d p bs v. padded-split (rw w at v))
 
   -- a text that has a skipped value in it splits there

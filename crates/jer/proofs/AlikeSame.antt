@@ -5,28 +5,28 @@ use mathlib.Core.List.{List, [], ◌∷◌}
 use mathlib.Core.Bool.{Bool, true, false, ◌&&◌}
 use mathlib.Core.Option.{Option, none, some}
 use lib.Dec.{eqb, ltb, leb}
-use Rattle.json.specs.Bytes.{Row, on, pick}
+use Rattle.json_text.specs.Bytes.{Row, on, pick}
 use Rattle.jer.specs.declared.Cause.{Cause}
-use Rattle.jer.specs.Table.{Table, ENUMERATED, OCTET-STRING, UTF8String, kind_of, extensible, isUnwrapped, type_at, position, Token, alternative}
+use Rattle.jer.specs.Table.{Table, ENUMERATED, OCTET-STRING, UTF8String, kind_of, extensible, is_unwrapped, type_at, position, Token, alternative}
 use Rattle.jer.specs.Value.{Val}
 use Rattle.jer.specs.Answer.{Res, ok, bind, at, number_of}
-use Rattle.jer.specs.Read.{Meaning, readInt, readItem, readOctets, octetsOf, readString, atKind, picked, unwrapping}
-use Rattle.jer.specs.Skipped.{SameAnswer, sameValue, sameNumber}
+use Rattle.jer.specs.Read.{Meaning, read_int, read_item, read_octets, octets_of, read_string, at_kind, picked, unwrapping}
+use Rattle.jer.specs.Skipped.{SameAnswer, same_value, same_number}
 
 -- ---- results
 
 -- the same cause at two places
-pub same-cause : {A : Type 0} (c : Cause) (p q : ℕ) → SameAnswer {A = A} (at c p) (at c q)
+pub same_cause : {A : Type 0} (c : Cause) (p q : ℕ) → SameAnswer {A = A} (at c p) (at c q)
 unfolding number_of
-same-cause c p q = sameNumber refl
+same_cause c p q = same_number refl
 
 pub same-bind : {A B : Type 0} {x y : Res A} {f g : A → Res B} → SameAnswer x y → ((a : A) → SameAnswer (f a) (g a)) → SameAnswer (bind x f) (bind y g)
 unfolding bind
-same-bind (sameValue {a = a}) h = h a
-same-bind (sameNumber e) h = sameNumber e
+same-bind (same_value {a = a}) h = h a
+same-bind (same_number e) h = same_number e
 
 pub same_map : {A B : Type 0} {x y : Res A} (f : A → B) → SameAnswer x y → SameAnswer (bind x (λ a. ok (f a))) (bind y (λ a. ok (f a)))
-same_map f h = same-bind h (λ a. sameValue)
+same_map f h = same-bind h (λ a. same_value)
 
 -- one test with two outcomes in each
 pub same_test : {A : Type 0} (c : Bool) {x y u w : Res A} → SameAnswer x y → SameAnswer u w
@@ -42,44 +42,44 @@ same-pick k lo hi f g rs us x y h t = same_test (leb lo k && leb k hi) h t
 -- ---- leaves
 
 module _ (t : Table) (p q : ℕ) where
-  pub int_same : (m : Bool) (n : ℕ) → SameAnswer (readInt p m n) (readInt q m n)
-  unfolding readInt
-  int_same false n = same_test (ltb n (2 ^ 63)) sameValue (same-cause _ p q)
-  int_same true zero = sameValue
-  int_same true (suc n) = same_test (leb (suc n) (2 ^ 63)) sameValue (same-cause _ p q)
+  pub int_same : (m : Bool) (n : ℕ) → SameAnswer (read_int p m n) (read_int q m n)
+  unfolding read_int
+  int_same false n = same_test (ltb n (2 ^ 63)) same_value (same_cause _ p q)
+  int_same true zero = same_value
+  int_same true (suc n) = same_test (leb (suc n) (2 ^ 63)) same_value (same_cause _ p q)
 
-  item-same : (r : ℕ) (x : Option ℕ) → SameAnswer (readItem t r p x) (readItem t r q x)
-  unfolding readItem
-  item-same r none = same_test (extensible t r) (same-cause _ p q) (same-cause _ p q)
-  item-same r (some i) = sameValue
+  item-same : (r : ℕ) (x : Option ℕ) → SameAnswer (read_item t r p x) (read_item t r q x)
+  unfolding read_item
+  item-same r none = same_test (extensible t r) (same_cause _ p q) (same_cause _ p q)
+  item-same r (some i) = same_value
 
-  pub octets-same : (x : Option (List ℕ)) → SameAnswer (readOctets p x) (readOctets q x)
-  unfolding readOctets
-  octets-same none = same-cause _ p q
-  octets-same (some os) = sameValue
+  pub octets-same : (x : Option (List ℕ)) → SameAnswer (read_octets p x) (read_octets q x)
+  unfolding read_octets
+  octets-same none = same_cause _ p q
+  octets-same (some os) = same_value
 
   nothing-same : (k : ℕ) (c : Cause) → SameAnswer {A = Val} (pick k [] (at c p)) (pick k [] (at c q))
   unfolding pick
-  nothing-same k c = same-cause c p q
+  nothing-same k c = same_cause c p q
 
-  pub string-same : (s : List ℕ) (r : ℕ) → SameAnswer (readString t p s r) (readString t q s r)
-  unfolding readString
+  pub string-same : (s : List ℕ) (r : ℕ) → SameAnswer (read_string t p s r) (read_string t q s r)
+  unfolding read_string
   string-same s r =
       same-pick (kind_of t r) ENUMERATED ENUMERATED _ _ _ _ _ _ (item-same r (position t r s))
-      (same-pick (kind_of t r) OCTET-STRING OCTET-STRING _ _ _ _ _ _ (octets-same (octetsOf t r s))
-      (same-pick (kind_of t r) UTF8String UTF8String _ _ _ _ _ _ sameValue (nothing-same (kind_of t r) _)))
+      (same-pick (kind_of t r) OCTET-STRING OCTET-STRING _ _ _ _ _ _ (octets-same (octets_of t r s))
+      (same-pick (kind_of t r) UTF8String UTF8String _ _ _ _ _ _ same_value (nothing-same (kind_of t r) _)))
 
-  pub kind-same : (k r : ℕ) {x y : Res Val} → SameAnswer x y → SameAnswer (atKind t r k p x) (atKind t r k q y)
-  unfolding atKind
-  kind-same k r h = same_test (eqb (kind_of t r) k) h (same-cause _ p q)
+  pub kind-same : (k r : ℕ) {x y : Res Val} → SameAnswer x y → SameAnswer (at_kind t r k p x) (at_kind t r k q y)
+  unfolding at_kind
+  kind-same k r h = same_test (eqb (kind_of t r) k) h (same_cause _ p q)
 
   -- ---- UNWRAPPED choices
 
   picked_same : (f g : Meaning) (r : ℕ) → ((r : ℕ) → SameAnswer (f r) (g r)) → (x : Option ℕ) → SameAnswer (picked t r p f x) (picked t r q g x)
   unfolding picked
-  picked_same f g r h none = same_test (extensible t r) (same-cause _ p q) (same-cause _ p q)
+  picked_same f g r h none = same_test (extensible t r) (same_cause _ p q) (same_cause _ p q)
   picked_same f g r h (some i) = same_map _ (h (type_at t r i))
 
   pub unwrapping-same : (k : Token) (f g : Meaning) → ((r : ℕ) → SameAnswer (f r) (g r)) → (r : ℕ) → SameAnswer (unwrapping t k p f r) (unwrapping t k q g r)
   unfolding unwrapping
-  unwrapping-same k f g h r = same_test (isUnwrapped t r) (picked_same f g r h (alternative t r k)) (h r)
+  unwrapping-same k f g h r = same_test (is_unwrapped t r) (picked_same f g r h (alternative t r k)) (h r)

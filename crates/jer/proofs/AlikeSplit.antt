@@ -3,10 +3,10 @@ use Prim.Native.Nat.{ℕ, suc, ◌+◌}
 use mathlib.Core.Path.{◌≡◌, refl, sym, ◌∙◌}
 use mathlib.Core.List.{List, [], ◌∷◌, ◌++◌, append_assoc}
 use native.Mathlib.Omega.{arith}
-use Rattle.json.specs.Bytes.{past}
-use Rattle.json.specs.Tree.{Json, Items, inil, icons, Members, mnil, mcons}
-use Rattle.json.specs.Grammar.{Value, Padded, padded, Elements, lastElement, moreElements, Named, lastMember, moreMembers, Name, name}
-use Rattle.json.proofs.SoundRows.{past-append}
+use Rattle.json_text.specs.Bytes.{past}
+use Rattle.json_text.specs.Tree.{Json, Items, inil, icons, Members, mnil, mcons}
+use Rattle.json_text.specs.Grammar.{Value, Padded, padded, Elements, last_element, more_elements, Named, last_member, more_members, Name, name}
+use Rattle.json_text.proofs.SoundRows.{past_append}
 use Rattle.jer.specs.Moved as moved
 use Rattle.jer.specs.Moved.{Moved, MovedItems, MovedMembers}
 use Rattle.jer.proofs.AlikeElsewhere.{Made, value-at, padded-at, elements-at, named-at}
@@ -31,8 +31,8 @@ behind {p = p} lead e h f =
       after = h.after;
       brackets = h.brackets;
       whole = e ∙ rw h.whole (sym (append_assoc lead _ _));
-      value = rw (past-append p lead h.before) h.value;
-      instead = λ m j y v. rw append_assoc (f m _ (h.instead m j y (rw (past-append p lead h.before) at v)));
+      value = rw (past_append p lead h.before) h.value;
+      instead = λ m j y v. rw append_assoc (f m _ (h.instead m j y (rw (past_append p lead h.before) at v)));
     }
 
 -- bytes after, of which what they spell may move
@@ -79,21 +79,21 @@ pub record First (d p : ℕ) (j : Json) (is : Items) (bs : List ℕ) : Type 0 wh
   pub again : (m : ℕ) (k : Json) (cs : List ℕ) → Padded (m + d) p k cs → Made (λ js. Elements (m + d) p (icons k js) (cs ++ rest)) (λ js. MovedItems is js)
 
 pub first-element : {d p : ℕ} {j : Json} {is : Items} {bs : List ℕ} → Elements d p (icons j is) bs → First d p j is bs
-first-element (lastElement {xs = xs} v e) =
-    record { element = xs; rest = 0x5D ∷ []; whole = e; text = v; again = λ m k cs w. record { tree = inil; text = lastElement w refl; like = moved.no_item } }
-first-element (moreElements {p = p} {xs = xs} {ys = ys} v f x e) =
+first-element (last_element {xs = xs} v e) =
+    record { element = xs; rest = 0x5D ∷ []; whole = e; text = v; again = λ m k cs w. record { tree = inil; text = last_element w refl; like = moved.no_item } }
+first-element (more_elements {p = p} {xs = xs} {ys = ys} v f x e) =
     record {
       element = xs;
       rest = 0x2C ∷ ys;
       whole = e;
       text = v;
-      again = λ m k cs w. let y = elements-at m x (suc (past p cs)) in record { tree = _; text = moreElements w refl y.text refl; like = y.like };
+      again = λ m k cs w. let y = elements-at m x (suc (past p cs)) in record { tree = _; text = more_elements w refl y.text refl; like = y.like };
     }
 
 -- the place after bytes and a comma
 after-comma : (p : ℕ) (xs : List ℕ) → past p (xs ++ (0x2C ∷ [])) ≡ suc (past p xs)
 unfolding past
-after-comma p xs = past-append p xs (0x2C ∷ [])
+after-comma p xs = past_append p xs (0x2C ∷ [])
 
 pub record Later (d p : ℕ) (j : Json) (is : Items) (bs : List ℕ) : Type 0 where
   pub lead : List ℕ
@@ -103,14 +103,14 @@ pub record Later (d p : ℕ) (j : Json) (is : Items) (bs : List ℕ) : Type 0 wh
   pub again : (m : ℕ) (js : Items) (cs : List ℕ) → Elements (m + d) (past p lead) js cs → Made (λ k. Elements (m + d) p (icons k js) (lead ++ cs)) (λ k. Moved j k)
 
 pub later-elements : {d p : ℕ} {j : Json} {is : Items} {bs : List ℕ} → (is ≡ inil → ⊥) → Elements d p (icons j is) bs → Later d p j is bs
-later-elements n (lastElement v e) = absurd (n refl)
-later-elements n (moreElements {p = p} {xs = xs} {ys = ys} v f x e) =
+later-elements n (last_element v e) = absurd (n refl)
+later-elements n (more_elements {p = p} {xs = xs} {ys = ys} v f x e) =
     record {
       lead = xs ++ (0x2C ∷ []);
       rest = ys;
       whole = e ∙ sym (append_assoc xs (0x2C ∷ []) ys);
       text = rw (f ∙ sym (after-comma p xs)) at x;
-      again = λ m js cs w. let y = padded-at m v p in record { tree = _; text = moreElements y.text (after-comma p xs) w (append_assoc xs (0x2C ∷ []) cs); like = y.like };
+      again = λ m js cs w. let y = padded-at m v p in record { tree = _; text = more_elements y.text (after-comma p xs) w (append_assoc xs (0x2C ∷ []) cs); like = y.like };
     }
 
 -- the name, its value, and what follows
@@ -127,7 +127,7 @@ name-end : {p q r : ℕ} {s bs : List ℕ} → Name p q r s bs → r ≡ past p 
 name-end (name x e y z f g) = g
 
 pub first_member : {d p q : ℕ} {s : List ℕ} {j : Json} {ms : Members} {bs : List ℕ} → Named d p (mcons q s j ms) bs → FirstMember d p q s j ms bs
-first_member (lastMember {xs = xs} {ys = ys} n v e) =
+first_member (last_member {xs = xs} {ys = ys} n v e) =
     let g = name-end n in
     record {
       lead = xs;
@@ -135,9 +135,9 @@ first_member (lastMember {xs = xs} {ys = ys} n v e) =
       rest = 0x7D ∷ [];
       whole = e;
       text = rw g at v;
-      again = λ m k cs w. record { tree = mnil; text = lastMember (rw g at n) w refl; like = moved.noMember };
+      again = λ m k cs w. record { tree = mnil; text = last_member (rw g at n) w refl; like = moved.no_member };
     }
-first_member (moreMembers {p = p} {xs = xs} {ys = ys} {zs = zs} n v f x e) =
+first_member (more_members {p = p} {xs = xs} {ys = ys} {zs = zs} n v f x e) =
     let g = name-end n in
     record {
       lead = xs;
@@ -145,7 +145,7 @@ first_member (moreMembers {p = p} {xs = xs} {ys = ys} {zs = zs} n v f x e) =
       rest = 0x2C ∷ zs;
       whole = e;
       text = rw g at v;
-      again = λ m k cs w. let y = named-at m x (suc (past (past p xs) cs)) in record { tree = _; text = moreMembers (rw g at n) w refl y.text refl; like = y.like };
+      again = λ m k cs w. let y = named-at m x (suc (past (past p xs) cs)) in record { tree = _; text = more_members (rw g at n) w refl y.text refl; like = y.like };
     }
 
 pub record LaterMembers (d p q : ℕ) (s : List ℕ) (j : Json) (ms : Members) (bs : List ℕ) : Type 0 where
@@ -159,14 +159,14 @@ regroup : (xs ys zs : List ℕ) → (xs ++ (ys ++ (0x2C ∷ []))) ++ zs ≡ xs +
 regroup xs ys zs = simp append_assoc
 
 pub later-members : {d p q : ℕ} {s : List ℕ} {j : Json} {ms : Members} {bs : List ℕ} → (ms ≡ mnil → ⊥) → Named d p (mcons q s j ms) bs → LaterMembers d p q s j ms bs
-later-members h (lastMember n v e) = absurd (h refl)
-later-members h (moreMembers {p = p} {r = r} {xs = xs} {ys = ys} {zs = zs} n v f x e) =
+later-members h (last_member n v e) = absurd (h refl)
+later-members h (more_members {p = p} {r = r} {xs = xs} {ys = ys} {zs = zs} n v f x e) =
     let g = name-end n in
-    let o : past p (xs ++ (ys ++ (0x2C ∷ []))) ≡ suc (past r ys) = past-append p xs _ ∙ rw (← g) (after-comma r ys) in
+    let o : past p (xs ++ (ys ++ (0x2C ∷ []))) ≡ suc (past r ys) = past_append p xs _ ∙ rw (← g) (after-comma r ys) in
     record {
       lead = xs ++ (ys ++ (0x2C ∷ []));
       rest = zs;
       whole = e ∙ sym (regroup xs ys zs);
       text = rw (f ∙ sym o) at x;
-      again = λ m ns cs w. let y = padded-at m v r in record { tree = _; text = moreMembers n y.text o w (regroup xs ys cs); like = y.like };
+      again = λ m ns cs w. let y = padded-at m v r in record { tree = _; text = more_members n y.text o w (regroup xs ys cs); like = y.like };
     }

@@ -6,10 +6,10 @@ use mathlib.Core.Bool.{Bool, true, false, ◌&&◌, ◌||◌, not}
 use native.Mathlib.Omega.{arith}
 use lib.Dec.{eqb, ltb, leb}
 use borrow.Author.Tests.{eqb-true, leb-true, eq-eqb, lt-ltb}
-use Rattle.jer.specs.Table.{Table, SEQUENCE-OF, tag_of, kind_of, marksOf, extensible, elementOf, countOf, rootOf, optional, type_at, name_at, sameBytes}
+use Rattle.jer.specs.Table.{Table, SEQUENCE-OF, tag_of, kind_of, marks_of, extensible, element_of, count_of, root_of, optional, type_at, name_at, same_bytes}
 use Rattle.jer.specs.Valid.{every, implies}
 use Rattle.jer.specs.Cut.{ByAdditions}
-use Rattle.jer.proofs.ValidLaws.{every-below, sameBytes-eq}
+use Rattle.jer.proofs.ValidLaws.{every-below, same_bytes-eq}
 use Rattle.jer.proofs.ValidRows.{both}
 
 -- the newer's row, and the older's
@@ -33,23 +33,23 @@ same true b = b
 same false b = not b
 
 -- does the member i of the paired rows a and b keep the rules?
-unfoldable pub keepsMember : Table → Table → List Pair → ℕ → ℕ → ℕ → Bool
-keepsMember new old ps a b i = sameBytes (name_at new a i) (name_at old b i) && (same (optional new a i) (optional old b i) && among ps (type_at new a i) (type_at old b i))
+unfoldable pub keeps_member : Table → Table → List Pair → ℕ → ℕ → ℕ → Bool
+keeps_member new old ps a b i = same_bytes (name_at new a i) (name_at old b i) && (same (optional new a i) (optional old b i) && among ps (type_at new a i) (type_at old b i))
 
 -- do the rows a and b?
 unfoldable pub keeps : Table → Table → List Pair → ℕ → ℕ → Bool
 keeps new old ps a b =
-    eqb (tag_of new a) (tag_of old b) && (eqb (marksOf new a) (marksOf old b) && (eqb (rootOf new a) (rootOf old b)
-    && (implies (eqb (kind_of old b) SEQUENCE-OF) (among ps (elementOf new a) (elementOf old b)) && (leb (countOf old b) (countOf new a)
-    && (implies (ltb (countOf old b) (countOf new a)) (extensible old b) && every (keepsMember new old ps a b) 0 (countOf old b))))))
+    eqb (tag_of new a) (tag_of old b) && (eqb (marks_of new a) (marks_of old b) && (eqb (root_of new a) (root_of old b)
+    && (implies (eqb (kind_of old b) SEQUENCE-OF) (among ps (element_of new a) (element_of old b)) && (leb (count_of old b) (count_of new a)
+    && (implies (ltb (count_of old b) (count_of new a)) (extensible old b) && every (keeps_member new old ps a b) 0 (count_of old b))))))
 
-unfoldable pub allKeep : Table → Table → List Pair → List Pair → Bool
-allKeep new old ps [] = true
-allKeep new old ps (q ∷ qs) = keeps new old ps q.newer q.older && allKeep new old ps qs
+unfoldable pub all_keep : Table → Table → List Pair → List Pair → Bool
+all_keep new old ps [] = true
+all_keep new old ps (q ∷ qs) = keeps new old ps q.newer q.older && all_keep new old ps qs
 
 -- the whole test
-unfoldable pub byAdditions : Table → Table → List Pair → Bool
-byAdditions new old ps = among ps 0 0 && allKeep new old ps ps
+unfoldable pub by_additions : Table → Table → List Pair → Bool
+by_additions new old ps = among ps 0 0 && all_keep new old ps ps
 
 -- ---- what the test tells
 
@@ -73,21 +73,21 @@ record KeptMember (new old : Table) (ps : List Pair) (a b i : ℕ) : Type 0 wher
   optionals : optional new a i ≡ optional old b i
   types : Listed ps (type_at new a i) (type_at old b i)
 
-kept-member : (new old : Table) (ps : List Pair) (a b i : ℕ) → keepsMember new old ps a b i ≡ true → KeptMember new old ps a b i
-unfolding keepsMember
+kept-member : (new old : Table) (ps : List Pair) (a b i : ℕ) → keeps_member new old ps a b i ≡ true → KeptMember new old ps a b i
+unfolding keeps_member
 kept-member new old ps a b i h =
     let n = split _ _ h in
     let o = split _ _ n.1 in
-    record { names = sameBytes-eq _ _ n.0; optionals = same_true _ _ o.0; types = o.1 }
+    record { names = same_bytes-eq _ _ n.0; optionals = same_true _ _ o.0; types = o.1 }
 
 record Kept (new old : Table) (ps : List Pair) (a b : ℕ) : Type 0 where
   tags : tag_of new a ≡ tag_of old b
-  marks : marksOf new a ≡ marksOf old b
-  roots : rootOf new a ≡ rootOf old b
-  elements : kind_of old b ≡ SEQUENCE-OF → Listed ps (elementOf new a) (elementOf old b)
-  fewer : countOf old b ≤ countOf new a
-  grown : countOf old b < countOf new a → extensible old b ≡ true
-  members : (i : ℕ) → i < countOf old b → KeptMember new old ps a b i
+  marks : marks_of new a ≡ marks_of old b
+  roots : root_of new a ≡ root_of old b
+  elements : kind_of old b ≡ SEQUENCE-OF → Listed ps (element_of new a) (element_of old b)
+  fewer : count_of old b ≤ count_of new a
+  grown : count_of old b < count_of new a → extensible old b ≡ true
+  members : (i : ℕ) → i < count_of old b → KeptMember new old ps a b i
 
 kept : (new old : Table) (ps : List Pair) (a b : ℕ) → keeps new old ps a b ≡ true → Kept new old ps a b
 unfolding keeps
@@ -105,17 +105,17 @@ kept new old ps a b h =
       elements = λ w. told _ _ e.0 (eq-eqb _ _ w);
       fewer = leb-true _ _ f.0;
       grown = λ l. told _ _ g.0 (lt-ltb _ _ l);
-      members = λ i l. kept-member new old ps a b i (every-below (keepsMember new old ps a b) (countOf old b) g.1 i l);
+      members = λ i l. kept-member new old ps a b i (every-below (keeps_member new old ps a b) (count_of old b) g.1 i l);
     }
 
 -- a pair of the list keeps the rules
-listed-keeps : (new old : Table) (ps qs : List Pair) (a b : ℕ) → allKeep new old ps qs ≡ true → Listed qs a b → keeps new old ps a b ≡ true
-unfolding allKeep among
+listed-keeps : (new old : Table) (ps qs : List Pair) (a b : ℕ) → all_keep new old ps qs ≡ true → Listed qs a b → keeps new old ps a b ≡ true
+unfolding all_keep among
 listed-keeps new old ps [] a b h l = absurd (let z : ◌≡◌ {A = ℕ} 0 1 = cc in omega arith)
 listed-keeps new old ps (q ∷ qs) a b h l = go (eqb q.newer a && eqb q.older b) refl l (listed-keeps new old ps qs a b first.1)
   where
-    first : (keeps new old ps q.newer q.older ≡ true) × (allKeep new old ps qs ≡ true)
-    first = split (keeps new old ps q.newer q.older) (allKeep new old ps qs) h
+    first : (keeps new old ps q.newer q.older ≡ true) × (all_keep new old ps qs ≡ true)
+    first = split (keeps new old ps q.newer q.older) (all_keep new old ps qs) h
 
     go : (c : Bool) → (eqb q.newer a && eqb q.older b) ≡ c → (c || among qs a b) ≡ true → (among qs a b ≡ true → keeps new old ps a b ≡ true) → keeps new old ps a b ≡ true
     go true w l ih =
@@ -125,9 +125,9 @@ listed-keeps new old ps (q ∷ qs) a b h l = go (eqb q.newer a && eqb q.older b)
         rw (← x, ← y) first.0
     go false w l ih = ih l
 
-pub by-additions : (new old : Table) (ps : List Pair) → byAdditions new old ps ≡ true → ByAdditions new old (Listed ps)
-unfolding byAdditions
-by-additions new old ps h =
+pub by_additions_lem : (new old : Table) (ps : List Pair) → by_additions new old ps ≡ true → ByAdditions new old (Listed ps)
+unfolding by_additions
+by_additions_lem new old ps h =
     record {
       whole = (split _ _ h).0;
       tags = λ a b l. (at a b l).tags;
@@ -142,4 +142,4 @@ by-additions new old ps h =
     }
   where
     at : (a b : ℕ) → Listed ps a b → Kept new old ps a b
-    at a b l = kept new old ps a b (listed-keeps new old ps ps a b (split (among ps 0 0) (allKeep new old ps ps) h).1 l)
+    at a b l = kept new old ps a b (listed-keeps new old ps ps a b (split (among ps 0 0) (all_keep new old ps ps) h).1 l)

@@ -22,15 +22,15 @@ unfolding and_then
 after_then P Q (took a ws q o) f h k = k a ws q o h
 after_then P Q (wrong q) f h k = tt
 
-pub after-if : {A : Type 0} (P : A → List ValueRow → ℕ → ℕ → Type 0) (c : Bool) (x : Took A) (q : ℕ) → (c ≡ true → After P x) → After P (elim c [ true ↦ x | false ↦ wrong q ])
-after-if P true x q h = h refl
-after-if P false x q h = tt
+pub after_if : {A : Type 0} (P : A → List ValueRow → ℕ → ℕ → Type 0) (c : Bool) (x : Took A) (q : ℕ) → (c ≡ true → After P x) → After P (elim c [ true ↦ x | false ↦ wrong q ])
+after_if P true x q h = h refl
+after_if P false x q h = tt
 
 -- ---- rows of 32-bit numbers
 
 pub data WordRows : List ValueRow → Type 0 where
   no_row : WordRows []
-  wordRow : {w : ValueRow} {ws : List ValueRow} → w.a < 2 ^ 32 → w.b < 2 ^ 32 → WordRows ws → WordRows (w ∷ ws)
+  word_row : {w : ValueRow} {ws : List ValueRow} → w.a < 2 ^ 32 → w.b < 2 ^ 32 → WordRows ws → WordRows (w ∷ ws)
 
 -- ---- rows and bytes
 
@@ -56,9 +56,9 @@ module _ {pool : List ℕ} where
   spent-row e s = record { rows = cc; next = omega arith; used = s.used; stands = s.stands; left = s.left }
 
   -- the rows rs, and those that f gives from where the pool has got to
-  pub spent-append : {ws rs us ws' : List ValueRow} {bs cs : List ℕ} {q o p u q' o' : ℕ} (f : ℕ → List ValueRow) → Spent pool ws q o rs bs us p u → Spent pool us p u (f u) cs ws' q' o'
+  pub spent_append : {ws rs us ws' : List ValueRow} {bs cs : List ℕ} {q o p u q' o' : ℕ} (f : ℕ → List ValueRow) → Spent pool ws q o rs bs us p u → Spent pool us p u (f u) cs ws' q' o'
       → Spent pool ws q o (rs ++ f (o + length bs)) (bs ++ cs) ws' q' o'
-  spent-append {rs = rs} {ws' = ws'} {bs = bs} {cs = cs} {o = o} {u = u} f s k =
+  spent_append {rs = rs} {ws' = ws'} {bs = bs} {cs = cs} {o = o} {u = u} f s k =
       let n = length-append rs (f u) in
       let m = length-append bs cs in
       rw (← s.used) record {

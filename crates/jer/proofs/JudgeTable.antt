@@ -13,22 +13,22 @@ use Rattle.jer.specs.declared.Which.TheVariants.{ValueTable}
 use Rattle.jer.specs.Table.{Table}
 use Rattle.jer.specs.Value.{Val}
 use Rattle.jer.specs.Answer.{Res, ok, no}
-use Rattle.jer.specs.Rows.{ValueRow, numbers, poolOf, rows_of}
-use Rattle.jer.specs.Judge.{Took, took, wrong, takeValue, rowsIn, allTaken, judge}
+use Rattle.jer.specs.Rows.{ValueRow, numbers, pool_of, rows_of}
+use Rattle.jer.specs.Judge.{Took, took, wrong, take_value, rows_in, all_taken, judge}
 use Rattle.jer.specs.Fits.{Octets, Words, word, Fits}
 use Rattle.jer.specs.Means.{TableOf}
 use Rattle.jer.specs.Sane.{Sane}
 use Rattle.jer.proofs.ValidRows.{both}
-use Rattle.jer.proofs.JudgeRows.{takes-rows}
-use Rattle.jer.proofs.JudgeSpent.{After, WordRows, no_row, wordRow}
-use Rattle.jer.proofs.JudgeFits.{Taken, value-sound}
+use Rattle.jer.proofs.JudgeRows.{takes_rows}
+use Rattle.jer.proofs.JudgeSpent.{After, WordRows, no_row, word_row}
+use Rattle.jer.proofs.JudgeFits.{Taken, value_sound}
 
 -- ---- the table of a value
 
-rows_in : (ws : List ValueRow) → rowsIn (numbers ws) ≡ ws
-unfolding rowsIn numbers
-rows_in [] = refl
-rows_in (w ∷ ws) = ap (λ (x : List ValueRow). w ∷ x) (rows_in ws)
+rows_in_lem : (ws : List ValueRow) → rows_in (numbers ws) ≡ ws
+unfolding rows_in numbers
+rows_in_lem [] = refl
+rows_in_lem (w ∷ ws) = ap (λ (x : List ValueRow). w ∷ x) (rows_in_lem ws)
 
 numbers-length : (ws : List ValueRow) → length (numbers ws) ≡ length ws * 4
 unfolding numbers
@@ -36,27 +36,27 @@ numbers-length [] = refl
 numbers-length (w ∷ ws) = omega (arith, numbers-length ws)
 
 -- the rows and the pool of a well-formed value are a table of it
-pub judged-rows : (t : Table) → Sane t → {v : Val} → Fits t 32 0 v → judge t (numbers (rows_of v t 0 0)) (poolOf v) ≡ ok v
-unfolding judge allTaken
+pub judged-rows : (t : Table) → Sane t → {v : Val} → Fits t 32 0 v → judge t (numbers (rows_of v t 0 0)) (pool_of v) ≡ ok v
+unfolding judge all_taken
 judged-rows t g {v} f =
     let ws = rows_of v t 0 0 in
-    let e = rw append-nil at (takes-rows t g (poolOf v) f [] 0 0 record { inside = omega arith; same = take-length (poolOf v) }) in
+    let e = rw append-nil at (takes_rows t g (pool_of v) f [] 0 0 record { inside = omega arith; same = take-length (pool_of v) }) in
     let n = numbers-length ws in
-    rw (rows_in ws, e, allTaken) (rw (eq-eqb (length (numbers ws)) ((0 + length ws) * 4) (omega arith), eq-eqb (length (poolOf v)) (0 + length (poolOf v)) (omega arith)))
+    rw (rows_in_lem ws, e, all_taken) (rw (eq-eqb (length (numbers ws)) ((0 + length ws) * 4) (omega arith), eq-eqb (length (pool_of v)) (0 + length (pool_of v)) (omega arith)))
 
 -- ---- a table that is judged good
 
-word_rows : (ns : List ℕ) → Words ns → WordRows (rowsIn ns)
-unfolding rowsIn
+word_rows : (ns : List ℕ) → Words ns → WordRows (rows_in ns)
+unfolding rows_in
 word_rows [] h = no_row
 word_rows (k ∷ []) h = no_row
 word_rows (k ∷ a ∷ []) h = no_row
 word_rows (k ∷ a ∷ b ∷ []) h = no_row
-word_rows (k ∷ a ∷ b ∷ n ∷ ns) (word x (word y (word z (word u h)))) = wordRow y z (word_rows ns h)
+word_rows (k ∷ a ∷ b ∷ n ∷ ns) (word x (word y (word z (word u h)))) = word_row y z (word_rows ns h)
 
 -- a list of 4 n numbers is n rows and no more
-rows_whole : (ns : List ℕ) (n : ℕ) → length ns ≡ n * 4 → (numbers (rowsIn ns) ≡ ns) × (length (rowsIn ns) ≡ n)
-unfolding rowsIn numbers
+rows_whole : (ns : List ℕ) (n : ℕ) → length ns ≡ n * 4 → (numbers (rows_in ns) ≡ ns) × (length (rows_in ns) ≡ n)
+unfolding rows_in numbers
 rows_whole [] n e = (refl, omega arith)
 rows_whole (k ∷ []) n e = absurd (omega arith)
 rows_whole (k ∷ a ∷ []) n e = absurd (omega arith)
@@ -70,18 +70,18 @@ none_left xs ys (z ∷ zs) e n = absurd (omega (arith, ap length e, length-appen
 
 -- what is judged good is the table of a well-formed value, and nothing else
 pub judge-fits : (t : Table) (ns pool : List ℕ) (v : Val) → Words ns → Octets pool → judge t ns pool ≡ ok v → TableOf t v ns pool
-unfolding judge allTaken
-judge-fits t ns pool v ws os e = go (takeValue 32 t pool 0 (rowsIn ns) 0 0) (value-sound t pool os 32 0 (rowsIn ns) 0 0 record { words = word_rows ns ws; within = omega arith }) e
+unfolding judge all_taken
+judge-fits t ns pool v ws os e = go (take_value 32 t pool 0 (rows_in ns) 0 0) (value_sound t pool os 32 0 (rows_in ns) 0 0 record { words = word_rows ns ws; within = omega arith }) e
   where
-    whole : (u : Val) (us : List ValueRow) (q o : ℕ) → Taken t pool os 32 0 (rowsIn ns) 0 0 u us q o → length ns ≡ q * 4 → length pool ≡ o → TableOf t u ns pool
+    whole : (u : Val) (us : List ValueRow) (q o : ℕ) → Taken t pool os 32 0 (rows_in ns) 0 0 u us q o → length ns ≡ q * 4 → length pool ≡ o → TableOf t u ns pool
     whole u us q o h x y =
         let s = h.spent in
         let n = rows_whole ns q x in
-        let r = none_left (rowsIn ns) (rows_of u t 0 0) us s.rows (omega arith) in
-        let z : length (poolOf u) ≡ length pool = omega arith in
+        let r = none_left (rows_in ns) (rows_of u t 0 0) us s.rows (omega arith) in
+        let z : length (pool_of u) ≡ length pool = omega arith in
         record { fits = h.fits; rows = sym n.0 ∙ ap numbers r; bytes = sym (take-length pool) ∙ rw z at s.stands.same }
 
-    go : (x : Took Val) → After (Taken t pool os 32 0 (rowsIn ns) 0 0) x → allTaken (length ns) (length pool) x ≡ ok v → TableOf t v ns pool
+    go : (x : Took Val) → After (Taken t pool os 32 0 (rows_in ns) 0 0) x → all_taken (length ns) (length pool) x ≡ ok v → TableOf t v ns pool
     go (wrong q) h w = absurd (let z : ◌≡◌ {A = ℕ} 0 1 = cc in omega arith)
     go (took u us q o) h w = good (eqb (length ns) (q * 4) && eqb (length pool) o) refl w
       where

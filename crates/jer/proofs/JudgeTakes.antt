@@ -7,9 +7,9 @@ use mathlib.Core.Option.{Option, none, some}
 use native.Mathlib.Omega.{arith}
 use lib.ListN.{length, take, drop, length-append}
 use lib.Seq.{take-take, take-add, take-append_seam, drop_at, drop-drop}
-use Rattle.jer.specs.Table.{Table, isUnwrapped}
+use Rattle.jer.specs.Table.{Table, is_unwrapped}
 use Rattle.jer.specs.Rows.{ValueRow}
-use Rattle.jer.specs.Judge.{Taker, take_row, onRow, takeUnwrapped, takeWith, takeValue}
+use Rattle.jer.specs.Judge.{Taker, take_row, on_row, take_unwrapped, take_with, take_value}
 
 -- ---- the pool
 
@@ -46,20 +46,20 @@ module _ (pool : List ℕ) (o : ℕ) (s u : List ℕ) where
 -- what takes the parts of a value
 unfoldable pub inner : ℕ → Table → List ℕ → Option Taker
 inner zero t pool = none
-inner (suc d) t pool = some (λ e us p u. takeValue d t pool e us p u)
+inner (suc d) t pool = some (λ e us p u. take_value d t pool e us p u)
 
 module _ (t : Table) (pool : List ℕ) where
-  take-with : (d r : ℕ) (ws : List ValueRow) (q o : ℕ) → takeValue d t pool r ws q o ≡ takeWith (inner d t pool) t pool r ws q o
-  unfolding inner takeValue
-  take-with zero r ws q o = refl
-  take-with (suc d) r ws q o = refl
+  take_with_lem : (d r : ℕ) (ws : List ValueRow) (q o : ℕ) → take_value d t pool r ws q o ≡ take_with (inner d t pool) t pool r ws q o
+  unfolding inner take_value
+  take_with_lem zero r ws q o = refl
+  take_with_lem (suc d) r ws q o = refl
 
-  pub take-plain : (d r : ℕ) (ws : List ValueRow) (q o : ℕ) → isUnwrapped t r ≡ false
-      → takeValue d t pool r ws q o ≡ onRow (λ w us. take_row (inner d t pool) t pool r w us q o) ws q
-  unfolding takeWith
-  take-plain d r ws q o e = take-with d r ws q o ∙ rw e
+  pub take-plain : (d r : ℕ) (ws : List ValueRow) (q o : ℕ) → is_unwrapped t r ≡ false
+      → take_value d t pool r ws q o ≡ on_row (λ w us. take_row (inner d t pool) t pool r w us q o) ws q
+  unfolding take_with
+  take-plain d r ws q o e = take_with_lem d r ws q o ∙ rw e
 
-  pub take-unwrapped : (d r : ℕ) (ws : List ValueRow) (q o : ℕ) → isUnwrapped t r ≡ true
-      → takeValue d t pool r ws q o ≡ onRow (λ w us. takeUnwrapped (inner d t pool) t pool r w us q o) ws q
-  unfolding takeWith
-  take-unwrapped d r ws q o e = take-with d r ws q o ∙ rw e
+  pub take-unwrapped : (d r : ℕ) (ws : List ValueRow) (q o : ℕ) → is_unwrapped t r ≡ true
+      → take_value d t pool r ws q o ≡ on_row (λ w us. take_unwrapped (inner d t pool) t pool r w us q o) ws q
+  unfolding take_with
+  take-unwrapped d r ws q o e = take_with_lem d r ws q o ∙ rw e

@@ -8,8 +8,8 @@ use Rattle.jer.specs.declared.Refusal.{Refusal}
 use Rattle.jer.specs.Table.{Table, type_at}
 use Rattle.jer.specs.Value.{Val, Parts, pnil, absent, present}
 use Rattle.jer.specs.Answer.{Res, ok, no, bind, at, number_of}
-use Rattle.jer.specs.Read.{Meaning, Element, Entry, withAbsent, withPresent}
-use Rattle.jer.specs.Cut.{cut, lacks, cutParts, lacksParts}
+use Rattle.jer.specs.Read.{Meaning, Element, Entry, with_absent, with_present}
+use Rattle.jer.specs.Cut.{cut, lacks, cut_parts, lacks_parts}
 use Rattle.jer.proofs.WeightGot.{got, steps}
 
 -- The older's result, the newer's value cut down, and whether that still holds something that the older lacks.
@@ -46,11 +46,11 @@ Follows old R m n = (a b : ℕ) → R a b → (v : Val) → m a ≡ ok v → Agr
 
 -- an element of an array, and a member of an object, as the two tables meet them
 pub data TwinElement (old : Table) (R : ℕ → ℕ → Type 0) : Element → Element → Type 0 where
-  twinElement : {p : ℕ} {z : Bool} {m n : Meaning} → Follows old R m n
+  twin_element : {p : ℕ} {z : Bool} {m n : Meaning} → Follows old R m n
       → TwinElement old R record { place = p; is_null = z; means = m } record { place = p; is_null = z; means = n }
 
 pub data TwinEntry (old : Table) (R : ℕ → ℕ → Type 0) : Entry → Entry → Type 0 where
-  twinEntry : {p : ℕ} {s : List ℕ} {z : Bool} {m n : Meaning} → Follows old R m n
+  twin_entry : {p : ℕ} {s : List ℕ} {z : Bool} {m n : Meaning} → Follows old R m n
       → TwinEntry old R record { place = p; name = s; is_null = z; means = m } record { place = p; name = s; is_null = z; means = n }
 
 -- two lists, one by one
@@ -62,23 +62,23 @@ pub data Each {A : Type 0} (Q : A → A → Type 0) : List A → List A → Type
 
 -- the same for the members from i on, of which the older has n
 abbrev pub PartsAgree : Table → ℕ → ℕ → ℕ → Res Parts → Res Parts → Type 0
-PartsAgree old b i n x y = (ps : Parts) → x ≡ ok ps → Agrees y (cutParts ps old b i n) (lacksParts (cutParts ps old b i n) old b i)
+PartsAgree old b i n x y = (ps : Parts) → x ≡ ok ps → Agrees y (cut_parts ps old b i n) (lacks_parts (cut_parts ps old b i n) old b i)
 
 module _ (old : Table) (b i : ℕ) where
-  pub absent-agrees : (n : ℕ) (x y : Res Parts) → PartsAgree old b (suc i) n x y → PartsAgree old b i (suc n) (withAbsent x) (withAbsent y)
-  unfolding withAbsent cut lacks
+  pub absent-agrees : (n : ℕ) (x y : Res Parts) → PartsAgree old b (suc i) n x y → PartsAgree old b i (suc n) (with_absent x) (with_absent y)
+  unfolding with_absent cut lacks
   absent-agrees n x y h qs e = let k = steps x _ qs e in rw (← got k.then) (agrees-map absent (h k.val k.first))
 
   pub present-agrees : (n : ℕ) (v w : Res Val) (x y : Res Parts) → ((u : Val) → v ≡ ok u → AgreesAt old (type_at old b i) w u) → PartsAgree old b (suc i) n x y
-      → PartsAgree old b i (suc n) (withPresent v x) (withPresent w y)
-  unfolding withPresent cut lacks
+      → PartsAgree old b i (suc n) (with_present v x) (with_present w y)
+  unfolding with_present cut lacks
   present-agrees n v w x y g h qs e =
       let k = steps v _ qs e in
       let l = steps x _ qs k.then in
       rw (← got l.then) (agrees-both present (g k.val k.first) (h l.val l.first))
 
   -- no member is left to the older
-  pub cut-none : (ps : Parts) → cutParts ps old b i zero ≡ pnil
+  pub cut-none : (ps : Parts) → cut_parts ps old b i zero ≡ pnil
   unfolding cut
   cut-none pnil = refl
   cut-none (absent ps) = refl

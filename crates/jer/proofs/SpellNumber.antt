@@ -7,11 +7,11 @@ use native.Mathlib.Omega.{arith}
 use native.Mathlib.Nat.{div-add-mod', mod-lt, pow-suc, div-lt_iff_lt-mul}
 use lib.Dec.{ltb, lit<}
 use borrow.Author.Tests.{ltb-true, ltb-false, lt-ltb, le-leb}
-use Rattle.json.specs.Grammar.{Onward, stop, onward, Whole, nought, from, Signed, bare, minus}
-use Rattle.jer.specs.Value.{vInt}
+use Rattle.json_text.specs.Grammar.{Onward, stop, onward, Whole, nought, from, Signed, bare, minus}
+use Rattle.jer.specs.Value.{v_int}
 use Rattle.jer.specs.Answer.{ok}
-use Rattle.jer.specs.Read.{readInt}
-use Rattle.jer.specs.Write.{digits, intText}
+use Rattle.jer.specs.Read.{read_int}
+use Rattle.jer.specs.Write.{digits, int_text}
 
 -- the digits of n before digits that bring n to m are those of a whole number m
 whole-digits : (f n m : ℕ) (ds : List ℕ) → 0 < n → n < 10 ^ f → Onward n m ds → Whole m (digits f n ds)
@@ -40,26 +40,26 @@ whole-text (suc n) h = whole-digits 20 (suc n) (suc n) [] (omega arith) h stop
 pub record SpelledInteger (n : ℕ) : Type 0 where
   pub sign : Bool
   pub size : ℕ
-  pub text : Signed sign size (intText n)
-  pub reads : (p : ℕ) → readInt p sign size ≡ ok (vInt n)
+  pub text : Signed sign size (int_text n)
+  pub reads : (p : ℕ) → read_int p sign size ≡ ok (v_int n)
 
-read-bare : (p n : ℕ) → n < 2 ^ 63 → readInt p false n ≡ ok (vInt n)
-unfolding readInt
-read-bare p n h = rw (lt-ltb n (2 ^ 63) h, readInt)
+read-bare : (p n : ℕ) → n < 2 ^ 63 → read_int p false n ≡ ok (v_int n)
+unfolding read_int
+read-bare p n h = rw (lt-ltb n (2 ^ 63) h, read_int)
 
-read-minus : (p n m : ℕ) → 0 < m → m ≤ 2 ^ 63 → n + m ≡ 2 ^ 64 → readInt p true m ≡ ok (vInt n)
-unfolding readInt
+read-minus : (p n m : ℕ) → 0 < m → m ≤ 2 ^ 63 → n + m ≡ 2 ^ 64 → read_int p true m ≡ ok (v_int n)
+unfolding read_int
 read-minus p n zero z h e = absurd (omega arith)
-read-minus p n (suc m) z h e = rw (le-leb (suc m) (2 ^ 63) h, readInt) (ap (λ (x : ℕ). ok (vInt x)) (omega arith))
+read-minus p n (suc m) z h e = rw (le-leb (suc m) (2 ^ 63) h, read_int) (ap (λ (x : ℕ). ok (v_int x)) (omega arith))
 
-pub integer-spelled : (n : ℕ) → n < 2 ^ 64 → SpelledInteger n
-unfolding intText
-integer-spelled n h = go (ltb n (2 ^ 63)) refl
+pub integer_spelled : (n : ℕ) → n < 2 ^ 64 → SpelledInteger n
+unfolding int_text
+integer_spelled n h = go (ltb n (2 ^ 63)) refl
   where
     go : (c : Bool) → ltb n (2 ^ 63) ≡ c → SpelledInteger n
     go true e =
         let l : n < 2 ^ 63 = ltb-true n (2 ^ 63) e in
-        record { sign = false; size = n; text = rw (e, intText) (bare (whole-text n (omega arith))); reads = λ p. read-bare p n l }
+        record { sign = false; size = n; text = rw (e, int_text) (bare (whole-text n (omega arith))); reads = λ p. read-bare p n l }
     go false e =
         let l : 2 ^ 63 ≤ n = ltb-false n (2 ^ 63) e in
-        record { sign = true; size = 2 ^ 64 - n; text = rw (e, intText) (minus (whole-text (2 ^ 64 - n) (omega arith))); reads = λ p. read-minus p n (2 ^ 64 - n) (omega arith) (omega arith) (omega arith) }
+        record { sign = true; size = 2 ^ 64 - n; text = rw (e, int_text) (minus (whole-text (2 ^ 64 - n) (omega arith))); reads = λ p. read-minus p n (2 ^ 64 - n) (omega arith) (omega arith) (omega arith) }

@@ -8,12 +8,12 @@ use native.Mathlib.Omega.{arith}
 use native.Mathlib.Nat.{div-add-mod', mod-lt, div-lt_iff_lt-mul, mul-add-div_right, div-eq_of_lt, mul-add-mod_self_right, mod-eq_of_lt}
 use lib.Dec.{eqb, lit<}
 use borrow.Author.Tests.{ne_eqb}
-use Rattle.json.specs.Bytes.{In, pick}
-use Rattle.json.specs.Grammar.{Hex, digit, upper, lower, Char, plain, Chars, noChar, char}
-use Rattle.json.proofs.Feed.{pick-row}
-use Rattle.json.proofs.SoundRows.{pick_first, pick-within, ◌⨾◌}
-use Rattle.jer.specs.Fits.{Octets, noOctets, octet}
-use Rattle.jer.specs.Octets.{also, hexValue, unhex, hexDigit, hex, base64Value, only_if, lastGroup, fullGroup, unbase64, base64Digit, base64}
+use Rattle.json_text.specs.Bytes.{In, pick}
+use Rattle.json_text.specs.Grammar.{Hex, digit, upper, lower, Char, plain, Chars, no_char, char}
+use Rattle.json_text.proofs.Feed.{pick-row}
+use Rattle.json_text.proofs.SoundRows.{pick_first, pick-within, ◌⨾◌}
+use Rattle.jer.specs.Fits.{Octets, no_octets, octet}
+use Rattle.jer.specs.Octets.{also, hex_value, unhex, hex_digit, hex, base64_value, only_if, last_group, full_group, unbase64, base64_digit, base64}
 use Rattle.jer.proofs.SpellString.{outside, pick-last, hex-digit}
 
 -- a character that spells itself
@@ -22,13 +22,13 @@ plain-char b i h = plain {b = b} (omega arith) (λ e. omega arith) h
 
 -- ---- hexadecimal
 
-hex-back : {x b : ℕ} → Hex x b → hexValue b ≡ some x
-unfolding hexValue
+hex-back : {x b : ℕ} → Hex x b → hex_value b ≡ some x
+unfolding hex_value
 hex-back (digit i e) = rw e (pick-row 0 _ _ _ (omega arith))
 hex-back (upper i e) = rw e (pick-row 1 _ _ _ (omega arith))
 hex-back (lower i e) = rw e (pick-row 2 _ _ _ (omega arith))
 
-digit-back : (x : ℕ) → x < 16 → hexValue (hexDigit x) ≡ some x
+digit-back : (x : ℕ) → x < 16 → hex_value (hex_digit x) ≡ some x
 digit-back x h = hex-back (hex-digit x h)
 
 high_half : (o : ℕ) → o < 256 → o / 16 < 16
@@ -39,7 +39,7 @@ low_half o = mod-lt o (lit< tt)
 
 pub unhex-hex : (s : List ℕ) → Octets s → unhex (hex s) ≡ some s
 unfolding unhex hex also
-unhex-hex [] noOctets = refl
+unhex-hex [] no_octets = refl
 unhex-hex (o ∷ s) (octet h hs) = rw (digit-back (o / 16) (high_half o h), digit-back (o % 16) (low_half o), unhex-hex s hs, div-add-mod' o 16)
 
 hex-plain : {x b : ℕ} → Hex x b → Char (b ∷ []) (b ∷ [])
@@ -49,39 +49,39 @@ hex-plain (lower i e) = plain-char _ (omega arith) (λ z. omega arith)
 
 pub hex-chars : {s : List ℕ} → Octets s → Chars (hex s) (hex s)
 unfolding hex
-hex-chars noOctets = noChar
+hex-chars no_octets = no_char
 hex-chars (octet {b = o} h hs) = char (hex-plain (hex-digit (o / 16) (high_half o h))) (char (hex-plain (hex-digit (o % 16) (low_half o))) (hex-chars hs) refl refl) refl refl
 
 -- ---- the digits of Base64
 
-large-back : (x : ℕ) → x ≤ 25 → base64Value (x + 0x41) ≡ some x
-unfolding base64Value
+large-back : (x : ℕ) → x ≤ 25 → base64_value (x + 0x41) ≡ some x
+unfolding base64_value
 large-back x h = pick-row 0 _ _ _ (omega arith) ∙ ap some (omega arith)
 
-small-back : (x : ℕ) → In 26 51 x → base64Value (x + 0x47) ≡ some x
-unfolding base64Value
+small-back : (x : ℕ) → In 26 51 x → base64_value (x + 0x47) ≡ some x
+unfolding base64_value
 small-back x h = pick-row 1 _ _ _ (omega arith) ∙ ap some (omega arith)
 
-number-back : (x : ℕ) → In 52 61 x → base64Value (x - 0x04) ≡ some x
-unfolding base64Value
+number-back : (x : ℕ) → In 52 61 x → base64_value (x - 0x04) ≡ some x
+unfolding base64_value
 number-back x h = pick-row 2 _ _ _ (omega arith) ∙ ap some (omega arith)
 
-plus-back : base64Value 0x2B ≡ some 62
-unfolding base64Value pick
+plus-back : base64_value 0x2B ≡ some 62
+unfolding base64_value pick
 plus-back = refl
 
-slash-back : base64Value 0x2F ≡ some 63
-unfolding base64Value pick
+slash-back : base64_value 0x2F ≡ some 63
+unfolding base64_value pick
 slash-back = refl
 
-sextet-back : (x : ℕ) → x < 64 → base64Value (base64Digit x) ≡ some x
-unfolding base64Digit
-sextet-back x h =
-    pick_first (λ y. base64Value y ≡ some x) x 0 25 _ _ _ (λ i. large-back x i.1)
-    (λ a. pick_first (λ y. base64Value y ≡ some x) x 26 51 _ _ _ (small-back x)
-    (λ b. pick_first (λ y. base64Value y ≡ some x) x 52 61 _ _ _ (number-back x)
-    (λ c. pick_first (λ y. base64Value y ≡ some x) x 62 62 _ _ _ (λ i. plus-back ∙ ap some (omega arith))
-    (λ d. pick-last (λ y. base64Value y ≡ some x) x _ (slash-back ∙ ap some (last a b c d))))))
+sextet_back : (x : ℕ) → x < 64 → base64_value (base64_digit x) ≡ some x
+unfolding base64_digit
+sextet_back x h =
+    pick_first (λ y. base64_value y ≡ some x) x 0 25 _ _ _ (λ i. large-back x i.1)
+    (λ a. pick_first (λ y. base64_value y ≡ some x) x 26 51 _ _ _ (small-back x)
+    (λ b. pick_first (λ y. base64_value y ≡ some x) x 52 61 _ _ _ (number-back x)
+    (λ c. pick_first (λ y. base64_value y ≡ some x) x 62 62 _ _ _ (λ i. plus-back ∙ ap some (omega arith))
+    (λ d. pick-last (λ y. base64_value y ≡ some x) x _ (slash-back ∙ ap some (last a b c d))))))
   where
     last : (In 0 25 x → ⊥) → (In 26 51 x → ⊥) → (In 52 61 x → ⊥) → (In 62 62 x → ⊥) → 63 ≡ x
     last a b c d =
@@ -92,16 +92,16 @@ sextet-back x h =
         omega arith
 
 -- the padding is no digit
-not-pad : (x : ℕ) → eqb (base64Digit x) 0x3D ≡ false
-unfolding base64Digit
+not-pad : (x : ℕ) → eqb (base64_digit x) 0x3D ≡ false
+unfolding base64_digit
 not-pad x =
     pick-within (λ y. eqb y 0x3D ≡ false) x _ _
     ((λ i. ne_eqb (x + 0x41) 0x3D (λ e. omega arith)) ⨾ (λ i. ne_eqb (x + 0x47) 0x3D (λ e. omega arith)) ⨾ (λ i. ne_eqb (x - 0x04) 0x3D (λ e. omega arith)) ⨾ (λ i. refl) ⨾ tt)
     refl
 
-sextet-plain : (x : ℕ) → Char (base64Digit x ∷ []) (base64Digit x ∷ [])
-unfolding base64Digit
-sextet-plain x =
+sextet_plain : (x : ℕ) → Char (base64_digit x ∷ []) (base64_digit x ∷ [])
+unfolding base64_digit
+sextet_plain x =
     pick-within (λ y. Char (y ∷ []) (y ∷ [])) x _ _
     ((λ i. plain-char _ (omega arith) (λ e. omega arith))
     ⨾ (λ i. plain-char _ (omega arith) (λ e. omega arith))
@@ -111,43 +111,43 @@ sextet-plain x =
     (plain-char _ (omega arith) (λ e. omega arith))
 
 -- a digit before characters that spell themselves, and the padding
-before : (x : ℕ) {s : List ℕ} → Chars s s → Chars (base64Digit x ∷ s) (base64Digit x ∷ s)
-before x h = char (sextet-plain x) h refl refl
+before : (x : ℕ) {s : List ℕ} → Chars s s → Chars (base64_digit x ∷ s) (base64_digit x ∷ s)
+before x h = char (sextet_plain x) h refl refl
 
 padded : {s : List ℕ} → Chars s s → Chars (0x3D ∷ s) (0x3D ∷ s)
 padded h = char (plain-char 0x3D (omega arith) (λ e. omega arith)) h refl refl
 
 pub base64-chars : (s : List ℕ) → Chars (base64 s) (base64 s)
 unfolding base64
-base64-chars [] = noChar
-base64-chars (a ∷ []) = before _ (before _ (padded (padded noChar)))
-base64-chars (a ∷ b ∷ []) = before _ (before _ (before _ (padded noChar)))
+base64-chars [] = no_char
+base64-chars (a ∷ []) = before _ (before _ (padded (padded no_char)))
+base64-chars (a ∷ b ∷ []) = before _ (before _ (before _ (padded no_char)))
 base64-chars (a ∷ b ∷ c ∷ s) = before _ (before _ (before _ (before _ (base64-chars s))))
 
 -- ---- groups of four digits
 
-last_one : (x y : ℕ) → x < 64 → y < 64 → y % 16 ≡ 0 → lastGroup (base64Digit x) (base64Digit y) 0x3D 0x3D ≡ some ((x * 4 + y / 16) ∷ [])
-unfolding lastGroup also only_if
-last_one x y p q e = rw (sextet-back x p, sextet-back y q, e)
+last_one : (x y : ℕ) → x < 64 → y < 64 → y % 16 ≡ 0 → last_group (base64_digit x) (base64_digit y) 0x3D 0x3D ≡ some ((x * 4 + y / 16) ∷ [])
+unfolding last_group also only_if
+last_one x y p q e = rw (sextet_back x p, sextet_back y q, e)
 
-last-two : (x y z : ℕ) → x < 64 → y < 64 → z < 64 → z % 4 ≡ 0 → lastGroup (base64Digit x) (base64Digit y) (base64Digit z) 0x3D ≡ some ((x * 4 + y / 16) ∷ (y % 16 * 16 + z / 4) ∷ [])
-unfolding lastGroup also only_if
-last-two x y z p q r e = rw (sextet-back x p, sextet-back y q, not-pad z, sextet-back z r, e)
+last-two : (x y z : ℕ) → x < 64 → y < 64 → z < 64 → z % 4 ≡ 0 → last_group (base64_digit x) (base64_digit y) (base64_digit z) 0x3D ≡ some ((x * 4 + y / 16) ∷ (y % 16 * 16 + z / 4) ∷ [])
+unfolding last_group also only_if
+last-two x y z p q r e = rw (sextet_back x p, sextet_back y q, not-pad z, sextet_back z r, e)
 
 last-three : (x y z w : ℕ) → x < 64 → y < 64 → z < 64 → w < 64
-    → lastGroup (base64Digit x) (base64Digit y) (base64Digit z) (base64Digit w) ≡ some ((x * 4 + y / 16) ∷ (y % 16 * 16 + z / 4) ∷ (z % 4 * 64 + w) ∷ [])
-unfolding lastGroup also
-last-three x y z w p q r s = rw (sextet-back x p, sextet-back y q, not-pad w, sextet-back z r, sextet-back w s)
+    → last_group (base64_digit x) (base64_digit y) (base64_digit z) (base64_digit w) ≡ some ((x * 4 + y / 16) ∷ (y % 16 * 16 + z / 4) ∷ (z % 4 * 64 + w) ∷ [])
+unfolding last_group also
+last-three x y z w p q r s = rw (sextet_back x p, sextet_back y q, not-pad w, sextet_back z r, sextet_back w s)
 
 -- a group that others follow
-more-groups : (a b c d e : ℕ) (u : List ℕ) → unbase64 (a ∷ b ∷ c ∷ d ∷ e ∷ u) ≡ fullGroup a b c d (unbase64 (e ∷ u))
+more-groups : (a b c d e : ℕ) (u : List ℕ) → unbase64 (a ∷ b ∷ c ∷ d ∷ e ∷ u) ≡ full_group a b c d (unbase64 (e ∷ u))
 unfolding unbase64
 more-groups a b c d e u = refl
 
 not_last : (x y z w e : ℕ) (u os : List ℕ) → x < 64 → y < 64 → z < 64 → w < 64 → unbase64 (e ∷ u) ≡ some os
-    → unbase64 (base64Digit x ∷ base64Digit y ∷ base64Digit z ∷ base64Digit w ∷ e ∷ u) ≡ some ((x * 4 + y / 16) ∷ (y % 16 * 16 + z / 4) ∷ (z % 4 * 64 + w) ∷ os)
-unfolding fullGroup also
-not_last x y z w e u os p q r t h = more-groups _ _ _ _ e u ∙ rw (sextet-back x p, sextet-back y q, sextet-back z r, sextet-back w t, h)
+    → unbase64 (base64_digit x ∷ base64_digit y ∷ base64_digit z ∷ base64_digit w ∷ e ∷ u) ≡ some ((x * 4 + y / 16) ∷ (y % 16 * 16 + z / 4) ∷ (z % 4 * 64 + w) ∷ os)
+unfolding full_group also
+not_last x y z w e u os p q r t h = more-groups _ _ _ _ e u ∙ rw (sextet_back x p, sextet_back y q, sextet_back z r, sextet_back w t, h)
 
 -- ---- the octets of a group
 
@@ -222,7 +222,7 @@ three_back a b c s h k l ih = go s ih ∙ same-three s (first-octet a _ (b / 16)
 
 pub unbase64-base64 : (s : List ℕ) → Octets s → unbase64 (base64 s) ≡ some s
 unfolding unbase64 base64
-unbase64-base64 [] noOctets = refl
-unbase64-base64 (a ∷ []) (octet h noOctets) = one-back a h
-unbase64-base64 (a ∷ b ∷ []) (octet h (octet k noOctets)) = two_back a b h k
+unbase64-base64 [] no_octets = refl
+unbase64-base64 (a ∷ []) (octet h no_octets) = one-back a h
+unbase64-base64 (a ∷ b ∷ []) (octet h (octet k no_octets)) = two_back a b h k
 unbase64-base64 (a ∷ b ∷ c ∷ s) (octet h (octet k (octet l hs))) = three_back a b c s h k l (unbase64-base64 s hs)

@@ -5,7 +5,7 @@ use mathlib.Core.Bool.{true, or-true}
 use mathlib.Core.Option.{some}
 use native.Mathlib.Omega.{arith}
 use borrow.Author.Tests.{le-leb}
-use Rattle.jer.specs.Table.{Table, kind_of, is_type, countOf, rootOf, name_at, addition, mayMiss, position}
+use Rattle.jer.specs.Table.{Table, kind_of, is_type, count_of, root_of, name_at, addition, may_miss, position}
 use Rattle.jer.specs.Cut.{ByAdditions}
 use Rattle.jer.specs.Sane.{Sane}
 use Rattle.jer.proofs.OlderNames.{kind-same}
@@ -19,13 +19,13 @@ module _ {new old : Table} {R : ℕ → ℕ → Type 0} (pair : ByAdditions new 
   unfolding is_type
   type-new e = rw (pair.tags a b r) e
 
-  pub inside-new : (i : ℕ) → i < countOf old b → i < countOf new a
+  pub inside-new : (i : ℕ) → i < count_of old b → i < count_of new a
   inside-new i u = omega (arith, pair.fewer a b r)
 
-  pub position-new : Sane new → is_type old b ≡ true → (i : ℕ) → i < countOf old b → position new a (name_at old b i) ≡ some i
+  pub position-new : Sane new → is_type old b ≡ true → (i : ℕ) → i < count_of old b → position new a (name_at old b i) ≡ some i
   position-new g k i u = ap (position new a) (sym (pair.names a b i r u)) ∙ position-of new a i g (type-new k) (inside-new i u)
 
   -- what the older lacks may miss
-  pub addition-misses : Sane old → is_type old b ≡ true → (i : ℕ) → countOf old b ≤ i → mayMiss new a i ≡ true
-  unfolding mayMiss addition
-  addition-misses g k i u = rw (le-leb (rootOf new a) i (omega (arith, pair.roots a b r, g.roots b k)), or-true)
+  pub addition_misses : Sane old → is_type old b ≡ true → (i : ℕ) → count_of old b ≤ i → may_miss new a i ≡ true
+  unfolding may_miss addition
+  addition_misses g k i u = rw (le-leb (root_of new a) i (omega (arith, pair.roots a b r, g.roots b k)), or-true)

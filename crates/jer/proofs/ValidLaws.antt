@@ -8,8 +8,8 @@ use native.Mathlib.Omega.{arith}
 use lib.Dec.{eqb, ltb}
 use lib.ListN.{get_or}
 use borrow.Author.Tests.{ltb-true, ltb-false, eqb-true, eqb-false, eq-eqb, not-true}
-use Rattle.jer.specs.Table.{Table, is_type, isUnwrapped, countOf, type_at, name_at, firstWhere, sameBytes, position, Token, tNull, tBoolean, tNumber, tString, tArray, tObject, tokenCode, code_of, sameToken, tokenOf, alternative}
-use Rattle.jer.specs.Valid.{every, allDiffer}
+use Rattle.jer.specs.Table.{Table, is_type, is_unwrapped, count_of, type_at, name_at, first_where, same_bytes, position, Token, t_null, t_boolean, t_number, t_string, t_array, t_object, token_code, code_of, same_token, token_of, alternative}
+use Rattle.jer.specs.Valid.{every, all_differ}
 use Rattle.jer.specs.Sane.{Sane}
 
 -- what a test says at i, and at j if j is later, it says at j
@@ -34,8 +34,8 @@ every-at f i (suc n) e j l u = go (f i) refl e (every-at f (suc i) n)
 pub every-below : (f : ℕ → Bool) (n : ℕ) → every f 0 n ≡ true → (i : ℕ) → i < n → f i ≡ true
 every-below f n e i u = every-at f 0 n e i (omega arith) (omega arith)
 
-pub differ-at : (same : ℕ → ℕ → Bool) (n : ℕ) → allDiffer same n ≡ true → (i j : ℕ) → i < j → j < n → same i j ≡ false
-unfolding allDiffer
+pub differ-at : (same : ℕ → ℕ → Bool) (n : ℕ) → all_differ same n ≡ true → (i j : ℕ) → i < j → j < n → same i j ≡ false
+unfolding all_differ
 differ-at same n e i j l u = not-true _ (every-below _ j (every-below _ n e j u) i l)
 
 -- ---- the first position that passes
@@ -46,117 +46,117 @@ pub record First (f : ℕ → Bool) (i n k : ℕ) : Type 0 where
   pub passes : f k ≡ true
   pub before : (j : ℕ) → i ≤ j → j < k → f j ≡ false
 
-pub first_some : (f : ℕ → Bool) (i n k : ℕ) → firstWhere f i n ≡ some k → First f i n k
-unfolding firstWhere
+pub first_some : (f : ℕ → Bool) (i n k : ℕ) → first_where f i n ≡ some k → First f i n k
+unfolding first_where
 first_some f i zero k e = absurd (let z : ◌≡◌ {A = ℕ} 0 1 = cc in omega arith)
 first_some f i (suc n) k e = go (f i) refl e (first_some f (suc i) n k)
   where
-    go : (c : Bool) → f i ≡ c → elim c as (λ x. Option ℕ) [ true ↦ some i | false ↦ firstWhere f (suc i) n ] ≡ some k → (firstWhere f (suc i) n ≡ some k → First f (suc i) n k) → First f i (suc n) k
+    go : (c : Bool) → f i ≡ c → elim c as (λ x. Option ℕ) [ true ↦ some i | false ↦ first_where f (suc i) n ] ≡ some k → (first_where f (suc i) n ≡ some k → First f (suc i) n k) → First f i (suc n) k
     go true h w ih = let q : i ≡ k = cc in record { from = omega arith; within = omega arith; passes = rw q at h; before = λ j l u. absurd (omega arith) }
     go false h w ih = let r = ih w in record { from = omega arith; within = omega arith; passes = r.passes; before = λ j l u. from_next f false i j h l (λ m. r.before j m u) }
 
-pub first-none : (f : ℕ → Bool) (i n : ℕ) → firstWhere f i n ≡ none → (j : ℕ) → i ≤ j → j < i + n → f j ≡ false
-unfolding firstWhere
+pub first-none : (f : ℕ → Bool) (i n : ℕ) → first_where f i n ≡ none → (j : ℕ) → i ≤ j → j < i + n → f j ≡ false
+unfolding first_where
 first-none f i zero e j l u = absurd (omega arith)
 first-none f i (suc n) e j l u = go (f i) refl e (first-none f (suc i) n)
   where
-    go : (c : Bool) → f i ≡ c → ◌≡◌ {A = Option ℕ} (elim c [ true ↦ some i | false ↦ firstWhere f (suc i) n ]) none → (firstWhere f (suc i) n ≡ none → (j : ℕ) → suc i ≤ j → j < suc i + n → f j ≡ false) → f j ≡ false
+    go : (c : Bool) → f i ≡ c → ◌≡◌ {A = Option ℕ} (elim c [ true ↦ some i | false ↦ first_where f (suc i) n ]) none → (first_where f (suc i) n ≡ none → (j : ℕ) → suc i ≤ j → j < suc i + n → f j ≡ false) → f j ≡ false
     go true h w ih = cc
     go false h w ih = from_next f false i j h l (λ m. ih w j m (omega arith))
 
-first-least : (f : ℕ → Bool) (i n j k : ℕ) → First f i n j → i ≤ k → f k ≡ true → j ≤ k
-first-least f i n j k r l e = go (ltb k j) refl
+first_least : (f : ℕ → Bool) (i n j k : ℕ) → First f i n j → i ≤ k → f k ≡ true → j ≤ k
+first_least f i n j k r l e = go (ltb k j) refl
   where
     go : (b : Bool) → ltb k j ≡ b → j ≤ k
     go true w = absurd (let q = r.before k l (ltb-true k j w) in let z : ◌≡◌ {A = ℕ} 0 1 = cc in omega arith)
     go false w = ltb-false k j w
 
-pub first_of : (f : ℕ → Bool) (i n k : ℕ) → First f i n k → firstWhere f i n ≡ some k
-first_of f i n k r = go (firstWhere f i n) refl
+pub first_of : (f : ℕ → Bool) (i n k : ℕ) → First f i n k → first_where f i n ≡ some k
+first_of f i n k r = go (first_where f i n) refl
   where
-    go : (x : Option ℕ) → firstWhere f i n ≡ x → x ≡ some k
+    go : (x : Option ℕ) → first_where f i n ≡ x → x ≡ some k
     go none w = cc (r.passes, first-none f i n w k r.from r.within)
     go (some j) w =
         let s = first_some f i n j w in
-        let down = first-least f i n j k s r.from r.passes in
-        let up = first-least f i n k j r s.from s.passes in
+        let down = first_least f i n j k s r.from r.passes in
+        let up = first_least f i n k j r s.from s.passes in
         ap some (omega arith)
 
 -- ---- names
 
-pub sameBytes-eq : (a b : List ℕ) → sameBytes a b ≡ true → a ≡ b
-unfolding sameBytes
-sameBytes-eq [] [] e = refl
-sameBytes-eq [] (b ∷ bs) e = cc
-sameBytes-eq (a ∷ xs) [] e = cc
-sameBytes-eq (a ∷ xs) (b ∷ bs) e = go (eqb a b) refl e (sameBytes-eq xs bs)
+pub same_bytes-eq : (a b : List ℕ) → same_bytes a b ≡ true → a ≡ b
+unfolding same_bytes
+same_bytes-eq [] [] e = refl
+same_bytes-eq [] (b ∷ bs) e = cc
+same_bytes-eq (a ∷ xs) [] e = cc
+same_bytes-eq (a ∷ xs) (b ∷ bs) e = go (eqb a b) refl e (same_bytes-eq xs bs)
   where
-    go : (c : Bool) → eqb a b ≡ c → elim c as (λ x. Bool) [ true ↦ sameBytes xs bs | false ↦ false ] ≡ true → (sameBytes xs bs ≡ true → xs ≡ bs) → (a ∷ xs) ≡ (b ∷ bs)
+    go : (c : Bool) → eqb a b ≡ c → elim c as (λ x. Bool) [ true ↦ same_bytes xs bs | false ↦ false ] ≡ true → (same_bytes xs bs ≡ true → xs ≡ bs) → (a ∷ xs) ≡ (b ∷ bs)
     go true h w ih = cc (eqb-true a b h, ih w)
     go false h w ih = cc
 
-pub sameBytes-refl : (a : List ℕ) → sameBytes a a ≡ true
-unfolding sameBytes
-sameBytes-refl [] = refl
-sameBytes-refl (b ∷ bs) = rw (eq-eqb b b refl, sameBytes) (sameBytes-refl bs)
+pub same_bytes-refl : (a : List ℕ) → same_bytes a a ≡ true
+unfolding same_bytes
+same_bytes-refl [] = refl
+same_bytes-refl (b ∷ bs) = rw (eq-eqb b b refl, same_bytes) (same_bytes-refl bs)
 
-pub position_some : (t : Table) (r : ℕ) (s : List ℕ) (i : ℕ) → position t r s ≡ some i → (i < countOf t r) × (sameBytes (name_at t r i) s ≡ true)
+pub position_some : (t : Table) (r : ℕ) (s : List ℕ) (i : ℕ) → position t r s ≡ some i → (i < count_of t r) × (same_bytes (name_at t r i) s ≡ true)
 unfolding position
-position_some t r s i e = let f = first_some _ 0 (countOf t r) i e in (omega arith, f.passes)
+position_some t r s i e = let f = first_some _ 0 (count_of t r) i e in (omega arith, f.passes)
 
-pub position-none : (t : Table) (r : ℕ) (s : List ℕ) → position t r s ≡ none → (i : ℕ) → i < countOf t r → sameBytes (name_at t r i) s ≡ false
+pub position-none : (t : Table) (r : ℕ) (s : List ℕ) → position t r s ≡ none → (i : ℕ) → i < count_of t r → same_bytes (name_at t r i) s ≡ false
 unfolding position
-position-none t r s e i u = first-none _ 0 (countOf t r) e i (omega arith) (omega arith)
+position-none t r s e i u = first-none _ 0 (count_of t r) e i (omega arith) (omega arith)
 
-pub position-of : (t : Table) (r i : ℕ) → Sane t → is_type t r ≡ true → i < countOf t r → position t r (name_at t r i) ≡ some i
+pub position-of : (t : Table) (r i : ℕ) → Sane t → is_type t r ≡ true → i < count_of t r → position t r (name_at t r i) ≡ some i
 unfolding position
-position-of t r i g k u = first_of _ 0 (countOf t r) i record { from = omega arith; within = omega arith; passes = sameBytes-refl (name_at t r i); before = λ j l m. g.differ r j i k m u }
+position-of t r i g k u = first_of _ 0 (count_of t r) i record { from = omega arith; within = omega arith; passes = same_bytes-refl (name_at t r i); before = λ j l m. g.differ r j i k m u }
 
 -- ---- tokens
 
-code-token : (k : Token) → get_or (tNull ∷ tBoolean ∷ tNumber ∷ tString ∷ tArray ∷ tObject ∷ []) (tokenCode k) tNull ≡ k
-unfolding tokenCode
-code-token tNull = refl
-code-token tBoolean = refl
-code-token tNumber = refl
-code-token tString = refl
-code-token tArray = refl
-code-token tObject = refl
+code-token : (k : Token) → get_or (t_null ∷ t_boolean ∷ t_number ∷ t_string ∷ t_array ∷ t_object ∷ []) (token_code k) t_null ≡ k
+unfolding token_code
+code-token t_null = refl
+code-token t_boolean = refl
+code-token t_number = refl
+code-token t_string = refl
+code-token t_array = refl
+code-token t_object = refl
 
-pub code-eq : (a b : Token) → tokenCode a ≡ tokenCode b → a ≡ b
+pub code-eq : (a b : Token) → token_code a ≡ token_code b → a ≡ b
 code-eq a b e = cc (code-token a, code-token b, e)
 
-code-known : (k : Token) → tokenCode k ≡ 6 → ⊥
-unfolding tokenCode
-code-known tNull e = omega arith
-code-known tBoolean e = omega arith
-code-known tNumber e = omega arith
-code-known tString e = omega arith
-code-known tArray e = omega arith
-code-known tObject e = omega arith
+code-known : (k : Token) → token_code k ≡ 6 → ⊥
+unfolding token_code
+code-known t_null e = omega arith
+code-known t_boolean e = omega arith
+code-known t_number e = omega arith
+code-known t_string e = omega arith
+code-known t_array e = omega arith
+code-known t_object e = omega arith
 
-pub sameToken-eq : (a b : Token) → sameToken (some a) (some b) ≡ true → a ≡ b
-unfolding sameToken code_of
-sameToken-eq a b e = code-eq a b (eqb-true _ _ e)
+pub same_token-eq : (a b : Token) → same_token (some a) (some b) ≡ true → a ≡ b
+unfolding same_token code_of
+same_token-eq a b e = code-eq a b (eqb-true _ _ e)
 
-same_some : (x : Option Token) (k : Token) → code_of x ≡ tokenCode k → x ≡ some k
+same_some : (x : Option Token) (k : Token) → code_of x ≡ token_code k → x ≡ some k
 unfolding code_of
 same_some none k e = absurd (code-known k (sym e))
 same_some (some j) k e = ap some (code-eq j k e)
 
-sameToken-some : (x : Option Token) (k : Token) → sameToken x (some k) ≡ true → x ≡ some k
-unfolding sameToken code_of
-sameToken-some x k e = same_some x k (eqb-true _ _ e)
+same_token-some : (x : Option Token) (k : Token) → same_token x (some k) ≡ true → x ≡ some k
+unfolding same_token code_of
+same_token-some x k e = same_some x k (eqb-true _ _ e)
 
-sameToken-refl : (x : Option Token) → sameToken x x ≡ true
-unfolding sameToken
-sameToken-refl x = eq-eqb (code_of x) (code_of x) refl
+same_token-refl : (x : Option Token) → same_token x x ≡ true
+unfolding same_token
+same_token-refl x = eq-eqb (code_of x) (code_of x) refl
 
-pub alternative-some : (t : Table) (r : ℕ) (k : Token) (i : ℕ) → alternative t r k ≡ some i → (i < countOf t r) × (tokenOf t (type_at t r i) ≡ some k)
+pub alternative-some : (t : Table) (r : ℕ) (k : Token) (i : ℕ) → alternative t r k ≡ some i → (i < count_of t r) × (token_of t (type_at t r i) ≡ some k)
 unfolding alternative
-alternative-some t r k i e = let f = first_some _ 0 (countOf t r) i e in (omega arith, sameToken-some _ k f.passes)
+alternative-some t r k i e = let f = first_some _ 0 (count_of t r) i e in (omega arith, same_token-some _ k f.passes)
 
-pub alternative-of : (t : Table) (r i : ℕ) (k : Token) → Sane t → isUnwrapped t r ≡ true → i < countOf t r → tokenOf t (type_at t r i) ≡ some k → alternative t r k ≡ some i
+pub alternative-of : (t : Table) (r i : ℕ) (k : Token) → Sane t → is_unwrapped t r ≡ true → i < count_of t r → token_of t (type_at t r i) ≡ some k → alternative t r k ≡ some i
 unfolding alternative
 alternative-of t r i k g w u e =
-    first_of _ 0 (countOf t r) i record { from = omega arith; within = omega arith; passes = rw (← e) (sameToken-refl (tokenOf t (type_at t r i))); before = λ j l m. rw (← e) (g.tokens r j i w m u) }
+    first_of _ 0 (count_of t r) i record { from = omega arith; within = omega arith; passes = rw (← e) (same_token-refl (token_of t (type_at t r i))); before = λ j l m. rw (← e) (g.tokens r j i w m u) }

@@ -11,7 +11,7 @@ use Rattle.jer.specs.Table.{Table, kind_of}
 use Rattle.jer.specs.Value.{Val}
 use Rattle.jer.specs.Answer.{Res, ok, no, bind}
 use Rattle.jer.specs.Octets.{also}
-use Rattle.jer.specs.Read.{atKind}
+use Rattle.jer.specs.Read.{at_kind}
 
 -- what holds of both branches of a test, each with its outcome, holds of the test
 pub branch : {A : Type 0} (Q : A → Type 0) (c : Bool) {x y : A} → (c ≡ true → Q x) → (c ≡ false → Q y) → Q (elim c as (λ b. A) [ true ↦ x | false ↦ y ])
@@ -59,6 +59,6 @@ finds none f b e = nothing e
 finds (some a) f b e = record { val = a; first = refl; then = e }
 
 -- a value that is read at a kind
-pub at-kind : (t : Table) (r k p : ℕ) (x : Res Val) (v : Val) → atKind t r k p x ≡ ok v → (kind_of t r ≡ k) × (x ≡ ok v)
-unfolding atKind
+pub at-kind : (t : Table) (r k p : ℕ) (x : Res Val) (v : Val) → at_kind t r k p x ≡ ok v → (kind_of t r ≡ k) × (x ≡ ok v)
+unfolding at_kind
 at-kind t r k p x v = cases (eqb (kind_of t r) k) (λ w e. (eqb-true _ _ w, e)) (λ w e. refused e)

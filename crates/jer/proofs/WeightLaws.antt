@@ -5,18 +5,18 @@ use mathlib.Core.List.{List}
 use mathlib.Core.Bool.{true}
 use native.Mathlib.Omega.{arith}
 use lib.ListN.{length}
-use Rattle.json.specs.Tree.{Json, jnull, jbool, jint, jreal, jstr, jarr, jobj, Items, inil, icons, Members, mnil, mcons}
-use Rattle.json.specs.Grammar.{Value, Text}
-use Rattle.jer.specs.Table.{Table, is_type, tNull, tBoolean, tNumber, tString, tArray, tObject}
+use Rattle.json_text.specs.Tree.{Json, jnull, jbool, jint, jreal, jstr, jarr, jobj, Items, inil, icons, Members, mnil, mcons}
+use Rattle.json_text.specs.Grammar.{Value, Text}
+use Rattle.jer.specs.Table.{Table, is_type, t_null, t_boolean, t_number, t_string, t_array, t_object}
 use Rattle.jer.specs.Value.{Val}
 use Rattle.jer.specs.Answer.{ok}
 use Rattle.jer.specs.Read.{read}
-use Rattle.jer.specs.Rows.{rows_of, poolOf}
+use Rattle.jer.specs.Rows.{rows_of, pool_of}
 use Rattle.jer.specs.Write.{write}
 use Rattle.jer.specs.Sane.{Sane}
-use Rattle.jer.proofs.Weight.{weight, weight-least, padded-least}
+use Rattle.jer.proofs.Weight.{weight, weight_least, padded_least}
 use Rattle.jer.proofs.WeightMeasure.{Light, Fair, rows-length}
-use Rattle.jer.proofs.WeightLeaf.{unwrapping-fair, null-fair, bool-fair, int-fair, real-fair, string-fair}
+use Rattle.jer.proofs.WeightLeaf.{unwrapping-fair, null-fair, bool_fair, int-fair, real-fair, string-fair}
 use Rattle.jer.proofs.WeightParts.{FairItems, array-fair}
 use Rattle.jer.proofs.WeightMembers.{FairMembers, braces-fair}
 
@@ -25,13 +25,13 @@ mutual
   unfolding read
 
   fair : (j : Json) (t : Table) (g : Sane t) → Fair t (weight j) (λ r. read j t r)
-  fair (jnull p) t g = unwrapping-fair t g tNull p 4 _ (null-fair t p)
-  fair (jbool p b) t g = unwrapping-fair t g tBoolean p _ _ (bool-fair t p b)
-  fair (jint p m n) t g = unwrapping-fair t g tNumber p _ _ (int-fair t p m n)
-  fair (jreal p) t g = unwrapping-fair t g tNumber p 3 _ (real-fair t p)
-  fair (jstr p s) t g = unwrapping-fair t g tString p _ _ (string-fair t p s)
-  fair (jarr p is) t g = unwrapping-fair t g tArray p _ _ (array-fair t g p is (fair-items is t g))
-  fair (jobj p ms) t g = unwrapping-fair t g tObject p _ _ (braces-fair t g p ms (fair-members ms t g))
+  fair (jnull p) t g = unwrapping-fair t g t_null p 4 _ (null-fair t p)
+  fair (jbool p b) t g = unwrapping-fair t g t_boolean p _ _ (bool_fair t p b)
+  fair (jint p m n) t g = unwrapping-fair t g t_number p _ _ (int-fair t p m n)
+  fair (jreal p) t g = unwrapping-fair t g t_number p 3 _ (real-fair t p)
+  fair (jstr p s) t g = unwrapping-fair t g t_string p _ _ (string-fair t p s)
+  fair (jarr p is) t g = unwrapping-fair t g t_array p _ _ (array-fair t g p is (fair-items is t g))
+  fair (jobj p ms) t g = unwrapping-fair t g t_object p _ _ (braces-fair t g p ms (fair-members ms t g))
 
   fair-items : (is : Items) (t : Table) (g : Sane t) → FairItems t is
   fair-items inil t g = tt
@@ -50,19 +50,19 @@ module _ (t : Table) (g : Sane t) (j : Json) (r : ℕ) (v : Val) (y : is_type t 
   rows_bound = omega (arith, rows-length v t r 0, light)
 
   -- and no more pool bytes than text
-  pub pool-bound : length (poolOf v) ≤ weight j
-  pool-bound = omega (arith, light)
+  pub pool_bound : length (pool_of v) ≤ weight j
+  pool_bound = omega (arith, light)
 
   -- demand 2: writing what was read never gives a longer text
-  pub write-shorter : length (write v t r) ≤ weight j
-  write-shorter = omega (arith, light)
+  pub write_shorter : length (write v t r) ≤ weight j
+  write_shorter = omega (arith, light)
 
 -- of a whole text
 pub text-bounds : (t : Table) → Sane t → {d : ℕ} {j : Json} {bs : List ℕ} (v : Val) → Text d j bs → read j t 0 ≡ ok v
-    → (length (rows_of v t 0 0) ≤ 130 * length bs) × (length (poolOf v) ≤ length bs) × (length (write v t 0) ≤ length bs)
-text-bounds t g {j = j} v h e = let a = fair j t g 0 v g.whole e in let b = padded-least h in omega (arith, rows-length v t 0 0)
+    → (length (rows_of v t 0 0) ≤ 130 * length bs) × (length (pool_of v) ≤ length bs) × (length (write v t 0) ≤ length bs)
+text-bounds t g {j = j} v h e = let a = fair j t g 0 v g.whole e in let b = padded_least h in omega (arith, rows-length v t 0 0)
 
 -- of a value inside a text of the house size: its rows and its pool are counted by 32-bit numbers
 pub bounds-at : (t : Table) → Sane t → {d p : ℕ} {j : Json} {bs : List ℕ} (r : ℕ) (v : Val) → Value d p j bs → length bs ≤ 65536 → is_type t r ≡ true → read j t r ≡ ok v
-    → (length (rows_of v t r 0) < 2 ^ 32) × (length (poolOf v) < 2 ^ 32)
-bounds-at t g {j = j} r v h l y e = let a = fair j t g r v y e in let b = weight-least h in omega (arith, rows-length v t r 0)
+    → (length (rows_of v t r 0) < 2 ^ 32) × (length (pool_of v) < 2 ^ 32)
+bounds-at t g {j = j} r v h l y e = let a = fair j t g r v y e in let b = weight_least h in omega (arith, rows-length v t r 0)

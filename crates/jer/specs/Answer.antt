@@ -23,29 +23,29 @@ abbrev pub at : {A : Type 0} → Cause → ℕ → Res A
 at c p = no (AtByte c p)
 
 -- the numbers of 01's table of refusals: 2 to 11
-abbrev pub causeNumber : Cause → ℕ
-causeNumber TooLong = 2
-causeNumber NotJson = 3
-causeNumber TooDeep = 4
-causeNumber OtherKind = 5
-causeNumber BadNumber = 6
-causeNumber BadString = 7
-causeNumber UnknownName = 8
-causeNumber RepeatedName = 9
-causeNumber (Missing i) = 10
-causeNumber Surplus = 10
-causeNumber NotOne = 10
-causeNumber Unknown = 11
+abbrev pub cause_number : Cause → ℕ
+cause_number TooLong = 2
+cause_number NotJson = 3
+cause_number TooDeep = 4
+cause_number OtherKind = 5
+cause_number BadNumber = 6
+cause_number BadString = 7
+cause_number UnknownName = 8
+cause_number RepeatedName = 9
+cause_number (Missing i) = 10
+cause_number Surplus = 10
+cause_number NotOne = 10
+cause_number Unknown = 11
 
 -- 1 and 12
-abbrev pub tableNumber : Which → ℕ
-tableNumber TypeTable = 1
-tableNumber ValueTable = 12
+abbrev pub table_number : Which → ℕ
+table_number TypeTable = 1
+table_number ValueTable = 12
 
 -- 13 and 14
-abbrev pub limitNumber : Limit → ℕ
-limitNumber HouseSize = 13
-limitNumber LentRoom = 14
+abbrev pub limit_number : Limit → ℕ
+limit_number HouseSize = 13
+limit_number LentRoom = 14
 
 -- 01, Refusal numbers: "A refusal carries its number and, by kind of refusal, a place, a row or the amounts needed."
 pub record Values : Type 0 where
@@ -57,9 +57,9 @@ abbrev pub values : ℕ → ℕ → ℕ → Values
 values n a b = record { number = n; first = a; second = b }
 
 abbrev pub values_of : Refusal → Values
-values_of (AtByte c p) = values (causeNumber c) p 0
-values_of (AtRow w r) = values (tableNumber w) r 0
-values_of (Amounts l a b) = values (limitNumber l) a b
+values_of (AtByte c p) = values (cause_number c) p 0
+values_of (AtRow w r) = values (table_number w) r 0
+values_of (Amounts l a b) = values (limit_number l) a b
 
 unfoldable pub number_of : Refusal → ℕ
 number_of e = (values_of e).number

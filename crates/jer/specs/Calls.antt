@@ -1,8 +1,8 @@
 -- The calls from outside: the answer and what each buffer holds afterwards, in document 01's order of refusals.
 use Rattle.std.specs.Prelude.{ℕ, ◌-◌, ◌^◌, List, ◌++◌, Bool, true, false, ◌&&◌, leb, length, drop}
 use Rattle.std.proofs.Math.Option.{Option, none, some}
-use Rattle.json.specs.Tree.{Json}
-use Rattle.json.specs.Machine.{Parsed, tree, refused, notJson, tooDeep, parse}
+use Rattle.json_text.specs.Tree.{Json}
+use Rattle.json_text.specs.Machine.{Parsed, tree, refused, not_json, too_deep, parse}
 use Rattle.jer.specs.declared.Cause.TheVariants.{TooLong, NotJson, TooDeep}
 use Rattle.jer.specs.declared.Which.TheVariants.{TypeTable}
 use Rattle.jer.specs.declared.Limit.TheVariants.{HouseSize, LentRoom}
@@ -14,11 +14,11 @@ use Rattle.jer.specs.declared.Reading.TheVariants as reading
 use Rattle.jer.specs.declared.Writing.{Writing}
 use Rattle.jer.specs.declared.Writing.TheVariants as writing
 use Rattle.jer.specs.Table.{Table}
-use Rattle.jer.specs.Valid.{firstBad}
+use Rattle.jer.specs.Valid.{first_bad}
 use Rattle.jer.specs.Value.{Val}
 use Rattle.jer.specs.Answer.{Res, ok, no, bind, at}
-use Rattle.jer.specs.Read.{readWhole}
-use Rattle.jer.specs.Rows.{numbers, rows_of, poolOf}
+use Rattle.jer.specs.Read.{read_whole}
+use Rattle.jer.specs.Rows.{numbers, rows_of, pool_of}
 use Rattle.jer.specs.Judge.{judge}
 use Rattle.jer.specs.Write.{write}
 
@@ -29,34 +29,34 @@ table_of t none = ok t
 table_of t (some r) = no (AtRow TypeTable r)
 
 -- 01, Refusal numbers, 1: "type table or names break a rule above"
-unfoldable pub goodTable : Table → Res Table
-goodTable t = table_of t (firstBad t)
+unfoldable pub good_table : Table → Res Table
+good_table t = table_of t (first_bad t)
 
 unfoldable pub tree_of : Parsed → Res Json
 tree_of (tree j) = ok j
-tree_of (refused notJson p) = at NotJson p
-tree_of (refused tooDeep p) = at TooDeep p
+tree_of (refused not_json p) = at NotJson p
+tree_of (refused too_deep p) = at TooDeep p
 
 -- 2: "text over 65,536 bytes | 65,536"; 01, What the library handles: "and of text"
-unfoldable pub goodText : List ℕ → Res Json
-goodText s = elim (leb (length s) 65536) [ true ↦ tree_of (parse s) | false ↦ at TooLong 65536 ]
+unfoldable pub good_text : List ℕ → Res Json
+good_text s = elim (leb (length s) 65536) [ true ↦ tree_of (parse s) | false ↦ at TooLong 65536 ]
 
-unfoldable pub judgedBy : {A : Type 0} → Res A → Judged
-judgedBy (ok a) = judged.Good
-judgedBy (no e) = judged.Refused e
+unfoldable pub judged_by : {A : Type 0} → Res A → Judged
+judged_by (ok a) = judged.Good
+judged_by (no e) = judged.Refused e
 
 -- what judging a type table answers, and what judging a text answers
-unfoldable pub tableJudged : Table → Judged
-tableJudged t = judgedBy (goodTable t)
+unfoldable pub table_judged : Table → Judged
+table_judged t = judged_by (good_table t)
 
-unfoldable pub textJudged : List ℕ → Judged
-textJudged s = judgedBy (goodText s)
+unfoldable pub text_judged : List ℕ → Judged
+text_judged s = judged_by (good_text s)
 
 -- ---- reading
 
 -- 01, Refusal numbers: "Order when reading: 1, 2, then 3 or 4 by first byte (3 where both fall on one byte), then the typed reading, then 14."
-unfoldable pub readText : Table → List ℕ → Res Val
-readText t s = bind (goodTable t) (λ u. bind (goodText s) (λ j. readWhole t j))
+unfoldable pub read_text : Table → List ℕ → Res Val
+read_text t s = bind (good_table t) (λ u. bind (good_text s) (λ j. read_whole t j))
 
 -- a buffer of which the first numbers are written over
 -- 01, Refusal numbers: "Success changes only the rows, pool bytes or text bytes used."
@@ -64,49 +64,49 @@ unfoldable pub over : List ℕ → List ℕ → List ℕ
 over xs buffer = xs ++ drop (length xs) buffer
 
 -- the numbers of the rows of a whole value
-unfoldable pub rowNumbers : Table → Val → List ℕ
-rowNumbers t v = numbers (rows_of v t 0 0)
+unfoldable pub row_numbers : Table → Val → List ℕ
+row_numbers t v = numbers (rows_of v t 0 0)
 
 unfoldable pub roomy : Table → Val → ℕ → ℕ → Bool
-roomy t v n m = leb (length (rowNumbers t v)) n && leb (length (poolOf v)) m
+roomy t v n m = leb (length (row_numbers t v)) n && leb (length (pool_of v)) m
 
 -- 14: "lent room too small | rows and pool bytes (..) needed": room for n numbers of rows and m bytes of pool
-unfoldable pub readAnswer : Table → ℕ → ℕ → Res Val → Reading
-readAnswer t n m (no e) = reading.Refused e
-readAnswer t n m (ok v) =
+unfoldable pub read_answer : Table → ℕ → ℕ → Res Val → Reading
+read_answer t n m (no e) = reading.Refused e
+read_answer t n m (ok v) =
     elim (roomy t v n m) [
-      | true ↦ reading.Read (length (rows_of v t 0 0)) (length (poolOf v))
-      | false ↦ reading.Refused (Amounts LentRoom (length (rows_of v t 0 0)) (length (poolOf v)))
+      | true ↦ reading.Read (length (rows_of v t 0 0)) (length (pool_of v))
+      | false ↦ reading.Refused (Amounts LentRoom (length (rows_of v t 0 0)) (length (pool_of v)))
     ]
 
 -- the buffers afterwards; refusals: "All leave every buffer untouched."
-unfoldable pub rowsAfter : Table → List ℕ → ℕ → Res Val → List ℕ
-rowsAfter t rows m (no e) = rows
-rowsAfter t rows m (ok v) = elim (roomy t v (length rows) m) [ true ↦ over (rowNumbers t v) rows | false ↦ rows ]
+unfoldable pub rows_after : Table → List ℕ → ℕ → Res Val → List ℕ
+rows_after t rows m (no e) = rows
+rows_after t rows m (ok v) = elim (roomy t v (length rows) m) [ true ↦ over (row_numbers t v) rows | false ↦ rows ]
 
-unfoldable pub poolAfter : Table → ℕ → List ℕ → Res Val → List ℕ
-poolAfter t n pool (no e) = pool
-poolAfter t n pool (ok v) = elim (roomy t v n (length pool)) [ true ↦ over (poolOf v) pool | false ↦ pool ]
+unfoldable pub pool_after : Table → ℕ → List ℕ → Res Val → List ℕ
+pool_after t n pool (no e) = pool
+pool_after t n pool (ok v) = elim (roomy t v n (length pool)) [ true ↦ over (pool_of v) pool | false ↦ pool ]
 
 -- ---- writing
 
 -- 01, Refusal numbers: "Writing: 1, 12, 13, 14."
-unfoldable pub writeText : Table → List ℕ → List ℕ → Res (List ℕ)
-writeText t ns pool = bind (goodTable t) (λ u. bind (judge t ns pool) (λ v. ok (write v t 0)))
+unfoldable pub write_text : Table → List ℕ → List ℕ → Res (List ℕ)
+write_text t ns pool = bind (good_table t) (λ u. bind (judge t ns pool) (λ v. ok (write v t 0)))
 
 -- an amount is a 64-bit number; one that would pass 2^64-1 is given as 2^64-1
 unfoldable pub amount : ℕ → ℕ
 amount n = elim (leb n (2 ^ 64 - 1)) [ true ↦ n | false ↦ 2 ^ 64 - 1 ]
 
 -- 13: "written text over 65,536 bytes | bytes needed"; 14: "or text bytes"
-unfoldable pub writeAnswer : ℕ → Res (List ℕ) → Writing
-writeAnswer n (no e) = writing.Refused e
-writeAnswer n (ok s) =
+unfoldable pub write_answer : ℕ → Res (List ℕ) → Writing
+write_answer n (no e) = writing.Refused e
+write_answer n (ok s) =
     elim (leb (length s) 65536) [
       | false ↦ writing.Refused (Amounts HouseSize (amount (length s)) 0)
       | true ↦ elim (leb (length s) n) [ true ↦ writing.Written (length s) | false ↦ writing.Refused (Amounts LentRoom (length s) 0) ]
     ]
 
-unfoldable pub textAfter : List ℕ → Res (List ℕ) → List ℕ
-textAfter text (no e) = text
-textAfter text (ok s) = elim (leb (length s) 65536 && leb (length s) (length text)) [ true ↦ over s text | false ↦ text ]
+unfoldable pub text_after : List ℕ → Res (List ℕ) → List ℕ
+text_after text (no e) = text
+text_after text (ok s) = elim (leb (length s) 65536 && leb (length s) (length text)) [ true ↦ over s text | false ↦ text ]

@@ -9,25 +9,25 @@ use Rattle.jer.specs.declared.Readings.TheVariants as readings
 use Rattle.jer.specs.Table.{Table}
 use Rattle.jer.specs.Value.{Val}
 use Rattle.jer.specs.Answer.{Res, ok, no, bind, Values, values, values_of}
-use Rattle.jer.specs.Calls.{goodTable, readText, readAnswer, rowsAfter, poolAfter}
+use Rattle.jer.specs.Calls.{good_table, read_text, read_answer, rows_after, pool_after}
 
 -- the text from a place up to its end; an end before the place gives an empty text
-unfoldable pub textFrom : List ℕ → ℕ → ℕ → List ℕ
-textFrom texts from end = take (end - from) (drop from texts)
+unfoldable pub text_from : List ℕ → ℕ → ℕ → List ℕ
+text_from texts from end = take (end - from) (drop from texts)
 
 -- 0 with the rows and pool bytes, or a refusal's number and values
-unfoldable pub valuesIn : Reading → Values
-valuesIn (reading.Read n m) = values 0 n m
-valuesIn (reading.Refused e) = values_of e
+unfoldable pub values_in : Reading → Values
+values_in (reading.Read n m) = values 0 n m
+values_in (reading.Refused e) = values_of e
 
 -- rows and pool bytes that an answer takes up
-unfoldable pub rowsUsed : Reading → ℕ
-rowsUsed (reading.Read n m) = n
-rowsUsed (reading.Refused e) = 0
+unfoldable pub rows_used : Reading → ℕ
+rows_used (reading.Read n m) = n
+rows_used (reading.Refused e) = 0
 
-unfoldable pub poolUsed : Reading → ℕ
-poolUsed (reading.Read n m) = m
-poolUsed (reading.Refused e) = 0
+unfoldable pub pool_used : Reading → ℕ
+pool_used (reading.Read n m) = m
+pool_used (reading.Refused e) = 0
 
 -- what is told of a text, in five numbers: its answer's values, and where its rows and its pool bytes end
 unfoldable pub told : Values → ℕ → ℕ → List ℕ
@@ -48,45 +48,45 @@ unfoldable pub ahead : List ℕ → List ℕ → List ℕ → Each → Each
 ahead rows pool line z = each (suc z.count) (rows ++ z.rows) (pool ++ z.pool) (line ++ z.tells)
 
 -- a text that is read as x, with n rows and m pool bytes taken up before it and this room left: then those after it, unless it finds no room
-unfoldable pub readOne : Table → Res Val → Reading → ℕ → ℕ → List ℕ → List ℕ → List ℕ → (ℕ → ℕ → List ℕ → List ℕ → List ℕ → Each) → Each
-readOne t x r n m rows pool tells rest =
-    elim (eqb (valuesIn r).number 14) [
-      | true ↦ each 1 rows pool (told (valuesIn r) n m ++ drop 5 tells)
-      | false ↦ ahead (take (rowsUsed r * 4) (rowsAfter t rows (length pool) x)) (take (poolUsed r) (poolAfter t (length rows) pool x)) (told (valuesIn r) (n + rowsUsed r) (m + poolUsed r))
-          (rest (n + rowsUsed r) (m + poolUsed r) (drop (rowsUsed r * 4) (rowsAfter t rows (length pool) x)) (drop (poolUsed r) (poolAfter t (length rows) pool x)) (drop 5 tells))
+unfoldable pub read_one : Table → Res Val → Reading → ℕ → ℕ → List ℕ → List ℕ → List ℕ → (ℕ → ℕ → List ℕ → List ℕ → List ℕ → Each) → Each
+read_one t x r n m rows pool tells rest =
+    elim (eqb (values_in r).number 14) [
+      | true ↦ each 1 rows pool (told (values_in r) n m ++ drop 5 tells)
+      | false ↦ ahead (take (rows_used r * 4) (rows_after t rows (length pool) x)) (take (pool_used r) (pool_after t (length rows) pool x)) (told (values_in r) (n + rows_used r) (m + pool_used r))
+          (rest (n + rows_used r) (m + pool_used r) (drop (rows_used r * 4) (rows_after t rows (length pool) x)) (drop (pool_used r) (pool_after t (length rows) pool x)) (drop 5 tells))
     ]
 
 -- what a call answers that reads the text into this room
 abbrev pub alone : Table → List ℕ → List ℕ → List ℕ → Reading
-alone t s rows pool = readAnswer t (length rows) (length pool) (readText t s)
+alone t s rows pool = read_answer t (length rows) (length pool) (read_text t s)
 
 -- the texts that end there, the first of them from a place on; a text of which there is no room to tell is not read
-unfoldable pub readEach : Table → List ℕ → ℕ → List ℕ → ℕ → ℕ → List ℕ → List ℕ → List ℕ → Each
-readEach t texts from [] n m rows pool tells = each 0 rows pool tells
-readEach t texts from (end ∷ ends) n m rows pool tells =
+unfoldable pub read_each : Table → List ℕ → ℕ → List ℕ → ℕ → ℕ → List ℕ → List ℕ → List ℕ → Each
+read_each t texts from [] n m rows pool tells = each 0 rows pool tells
+read_each t texts from (end ∷ ends) n m rows pool tells =
     elim (leb 5 (length tells)) [
       | false ↦ each 0 rows pool tells
-      | true ↦ readOne t (readText t (textFrom texts from end)) (alone t (textFrom texts from end) rows pool) n m rows pool tells
-          (λ n' m' rows' pool' tells'. readEach t texts end ends n' m' rows' pool' tells')
+      | true ↦ read_one t (read_text t (text_from texts from end)) (alone t (text_from texts from end) rows pool) n m rows pool tells
+          (λ n' m' rows' pool' tells'. read_each t texts end ends n' m' rows' pool' tells')
     ]
 
 -- ---- the call
 
-unfoldable pub eachRead : Table → List ℕ → List ℕ → List ℕ → List ℕ → List ℕ → Res Each
-eachRead t texts ends rows pool tells = bind (goodTable t) (λ u. ok (readEach t texts 0 ends 0 0 rows pool tells))
+unfoldable pub each_read : Table → List ℕ → List ℕ → List ℕ → List ℕ → List ℕ → Res Each
+each_read t texts ends rows pool tells = bind (good_table t) (λ u. ok (read_each t texts 0 ends 0 0 rows pool tells))
 
-unfoldable pub eachAnswer : Res Each → Readings
-eachAnswer (ok z) = readings.Answered z.count
-eachAnswer (no e) = readings.Refused e
+unfoldable pub each_answer : Res Each → Readings
+each_answer (ok z) = readings.Answered z.count
+each_answer (no e) = readings.Refused e
 
 -- the buffers afterwards: of a type table that is refused, as they were
-unfoldable pub eachLeft : (Each → List ℕ) → List ℕ → Res Each → List ℕ
-eachLeft part buffer (ok z) = part z
-eachLeft part buffer (no e) = buffer
+unfoldable pub each_left : (Each → List ℕ) → List ℕ → Res Each → List ℕ
+each_left part buffer (ok z) = part z
+each_left part buffer (no e) = buffer
 
 -- `reading::each::read_each` of these texts, with these buffers lent, answers r and leaves the buffers so
 pub record EachCall (t : Table) (texts ends rows pool tells : List ℕ) (r : Readings) (rows' pool' tells' : List ℕ) : Type 0 where
-  pub answer : r ≡ eachAnswer (eachRead t texts ends rows pool tells)
-  pub rowsLeft : rows' ≡ eachLeft (λ z. z.rows) rows (eachRead t texts ends rows pool tells)
-  pub poolLeft : pool' ≡ eachLeft (λ z. z.pool) pool (eachRead t texts ends rows pool tells)
-  pub tellsLeft : tells' ≡ eachLeft (λ z. z.tells) tells (eachRead t texts ends rows pool tells)
+  pub answer : r ≡ each_answer (each_read t texts ends rows pool tells)
+  pub rows_left : rows' ≡ each_left (λ z. z.rows) rows (each_read t texts ends rows pool tells)
+  pub pool_left : pool' ≡ each_left (λ z. z.pool) pool (each_read t texts ends rows pool tells)
+  pub tells_left : tells' ≡ each_left (λ z. z.tells) tells (each_read t texts ends rows pool tells)

@@ -13,7 +13,7 @@ pub mod Means
 pub mod Sane
 pub mod Cut
 pub mod Calls
-pub mod Contracts
+pub mod CallClauses
 pub mod Each
 pub mod Samples
 pub mod Programs

@@ -2,8 +2,8 @@
 -- well-formed values alone. `Calls` says the same by a machine that takes one byte at a time; `promises` shows that the two are one.
 use Rattle.std.specs.Prelude.{ℕ, ◌≤◌, ◌<◌, ◌≡◌, List, length}
 use Rattle.std.proofs.Math.Option.{none, some}
-use Rattle.json.specs.Tree.{Json}
-use Rattle.json.specs.Grammar.{Text, NotJsonAt, TooDeepAt}
+use Rattle.json_text.specs.Tree.{Json}
+use Rattle.json_text.specs.Grammar.{Text, NotJsonAt, TooDeepAt}
 use Rattle.jer.specs.declared.Cause.TheVariants.{TooLong, NotJson, TooDeep}
 use Rattle.jer.specs.declared.Which.TheVariants.{TypeTable}
 use Rattle.jer.specs.declared.Refusal.{Refusal}
@@ -11,11 +11,11 @@ use Rattle.jer.specs.declared.Refusal.TheVariants.{AtByte, AtRow}
 use Rattle.jer.specs.declared.Judged.{Judged}
 use Rattle.jer.specs.declared.Judged.TheVariants.{Good, Refused}
 use Rattle.jer.specs.Table.{Table}
-use Rattle.jer.specs.Valid.{firstBad}
+use Rattle.jer.specs.Valid.{first_bad}
 use Rattle.jer.specs.Value.{Val}
 use Rattle.jer.specs.Answer.{Res, ok, no}
-use Rattle.jer.specs.Read.{readWhole}
-use Rattle.jer.specs.Rows.{numbers, rows_of, poolOf}
+use Rattle.jer.specs.Read.{read_whole}
+use Rattle.jer.specs.Rows.{numbers, rows_of, pool_of}
 use Rattle.jer.specs.Fits.{Fits}
 
 -- What judging the text s answers: 2 if it is too long, else 3 or 4 where the grammar says so, else it is a JSON text.
@@ -27,20 +27,20 @@ pub data Judges (s : List ℕ) : Judged → Type 0 where
 
 -- What reading the text s at the table t gives: 1 if the table is bad, then what judging the text refuses, then what its tree means.
 pub data Reads (t : Table) (s : List ℕ) : Res Val → Type 0 where
-  badTable : {r : ℕ} → firstBad t ≡ some r → Reads t s (no (AtRow TypeTable r))
-  badText : {e : Refusal} → firstBad t ≡ none → Judges s (Refused e) → Reads t s (no e)
-  typed : {j : Json} {x : Res Val} → firstBad t ≡ none → length s ≤ 65536 → Text 32 j s → x ≡ readWhole t j → Reads t s x
+  bad_table : {r : ℕ} → first_bad t ≡ some r → Reads t s (no (AtRow TypeTable r))
+  bad_text : {e : Refusal} → first_bad t ≡ none → Judges s (Refused e) → Reads t s (no e)
+  typed : {j : Json} {x : Res Val} → first_bad t ≡ none → length s ≤ 65536 → Text 32 j s → x ≡ read_whole t j → Reads t s x
 
 -- v is the value that the table t reads in the text s: the table is good, the text is JSON within the sizes, and v is what its tree means
 pub record Means (t : Table) (s : List ℕ) (v : Val) : Type 0 where
-  pub good : firstBad t ≡ none
+  pub good : first_bad t ≡ none
   pub json : Json
   pub text : Text 32 json s
   pub size : length s ≤ 65536
-  pub value : readWhole t json ≡ ok v
+  pub value : read_whole t json ≡ ok v
 
 -- ns and the pool are the value table of v, which is well formed
 pub record TableOf (t : Table) (v : Val) (ns pool : List ℕ) : Type 0 where
   pub fits : Fits t 32 0 v
   pub rows : ns ≡ numbers (rows_of v t 0 0)
-  pub bytes : pool ≡ poolOf v
+  pub bytes : pool ≡ pool_of v

@@ -1,7 +1,7 @@
 -- Trees that differ only in places, and the tokens of trees.
 use Rattle.std.specs.Prelude.{ℕ, List, Bool}
-use Rattle.json.specs.Tree.{Json, jnull, jbool, jint, jreal, jstr, jarr, jobj, Items, inil, icons, Members, mnil, mcons}
-use Rattle.jer.specs.Table.{Token, tNull, tBoolean, tNumber, tString, tArray, tObject}
+use Rattle.json_text.specs.Tree.{Json, jnull, jbool, jint, jreal, jstr, jarr, jobj, Items, inil, icons, Members, mnil, mcons}
+use Rattle.jer.specs.Table.{Token, t_null, t_boolean, t_number, t_string, t_array, t_object}
 
 -- Other white space and other escapes leave a tree as it is but for its places: the same tokens, names and strings in the same order.
 mutual
@@ -19,15 +19,15 @@ mutual
     item : {j k : Json} {is js : Items} → Moved j k → MovedItems is js → MovedItems (icons j is) (icons k js)
 
   pub data MovedMembers : Members → Members → Type 0 where
-    noMember : MovedMembers mnil mnil
+    no_member : MovedMembers mnil mnil
     member : {p q : ℕ} {s : List ℕ} {j k : Json} {ms ns : Members} → Moved j k → MovedMembers ms ns → MovedMembers (mcons p s j ms) (mcons q s k ns)
 
 -- the token that a tree begins with
-unfoldable pub tokenIn : Json → Token
-tokenIn (jnull p) = tNull
-tokenIn (jbool p b) = tBoolean
-tokenIn (jint p m n) = tNumber
-tokenIn (jreal p) = tNumber
-tokenIn (jstr p s) = tString
-tokenIn (jarr p is) = tArray
-tokenIn (jobj p ms) = tObject
+unfoldable pub token_in : Json → Token
+token_in (jnull p) = t_null
+token_in (jbool p b) = t_boolean
+token_in (jint p m n) = t_number
+token_in (jreal p) = t_number
+token_in (jstr p s) = t_string
+token_in (jarr p is) = t_array
+token_in (jobj p ms) = t_object

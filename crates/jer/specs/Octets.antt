@@ -1,7 +1,7 @@
 -- Octets as hexadecimal and as Base64.
 use Rattle.std.specs.Prelude.{ℕ, zero, ◌+◌, ◌-◌, ◌*◌, ◌/◌, ◌%◌, List, [], ◌∷◌, Bool, true, false, eqb, ltb}
 use Rattle.std.proofs.Math.Option.{Option, none, some}
-use Rattle.json.specs.Bytes.{on, pick}
+use Rattle.json_text.specs.Bytes.{on, pick}
 
 unfoldable pub also : {A B : Type 0} → Option A → (A → Option B) → Option B
 also none f = none
@@ -10,26 +10,26 @@ also (some a) f = f a
 -- ---- hexadecimal
 
 -- 01, Reading: "OCTET STRING: hexadecimal of either letter case, even length"
-unfoldable pub hexValue : ℕ → Option ℕ
-hexValue b = pick b (on 0x30 0x39 (λ b. some (b - 0x30)) ∷ on 0x41 0x46 (λ b. some (b - 0x37)) ∷ on 0x61 0x66 (λ b. some (b - 0x57)) ∷ []) none
+unfoldable pub hex_value : ℕ → Option ℕ
+hex_value b = pick b (on 0x30 0x39 (λ b. some (b - 0x30)) ∷ on 0x41 0x46 (λ b. some (b - 0x37)) ∷ on 0x61 0x66 (λ b. some (b - 0x57)) ∷ []) none
 
 unfoldable pub unhex : List ℕ → Option (List ℕ)
 unhex [] = some []
 unhex (a ∷ []) = none
-unhex (a ∷ b ∷ s) = also (hexValue a) (λ x. also (hexValue b) (λ y. also (unhex s) (λ os. some ((x * 16 + y) ∷ os))))
+unhex (a ∷ b ∷ s) = also (hex_value a) (λ x. also (hex_value b) (λ y. also (unhex s) (λ os. some ((x * 16 + y) ∷ os))))
 
 -- 01, Writing: "Hexadecimal in upper case"
-unfoldable pub hexDigit : ℕ → ℕ
-hexDigit x = elim (ltb x 10) [ true ↦ 0x30 + x | false ↦ 0x37 + x ]
+unfoldable pub hex_digit : ℕ → ℕ
+hex_digit x = elim (ltb x 10) [ true ↦ 0x30 + x | false ↦ 0x37 + x ]
 
 unfoldable pub hex : List ℕ → List ℕ
 hex [] = []
-hex (o ∷ os) = hexDigit (o / 16) ∷ hexDigit (o % 16) ∷ hex os
+hex (o ∷ os) = hex_digit (o / 16) ∷ hex_digit (o % 16) ∷ hex os
 
 -- ---- Base64, RFC 2045 section 6.8
 
-unfoldable pub base64Value : ℕ → Option ℕ
-base64Value b =
+unfoldable pub base64_value : ℕ → Option ℕ
+base64_value b =
     pick b
     (on 0x41 0x5A (λ b. some (b - 0x41))
     ∷ on 0x61 0x7A (λ b. some (b - 0x47))
@@ -45,20 +45,20 @@ only_if false a = none
 
 -- a last group of four: with two pads it has one octet, with one pad two octets, else three
 -- 01, Reading: "with BASE64, groups of four with padding, unused bits zero, no other character"
-unfoldable pub lastGroup : ℕ → ℕ → ℕ → ℕ → Option (List ℕ)
-lastGroup a b c d =
-    also (base64Value a) (λ x. also (base64Value b) (λ y.
+unfoldable pub last_group : ℕ → ℕ → ℕ → ℕ → Option (List ℕ)
+last_group a b c d =
+    also (base64_value a) (λ x. also (base64_value b) (λ y.
     elim (eqb d 0x3D) [
       | true ↦ elim (eqb c 0x3D) [
         | true ↦ only_if (eqb (y % 16) 0) ((x * 4 + y / 16) ∷ [])
-        | false ↦ also (base64Value c) (λ z. only_if (eqb (z % 4) 0) ((x * 4 + y / 16) ∷ (y % 16 * 16 + z / 4) ∷ []))
+        | false ↦ also (base64_value c) (λ z. only_if (eqb (z % 4) 0) ((x * 4 + y / 16) ∷ (y % 16 * 16 + z / 4) ∷ []))
       ]
-      | false ↦ also (base64Value c) (λ z. also (base64Value d) (λ w. some ((x * 4 + y / 16) ∷ (y % 16 * 16 + z / 4) ∷ (z % 4 * 64 + w) ∷ [])))
+      | false ↦ also (base64_value c) (λ z. also (base64_value d) (λ w. some ((x * 4 + y / 16) ∷ (y % 16 * 16 + z / 4) ∷ (z % 4 * 64 + w) ∷ [])))
     ]))
 
-unfoldable pub fullGroup : ℕ → ℕ → ℕ → ℕ → Option (List ℕ) → Option (List ℕ)
-fullGroup a b c d rest =
-    also (base64Value a) (λ x. also (base64Value b) (λ y. also (base64Value c) (λ z. also (base64Value d) (λ w. also rest (λ os.
+unfoldable pub full_group : ℕ → ℕ → ℕ → ℕ → Option (List ℕ) → Option (List ℕ)
+full_group a b c d rest =
+    also (base64_value a) (λ x. also (base64_value b) (λ y. also (base64_value c) (λ z. also (base64_value d) (λ w. also rest (λ os.
     some ((x * 4 + y / 16) ∷ (y % 16 * 16 + z / 4) ∷ (z % 4 * 64 + w) ∷ os))))))
 
 unfoldable pub unbase64 : List ℕ → Option (List ℕ)
@@ -66,11 +66,11 @@ unbase64 [] = some []
 unbase64 (a ∷ []) = none
 unbase64 (a ∷ b ∷ []) = none
 unbase64 (a ∷ b ∷ c ∷ []) = none
-unbase64 (a ∷ b ∷ c ∷ d ∷ []) = lastGroup a b c d
-unbase64 (a ∷ b ∷ c ∷ d ∷ e ∷ s) = fullGroup a b c d (unbase64 (e ∷ s))
+unbase64 (a ∷ b ∷ c ∷ d ∷ []) = last_group a b c d
+unbase64 (a ∷ b ∷ c ∷ d ∷ e ∷ s) = full_group a b c d (unbase64 (e ∷ s))
 
-unfoldable pub base64Digit : ℕ → ℕ
-base64Digit x =
+unfoldable pub base64_digit : ℕ → ℕ
+base64_digit x =
     pick x
     (on 0 25 (λ x. x + 0x41)
     ∷ on 26 51 (λ x. x + 0x47)
@@ -82,6 +82,6 @@ base64Digit x =
 -- 01, Writing: "Base64 in one line with padding"
 unfoldable pub base64 : List ℕ → List ℕ
 base64 [] = []
-base64 (a ∷ []) = base64Digit (a / 4) ∷ base64Digit (a % 4 * 16) ∷ 0x3D ∷ 0x3D ∷ []
-base64 (a ∷ b ∷ []) = base64Digit (a / 4) ∷ base64Digit (a % 4 * 16 + b / 16) ∷ base64Digit (b % 16 * 4) ∷ 0x3D ∷ []
-base64 (a ∷ b ∷ c ∷ s) = base64Digit (a / 4) ∷ base64Digit (a % 4 * 16 + b / 16) ∷ base64Digit (b % 16 * 4 + c / 64) ∷ base64Digit (c % 64) ∷ base64 s
+base64 (a ∷ []) = base64_digit (a / 4) ∷ base64_digit (a % 4 * 16) ∷ 0x3D ∷ 0x3D ∷ []
+base64 (a ∷ b ∷ []) = base64_digit (a / 4) ∷ base64_digit (a % 4 * 16 + b / 16) ∷ base64_digit (b % 16 * 4) ∷ 0x3D ∷ []
+base64 (a ∷ b ∷ c ∷ s) = base64_digit (a / 4) ∷ base64_digit (a % 4 * 16 + b / 16) ∷ base64_digit (b % 16 * 4 + c / 64) ∷ base64_digit (c % 64) ∷ base64 s

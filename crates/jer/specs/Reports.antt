@@ -2,5 +2,5 @@
 use Rattle.jer.specs.declared.Reported.{Reported}
 use Rattle.jer.specs.Answer.{Values}
 
-abbrev pub reportedOf : Values → Reported
-reportedOf v = record { number = v.number; first = v.first; second = v.second }
+abbrev pub reported_of : Values → Reported
+reported_of v = record { number = v.number; first = v.first; second = v.second }

@@ -3,23 +3,23 @@ use Rattle.std.specs.Prelude.{ℕ, suc, List, Bool}
 
 -- values without parts
 pub data Leaf : Type 0 where
-  lBool : Bool → Leaf
+  l_bool : Bool → Leaf
   -- the 64-bit two's complement
   l_int : ℕ → Leaf
   -- an item's position
-  lEnum : ℕ → Leaf
-  lNull : Leaf
+  l_enum : ℕ → Leaf
+  l_null : Leaf
   -- the bytes of an OCTET STRING or UTF8String
-  lBytes : List ℕ → Leaf
+  l_bytes : List ℕ → Leaf
 
 -- a value of each kind, with its parts
 mutual
   pub data Val : Type 0 where
-    vLeaf : Leaf → Val
-    vSeq : Parts → Val
-    vList : Vals → Val
+    v_leaf : Leaf → Val
+    v_seq : Parts → Val
+    v_list : Vals → Val
     -- an alternative's position, and the chosen value
-    vChoice : ℕ → Val → Val
+    v_choice : ℕ → Val → Val
 
   -- the items of a SEQUENCE OF
   pub data Vals : Type 0 where
@@ -32,27 +32,27 @@ mutual
     absent : Parts → Parts
     present : Val → Parts → Parts
 
-abbrev pub vBool : Bool → Val
-vBool b = vLeaf (lBool b)
+abbrev pub v_bool : Bool → Val
+v_bool b = v_leaf (l_bool b)
 
-abbrev pub vInt : ℕ → Val
-vInt n = vLeaf (l_int n)
+abbrev pub v_int : ℕ → Val
+v_int n = v_leaf (l_int n)
 
-abbrev pub vEnum : ℕ → Val
-vEnum i = vLeaf (lEnum i)
+abbrev pub v_enum : ℕ → Val
+v_enum i = v_leaf (l_enum i)
 
-abbrev pub vNull : Val
-vNull = vLeaf lNull
+abbrev pub v_null : Val
+v_null = v_leaf l_null
 
-abbrev pub vBytes : List ℕ → Val
-vBytes s = vLeaf (lBytes s)
+abbrev pub v_bytes : List ℕ → Val
+v_bytes s = v_leaf (l_bytes s)
 
 -- how many items, and how many members are present
-unfoldable pub countVals : Vals → ℕ
-countVals vnil = 0
-countVals (vcons v vs) = suc (countVals vs)
+unfoldable pub count_vals : Vals → ℕ
+count_vals vnil = 0
+count_vals (vcons v vs) = suc (count_vals vs)
 
-unfoldable pub countPresent : Parts → ℕ
-countPresent pnil = 0
-countPresent (absent ps) = countPresent ps
-countPresent (present v ps) = suc (countPresent ps)
+unfoldable pub count_present : Parts → ℕ
+count_present pnil = 0
+count_present (absent ps) = count_present ps
+count_present (present v ps) = suc (count_present ps)

@@ -1,18 +1,18 @@
 -- The one text of a value.
 use Rattle.std.specs.Prelude.{ℕ, zero, suc, ◌+◌, ◌-◌, ◌/◌, ◌%◌, ◌^◌, List, [], ◌∷◌, ◌++◌, Bool, true, false, ltb, eqb}
-use Rattle.json.specs.Bytes.{on, pick}
-use Rattle.jer.specs.Table.{Table, UTF8String, kind_of, isBase64, isArray, isUnwrapped, elementOf, type_at, name_at, sameBytes}
-use Rattle.jer.specs.Value.{Leaf, lBool, l_int, lEnum, lNull, lBytes, Val, vLeaf, vSeq, vList, vChoice, Vals, vnil, vcons, Parts, pnil, absent, present}
-use Rattle.jer.specs.Octets.{hexDigit, hex, base64}
+use Rattle.json_text.specs.Bytes.{on, pick}
+use Rattle.jer.specs.Table.{Table, UTF8String, kind_of, is_base64, is_array, is_unwrapped, element_of, type_at, name_at, same_bytes}
+use Rattle.jer.specs.Value.{Leaf, l_bool, l_int, l_enum, l_null, l_bytes, Val, v_leaf, v_seq, v_list, v_choice, Vals, vnil, vcons, Parts, pnil, absent, present}
+use Rattle.jer.specs.Octets.{hex_digit, hex, base64}
 
 -- ---- leaves
 
-unfoldable pub nullText : List ℕ
-nullText = 0x6E ∷ 0x75 ∷ 0x6C ∷ 0x6C ∷ []
+unfoldable pub null_text : List ℕ
+null_text = 0x6E ∷ 0x75 ∷ 0x6C ∷ 0x6C ∷ []
 
-unfoldable pub boolText : Bool → List ℕ
-boolText true = 0x74 ∷ 0x72 ∷ 0x75 ∷ 0x65 ∷ []
-boolText false = 0x66 ∷ 0x61 ∷ 0x6C ∷ 0x73 ∷ 0x65 ∷ []
+unfoldable pub bool_text : Bool → List ℕ
+bool_text true = 0x74 ∷ 0x72 ∷ 0x75 ∷ 0x65 ∷ []
+bool_text false = 0x66 ∷ 0x61 ∷ 0x6C ∷ 0x73 ∷ 0x65 ∷ []
 
 -- the decimal digits of n before ds; f digits are enough
 unfoldable pub digits : ℕ → ℕ → List ℕ → List ℕ
@@ -20,8 +20,8 @@ digits zero n ds = ds
 digits (suc f) n ds = elim (ltb n 10) [ true ↦ (0x30 + n) ∷ ds | false ↦ digits f (n / 10) ((0x30 + n % 10) ∷ ds) ]
 
 -- 01, Writing: "zero as 0"
-unfoldable pub intText : ℕ → List ℕ
-intText n = elim (ltb n (2 ^ 63)) [ true ↦ digits 20 n [] | false ↦ 0x2D ∷ digits 20 (2 ^ 64 - n) [] ]
+unfoldable pub int_text : ℕ → List ℕ
+int_text n = elim (ltb n (2 ^ 63)) [ true ↦ digits 20 n [] | false ↦ 0x2D ∷ digits 20 (2 ^ 64 - n) [] ]
 
 -- "Escapes only \" \\ \b \t \n \f \r, and \u00 with two upper-case digits for the rest of U+0000 to U+001F."
 unfoldable pub escaped : ℕ → List ℕ
@@ -34,7 +34,7 @@ escaped b =
     ∷ on 0x0A 0x0A (λ b. 0x5C ∷ 0x6E ∷ [])
     ∷ on 0x0C 0x0C (λ b. 0x5C ∷ 0x66 ∷ [])
     ∷ on 0x0D 0x0D (λ b. 0x5C ∷ 0x72 ∷ [])
-    ∷ on 0x00 0x1F (λ b. 0x5C ∷ 0x75 ∷ 0x30 ∷ 0x30 ∷ hexDigit (b / 16) ∷ hexDigit (b % 16) ∷ [])
+    ∷ on 0x00 0x1F (λ b. 0x5C ∷ 0x75 ∷ 0x30 ∷ 0x30 ∷ hex_digit (b / 16) ∷ hex_digit (b % 16) ∷ [])
     ∷ [])
     (b ∷ [])
 
@@ -45,15 +45,15 @@ escapes (b ∷ s) = escaped b ++ escapes s
 unfoldable pub quotes : List ℕ → List ℕ
 quotes s = 0x22 ∷ (s ++ (0x22 ∷ []))
 
-unfoldable pub stringText : List ℕ → List ℕ
-stringText s = quotes (escapes s)
+unfoldable pub string_text : List ℕ → List ℕ
+string_text s = quotes (escapes s)
 
 -- a UTF8String, or octets
-unfoldable pub bytesText : Table → ℕ → List ℕ → List ℕ
-bytesText t r s =
+unfoldable pub bytes_text : Table → ℕ → List ℕ → List ℕ
+bytes_text t r s =
     elim (eqb (kind_of t r) UTF8String) [
-      | true ↦ stringText s
-      | false ↦ elim (isBase64 t r) [ true ↦ quotes (base64 s) | false ↦ quotes (hex s) ]
+      | true ↦ string_text s
+      | false ↦ elim (is_base64 t r) [ true ↦ quotes (base64 s) | false ↦ quotes (hex s) ]
     ]
 
 -- ---- lists of texts
@@ -66,12 +66,12 @@ joined (x ∷ y ∷ xs) = x ++ (0x2C ∷ joined (y ∷ xs))
 
 -- "and all nulls at the end dropped": a text before those that are left
 unfoldable pub keep : List ℕ → List (List ℕ) → List (List ℕ)
-keep x [] = elim (sameBytes x nullText) [ true ↦ [] | false ↦ x ∷ [] ]
+keep x [] = elim (same_bytes x null_text) [ true ↦ [] | false ↦ x ∷ [] ]
 keep x (y ∷ ys) = x ∷ y ∷ ys
 
-unfoldable pub dropNulls : List (List ℕ) → List (List ℕ)
-dropNulls [] = []
-dropNulls (x ∷ xs) = keep x (dropNulls xs)
+unfoldable pub drop_nulls : List (List ℕ) → List (List ℕ)
+drop_nulls [] = []
+drop_nulls (x ∷ xs) = keep x (drop_nulls xs)
 
 unfoldable pub brackets : List (List ℕ) → List ℕ
 brackets xs = 0x5B ∷ (joined xs ++ (0x5D ∷ []))
@@ -79,43 +79,43 @@ brackets xs = 0x5B ∷ (joined xs ++ (0x5D ∷ []))
 unfoldable pub braces : List (List ℕ) → List ℕ
 braces xs = 0x7B ∷ (joined xs ++ (0x7D ∷ []))
 
-unfoldable pub memberText : List ℕ → List ℕ → List ℕ
-memberText name value = stringText name ++ (0x3A ∷ value)
+unfoldable pub member_text : List ℕ → List ℕ → List ℕ
+member_text name value = string_text name ++ (0x3A ∷ value)
 
-unfoldable pub choiceText : Table → ℕ → ℕ → List ℕ → List ℕ
-choiceText t r i value = elim (isUnwrapped t r) [ true ↦ value | false ↦ braces (memberText (name_at t r i) value ∷ []) ]
+unfoldable pub choice_text : Table → ℕ → ℕ → List ℕ → List ℕ
+choice_text t r i value = elim (is_unwrapped t r) [ true ↦ value | false ↦ braces (member_text (name_at t r i) value ∷ []) ]
 
-unfoldable pub sequenceText : Table → ℕ → List (List ℕ) → List (List ℕ) → List ℕ
-sequenceText t r es ms = elim (isArray t r) [ true ↦ brackets (dropNulls es) | false ↦ braces ms ]
+unfoldable pub sequence_text : Table → ℕ → List (List ℕ) → List (List ℕ) → List ℕ
+sequence_text t r es ms = elim (is_array t r) [ true ↦ brackets (drop_nulls es) | false ↦ braces ms ]
 
 -- ---- a value of the type at r
 
-abbrev pub leafText : Leaf → Table → ℕ → List ℕ
-leafText (lBool b) t r = boolText b
-leafText (l_int n) t r = intText n
-leafText (lEnum i) t r = stringText (name_at t r i)
-leafText lNull t r = nullText
-leafText (lBytes s) t r = bytesText t r s
+abbrev pub leaf_text : Leaf → Table → ℕ → List ℕ
+leaf_text (l_bool b) t r = bool_text b
+leaf_text (l_int n) t r = int_text n
+leaf_text (l_enum i) t r = string_text (name_at t r i)
+leaf_text l_null t r = null_text
+leaf_text (l_bytes s) t r = bytes_text t r s
 
 unfoldable mutual
   pub write : Val → Table → ℕ → List ℕ
-  write (vLeaf l) t r = leafText l t r
-  write (vSeq ps) t r = sequenceText t r (elementTexts ps t r 0) (memberTexts ps t r 0)
-  write (vList vs) t r = brackets (itemTexts vs t (elementOf t r))
-  write (vChoice i v) t r = choiceText t r i (write v t (type_at t r i))
+  write (v_leaf l) t r = leaf_text l t r
+  write (v_seq ps) t r = sequence_text t r (element_texts ps t r 0) (member_texts ps t r 0)
+  write (v_list vs) t r = brackets (item_texts vs t (element_of t r))
+  write (v_choice i v) t r = choice_text t r i (write v t (type_at t r i))
 
-  pub itemTexts : Vals → Table → ℕ → List (List ℕ)
-  itemTexts vnil t r = []
-  itemTexts (vcons v vs) t r = write v t r ∷ itemTexts vs t r
+  pub item_texts : Vals → Table → ℕ → List (List ℕ)
+  item_texts vnil t r = []
+  item_texts (vcons v vs) t r = write v t r ∷ item_texts vs t r
 
   -- the members from the position i on, as elements of an array: "in an ARRAY, null for absent"
-  pub elementTexts : Parts → Table → ℕ → ℕ → List (List ℕ)
-  elementTexts pnil t r i = []
-  elementTexts (absent ps) t r i = nullText ∷ elementTexts ps t r (suc i)
-  elementTexts (present v ps) t r i = write v t (type_at t r i) ∷ elementTexts ps t r (suc i)
+  pub element_texts : Parts → Table → ℕ → ℕ → List (List ℕ)
+  element_texts pnil t r i = []
+  element_texts (absent ps) t r i = null_text ∷ element_texts ps t r (suc i)
+  element_texts (present v ps) t r i = write v t (type_at t r i) ∷ element_texts ps t r (suc i)
 
   -- and as members of an object: "members in table order, absent members left out"
-  pub memberTexts : Parts → Table → ℕ → ℕ → List (List ℕ)
-  memberTexts pnil t r i = []
-  memberTexts (absent ps) t r i = memberTexts ps t r (suc i)
-  memberTexts (present v ps) t r i = memberText (name_at t r i) (write v t (type_at t r i)) ∷ memberTexts ps t r (suc i)
+  pub member_texts : Parts → Table → ℕ → ℕ → List (List ℕ)
+  member_texts pnil t r i = []
+  member_texts (absent ps) t r i = member_texts ps t r (suc i)
+  member_texts (present v ps) t r i = member_text (name_at t r i) (write v t (type_at t r i)) ∷ member_texts ps t r (suc i)

@@ -1,8 +1,8 @@
 // ASN.1 values in JSON (X.697) as document 01 lays them down: the answers of the calls, and in `specs/` what they mean.
 // Contracts of the crates above cite `specs/`; `specs/Answer.antt` gives document 01's number and values for each case.
 ghost use Rattle.std.specs.Prelude.{◌≡◌};
-ghost use Rattle.jer.specs.Answer.{causeNumber, tableNumber, limitNumber, values_of};
-ghost use Rattle.jer.specs.Reports.{reportedOf};
+ghost use Rattle.jer.specs.Answer.{cause_number, table_number, limit_number, values_of};
+ghost use Rattle.jer.specs.Reports.{reported_of};
 
 // Why a text is refused at one of its bytes.
 #[derive(Drop)]
@@ -107,7 +107,7 @@ pub struct Reported {
 }
 
 fn cause_number(c: Cause) -> u32
-    ensures { result ≡ causeNumber c }
+    ensures { result ≡ cause_number c }
 {
     match c {
         Cause::TooLong => 2,
@@ -126,7 +126,7 @@ fn cause_number(c: Cause) -> u32
 }
 
 fn table_number(w: Which) -> u32
-    ensures { result ≡ tableNumber w }
+    ensures { result ≡ table_number w }
 {
     match w {
         Which::TypeTable => 1,
@@ -135,7 +135,7 @@ fn table_number(w: Which) -> u32
 }
 
 fn limit_number(l: Limit) -> u32
-    ensures { result ≡ limitNumber l }
+    ensures { result ≡ limit_number l }
 {
     match l {
         Limit::HouseSize => 13,
@@ -145,7 +145,7 @@ fn limit_number(l: Limit) -> u32
 
 // What document 01's table of refusals gives for a refusal.
 pub fn report(e: Refusal) -> Reported
-    ensures { result ≡ reportedOf (values_of e) }
+    ensures { result ≡ reported_of (values_of e) }
 {
     match e {
         Refusal::AtByte(c, p) => Reported {

@@ -9,16 +9,16 @@ use borrow.Author.Tests.{lt-ltb, le-ltb}
 use lib.Dec.{ltb}
 use lib.ListN.{length, length-append}
 use lib.Seq.{sets}
-use Rattle.jer.proofs.Forms.{kind-tag}
-use Rattle.jer.specs.Table.{Table, kind_of, elementOf, type_at}
-use Rattle.jer.specs.Value.{Val, vSeq, vList, vChoice, Vals, vnil, vcons, Parts, pnil, absent, present, countVals, countPresent}
+use Rattle.jer.proofs.Forms.{kind_tag}
+use Rattle.jer.specs.Table.{Table, kind_of, element_of, type_at}
+use Rattle.jer.specs.Value.{Val, v_seq, v_list, v_choice, Vals, vnil, vcons, Parts, pnil, absent, present, count_vals, count_present}
 use Rattle.jer.specs.Answer.{Res, ok, no, bind}
 use Rattle.jer.specs.declared.Limit.TheVariants.{LentRoom}
 use Rattle.jer.specs.declared.Refusal.{Refusal}
 use Rattle.jer.specs.declared.Refusal.TheVariants.{Amounts}
-use Rattle.jer.specs.Rows.{ValueRow, row, absentRow, numbers, above, rows_of, itemRows, partRows, poolOf, itemPool, partPool}
+use Rattle.jer.specs.Rows.{ValueRow, row, absent_row, numbers, above, rows_of, item_rows, part_rows, pool_of, item_pool, part_pool}
 use Rattle.jer.proofs.WeightMeasure.{rows-length}
-use Rattle.slices.proofs.PartLaws.{sets-append}
+use Rattle.slices.proofs.PartLaws.{sets_append}
 use Rattle.places.specs.ByPlaces.{Got, got, within}
 use Rattle.leaf.specs.declared.Step.TheVariants.{Read, Refused}
 use Rattle.leaf.specs.Step.{step_of, Stepped}
@@ -49,15 +49,15 @@ module _ {rows₁ rows₀ pool₁ pool₀ : List ℕ} {i o : ℕ} {ws : ℕ → 
 
   -- one more value
   pub run_more : {rows₂ pool₂ : List ℕ} {t : Table} {r q j k : ℕ} (v : Val) → Stepped (Read q j k) rows₂ rows₁ pool₂ pool₁ (i + n) (o + m) t r (ok (got v q))
-      → Run rows₂ rows₀ pool₂ pool₀ i o (λ u. ws u ++ rows_of v t r (u + m)) (bs ++ poolOf v) (n + j) (m + k)
+      → Run rows₂ rows₀ pool₂ pool₀ i o (λ u. ws u ++ rows_of v t r (u + m)) (bs ++ pool_of v) (n + j) (m + k)
   run_more {t = t} {r = r} {j = j} {k = k} v g =
       let a : j ≡ length (rows_of v t r 0) = cc g.answer in
-      let b : k ≡ length (poolOf v) = cc g.answer in
+      let b : k ≡ length (pool_of v) = cc g.answer in
       record {
         size = λ u. length-append (ws u) (rows_of v t r (u + m)) ∙ omega (arith, f.size u, rows-length v t r (u + m), rows-length v t r 0);
-        bytes = length-append bs (poolOf v) ∙ omega (arith, f.bytes);
+        bytes = length-append bs (pool_of v) ∙ omega (arith, f.bytes);
         rows = λ l. rows-after rows₀ i (ws o) (rows_of v t r (o + m)) (f.rows (omega arith)) (omega (arith, f.size o)) (g.rows (omega arith));
-        pool = λ l. g.pool (omega arith) ∙ ap (λ (x : List ℕ). sets x (o + m) (poolOf v)) (f.pool (omega arith)) ∙ ap (λ (x : ℕ). sets (sets pool₀ o bs) (o + x) (poolOf v)) (sym f.bytes) ∙ sym (sets-append pool₀ o bs (poolOf v));
+        pool = λ l. g.pool (omega arith) ∙ ap (λ (x : List ℕ). sets x (o + m) (pool_of v)) (f.pool (omega arith)) ∙ ap (λ (x : ℕ). sets (sets pool₀ o bs) (o + x) (pool_of v)) (sym f.bytes) ∙ sym (sets_append pool₀ o bs (pool_of v));
       }
 
   -- one more row, without bytes
@@ -72,7 +72,7 @@ module _ {rows₁ rows₀ pool₁ pool₀ : List ℕ} {i o : ℕ} {ws : ℕ → 
 
 -- the value's own row above its parts
 pub run-above : {rows₂ rows₁ rows₀ pool₁ pool₀ : List ℕ} {i o : ℕ} {ws : ℕ → List ValueRow} {bs : List ℕ} {n m : ℕ} → Run rows₁ rows₀ pool₁ pool₀ (i + 1) o ws bs n m
-    → {t : Table} {r q : ℕ} (k a : ℕ) (v : Val) → ((u : ℕ) → rows_of v t r u ≡ above k a (ws u)) → poolOf v ≡ bs → rows₂ ≡ sets rows₁ (i * 4) (k ∷ a ∷ 0 ∷ (n + 1) ∷ [])
+    → {t : Table} {r q : ℕ} (k a : ℕ) (v : Val) → ((u : ℕ) → rows_of v t r u ≡ above k a (ws u)) → pool_of v ≡ bs → rows₂ ≡ sets rows₁ (i * 4) (k ∷ a ∷ 0 ∷ (n + 1) ∷ [])
     → Stepped (Read q (n + 1) m) rows₂ rows₀ pool₁ pool₀ i o t r (ok (got v q))
 unfolding above
 run-above {rows₀ = rows₀} {i = i} {o = o} {ws = ws} {n = n} f {t = t} {r = r} k a v h e s =
@@ -101,163 +101,163 @@ joined-item vnil v vs = refl
 joined-item (vcons u us) v vs = ap (vcons u) (joined-item us v vs)
 
 module _ (v : Val) where
-  pub item_count : (us : Vals) → countVals (joined us (vcons v vnil)) ≡ countVals us + 1
-  unfolding joined countVals
-  item_count vnil = refl
-  item_count (vcons u us) = omega (arith, item_count us)
+  pub item_count_lem : (us : Vals) → count_vals (joined us (vcons v vnil)) ≡ count_vals us + 1
+  unfolding joined count_vals
+  item_count_lem vnil = refl
+  item_count_lem (vcons u us) = omega (arith, item_count_lem us)
 
-  item-pool : (us : Vals) → itemPool us ++ poolOf v ≡ itemPool (joined us (vcons v vnil))
-  unfolding joined poolOf
-  item-pool vnil = sym (append-nil (poolOf v))
-  item-pool (vcons u us) = append_assoc (poolOf u) (itemPool us) (poolOf v) ∙ ap (λ (x : List ℕ). poolOf u ++ x) (item-pool us)
+  item-pool : (us : Vals) → item_pool us ++ pool_of v ≡ item_pool (joined us (vcons v vnil))
+  unfolding joined pool_of
+  item-pool vnil = sym (append-nil (pool_of v))
+  item-pool (vcons u us) = append_assoc (pool_of u) (item_pool us) (pool_of v) ∙ ap (λ (x : List ℕ). pool_of u ++ x) (item-pool us)
 
-  item-rows : (us : Vals) (t : Table) (r o : ℕ) → itemRows us t r o ++ rows_of v t r (o + length (itemPool us)) ≡ itemRows (joined us (vcons v vnil)) t r o
-  unfolding joined rows_of poolOf
+  item-rows : (us : Vals) (t : Table) (r o : ℕ) → item_rows us t r o ++ rows_of v t r (o + length (item_pool us)) ≡ item_rows (joined us (vcons v vnil)) t r o
+  unfolding joined rows_of pool_of
   item-rows vnil t r o = rw (add-zero o) (sym (append-nil (rows_of v t r o)))
   item-rows (vcons u us) t r o =
-      let e : o + length (poolOf u ++ itemPool us) ≡ o + length (poolOf u) + length (itemPool us) = omega (arith, length-append (poolOf u) (itemPool us)) in
-      append_assoc (rows_of u t r o) (itemRows us t r (o + length (poolOf u))) (rows_of v t r (o + length (poolOf u ++ itemPool us)))
-      ∙ rw e (ap (λ (x : List ValueRow). rows_of u t r o ++ x) (item-rows us t r (o + length (poolOf u))))
+      let e : o + length (pool_of u ++ item_pool us) ≡ o + length (pool_of u) + length (item_pool us) = omega (arith, length-append (pool_of u) (item_pool us)) in
+      append_assoc (rows_of u t r o) (item_rows us t r (o + length (pool_of u))) (rows_of v t r (o + length (pool_of u ++ item_pool us)))
+      ∙ rw e (ap (λ (x : List ValueRow). rows_of u t r o ++ x) (item-rows us t r (o + length (pool_of u))))
 
 -- the items us of a SEQUENCE OF, of the type at r
 abbrev pub Items : List ℕ → List ℕ → List ℕ → List ℕ → ℕ → ℕ → Table → ℕ → Vals → ℕ → ℕ → Type 0
-Items rows₁ rows₀ pool₁ pool₀ i o t r us n m = Run rows₁ rows₀ pool₁ pool₀ i o (λ u. itemRows us t r u) (itemPool us) n m
+Items rows₁ rows₀ pool₁ pool₀ i o t r us n m = Run rows₁ rows₀ pool₁ pool₀ i o (λ u. item_rows us t r u) (item_pool us) n m
 
 pub items-none : {rows pool : List ℕ} {i o : ℕ} (t : Table) (r : ℕ) → Items rows rows pool pool i o t r vnil 0 0
-unfolding rows_of poolOf
+unfolding rows_of pool_of
 items-none t r = run_none
 
-pub items_more : {rows₂ rows₁ rows₀ pool₂ pool₁ pool₀ : List ℕ} {i o q n m j k : ℕ} {t : Table} {r : ℕ} (us : Vals) (v : Val) → Items rows₁ rows₀ pool₁ pool₀ i o t r us n m
+pub items_more_lem : {rows₂ rows₁ rows₀ pool₂ pool₁ pool₀ : List ℕ} {i o q n m j k : ℕ} {t : Table} {r : ℕ} (us : Vals) (v : Val) → Items rows₁ rows₀ pool₁ pool₀ i o t r us n m
     → Stepped (Read q j k) rows₂ rows₁ pool₂ pool₁ (i + n) (o + m) t r (ok (got v q)) → Items rows₂ rows₀ pool₂ pool₀ i o t r (joined us (vcons v vnil)) (n + j) (m + k)
-items_more {t = t} {r = r} us v f g =
-    run-same (run_more f v g) (λ u. ap (λ (x : ℕ). itemRows us t r u ++ rows_of v t r (u + x)) (sym f.bytes) ∙ item-rows v us t r u) (item-pool v us)
+items_more_lem {t = t} {r = r} us v f g =
+    run-same (run_more f v g) (λ u. ap (λ (x : ℕ). item_rows us t r u ++ rows_of v t r (u + x)) (sym f.bytes) ∙ item-rows v us t r u) (item-pool v us)
 
-pub list-above : {rows₂ rows₁ rows₀ pool₁ pool₀ : List ℕ} {i o q n m c kind : ℕ} {t : Table} {r : ℕ} (us : Vals) → Items rows₁ rows₀ pool₁ pool₀ (i + 1) o t (elementOf t r) us n m
-    → kind ≡ kind_of t r → c ≡ countVals us → rows₂ ≡ sets rows₁ (i * 4) (kind ∷ c ∷ 0 ∷ (n + 1) ∷ []) → Stepped (Read q (n + 1) m) rows₂ rows₀ pool₁ pool₀ i o t r (ok (got (vList us) q))
-unfolding rows_of poolOf
-list-above {t = t} {r = r} us f e d s = run-above f _ _ (vList us) (λ u. rw (e, kind-tag t r, d)) refl s
+pub list-above : {rows₂ rows₁ rows₀ pool₁ pool₀ : List ℕ} {i o q n m c kind : ℕ} {t : Table} {r : ℕ} (us : Vals) → Items rows₁ rows₀ pool₁ pool₀ (i + 1) o t (element_of t r) us n m
+    → kind ≡ kind_of t r → c ≡ count_vals us → rows₂ ≡ sets rows₁ (i * 4) (kind ∷ c ∷ 0 ∷ (n + 1) ∷ []) → Stepped (Read q (n + 1) m) rows₂ rows₀ pool₁ pool₀ i o t r (ok (got (v_list us) q))
+unfolding rows_of pool_of
+list-above {t = t} {r = r} us f e d s = run-above f _ _ (v_list us) (λ u. rw (e, kind_tag t r, d)) refl s
 
 -- ---- members
 
-unfoldable pub joinedParts : Parts → Parts → Parts
-joinedParts pnil qs = qs
-joinedParts (absent ps) qs = absent (joinedParts ps qs)
-joinedParts (present v ps) qs = present v (joinedParts ps qs)
+unfoldable pub joined_parts : Parts → Parts → Parts
+joined_parts pnil qs = qs
+joined_parts (absent ps) qs = absent (joined_parts ps qs)
+joined_parts (present v ps) qs = present v (joined_parts ps qs)
 
 -- how many members, present or absent
-unfoldable pub countParts : Parts → ℕ
-countParts pnil = 0
-countParts (absent ps) = suc (countParts ps)
-countParts (present v ps) = suc (countParts ps)
+unfoldable pub count_parts : Parts → ℕ
+count_parts pnil = 0
+count_parts (absent ps) = suc (count_parts ps)
+count_parts (present v ps) = suc (count_parts ps)
 
-pub parts_none : (ps : Parts) → joinedParts ps pnil ≡ ps
-unfolding joinedParts
+pub parts_none : (ps : Parts) → joined_parts ps pnil ≡ ps
+unfolding joined_parts
 parts_none pnil = refl
 parts_none (absent ps) = ap absent (parts_none ps)
 parts_none (present v ps) = ap (present v) (parts_none ps)
 
 module _ (one : Parts → Parts) where
-  assoc : (ps qs : Parts) → joinedParts (joinedParts ps (one pnil)) qs ≡ joinedParts ps (joinedParts (one pnil) qs)
-  unfolding joinedParts
+  assoc : (ps qs : Parts) → joined_parts (joined_parts ps (one pnil)) qs ≡ joined_parts ps (joined_parts (one pnil) qs)
+  unfolding joined_parts
   assoc pnil qs = refl
   assoc (absent ps) qs = ap absent (assoc ps qs)
   assoc (present v ps) qs = ap (present v) (assoc ps qs)
 
-pub count-parts : (ps qs : Parts) → countParts (joinedParts ps qs) ≡ countParts ps + countParts qs
-unfolding joinedParts countParts
+pub count-parts : (ps qs : Parts) → count_parts (joined_parts ps qs) ≡ count_parts ps + count_parts qs
+unfolding joined_parts count_parts
 count-parts pnil qs = omega arith
 count-parts (absent ps) qs = omega (arith, count-parts ps qs)
 count-parts (present v ps) qs = omega (arith, count-parts ps qs)
 
-pub count-present : (ps qs : Parts) → countPresent (joinedParts ps qs) ≡ countPresent ps + countPresent qs
-unfolding joinedParts countPresent
+pub count-present : (ps qs : Parts) → count_present (joined_parts ps qs) ≡ count_present ps + count_present qs
+unfolding joined_parts count_present
 count-present pnil qs = omega arith
 count-present (absent ps) qs = count-present ps qs
 count-present (present v ps) qs = omega (arith, count-present ps qs)
 
-pub joined-absent : (ps qs : Parts) → joinedParts (joinedParts ps (absent pnil)) qs ≡ joinedParts ps (absent qs)
-unfolding joinedParts
+pub joined-absent : (ps qs : Parts) → joined_parts (joined_parts ps (absent pnil)) qs ≡ joined_parts ps (absent qs)
+unfolding joined_parts
 joined-absent ps qs = assoc absent ps qs
 
-pub joined-present : (ps : Parts) (v : Val) (qs : Parts) → joinedParts (joinedParts ps (present v pnil)) qs ≡ joinedParts ps (present v qs)
-unfolding joinedParts
+pub joined-present : (ps : Parts) (v : Val) (qs : Parts) → joined_parts (joined_parts ps (present v pnil)) qs ≡ joined_parts ps (present v qs)
+unfolding joined_parts
 joined-present ps v qs = assoc (present v) ps qs
 
 module _ (qs : Parts) where
-  parts-pool : (ps : Parts) → partPool ps ++ partPool qs ≡ partPool (joinedParts ps qs)
-  unfolding joinedParts poolOf
+  parts-pool : (ps : Parts) → part_pool ps ++ part_pool qs ≡ part_pool (joined_parts ps qs)
+  unfolding joined_parts pool_of
   parts-pool pnil = refl
   parts-pool (absent ps) = parts-pool ps
-  parts-pool (present v ps) = append_assoc (poolOf v) (partPool ps) (partPool qs) ∙ ap (λ (x : List ℕ). poolOf v ++ x) (parts-pool ps)
+  parts-pool (present v ps) = append_assoc (pool_of v) (part_pool ps) (part_pool qs) ∙ ap (λ (x : List ℕ). pool_of v ++ x) (parts-pool ps)
 
-  parts-rows : (ps : Parts) (t : Table) (r i o : ℕ) → partRows ps t r i o ++ partRows qs t r (i + countParts ps) (o + length (partPool ps)) ≡ partRows (joinedParts ps qs) t r i o
-  unfolding joinedParts countParts rows_of poolOf
+  parts-rows : (ps : Parts) (t : Table) (r i o : ℕ) → part_rows ps t r i o ++ part_rows qs t r (i + count_parts ps) (o + length (part_pool ps)) ≡ part_rows (joined_parts ps qs) t r i o
+  unfolding joined_parts count_parts rows_of pool_of
   parts-rows pnil t r i o = rw (add-zero i, add-zero o)
   parts-rows (absent ps) t r i o =
-      let d : i + suc (countParts ps) ≡ suc i + countParts ps = omega arith in
-      ap (λ (x : List ValueRow). absentRow ∷ x) (rw d (parts-rows ps t r (suc i) o))
+      let d : i + suc (count_parts ps) ≡ suc i + count_parts ps = omega arith in
+      ap (λ (x : List ValueRow). absent_row ∷ x) (rw d (parts-rows ps t r (suc i) o))
   parts-rows (present v ps) t r i o =
-      let d : i + suc (countParts ps) ≡ suc i + countParts ps = omega arith in
-      let e : o + length (poolOf v ++ partPool ps) ≡ o + length (poolOf v) + length (partPool ps) = omega (arith, length-append (poolOf v) (partPool ps)) in
-      append_assoc (rows_of v t (type_at t r i) o) (partRows ps t r (suc i) (o + length (poolOf v))) (partRows qs t r (i + suc (countParts ps)) (o + length (poolOf v ++ partPool ps)))
-      ∙ rw (d, e) (ap (λ (x : List ValueRow). rows_of v t (type_at t r i) o ++ x) (parts-rows ps t r (suc i) (o + length (poolOf v))))
+      let d : i + suc (count_parts ps) ≡ suc i + count_parts ps = omega arith in
+      let e : o + length (pool_of v ++ part_pool ps) ≡ o + length (pool_of v) + length (part_pool ps) = omega (arith, length-append (pool_of v) (part_pool ps)) in
+      append_assoc (rows_of v t (type_at t r i) o) (part_rows ps t r (suc i) (o + length (pool_of v))) (part_rows qs t r (i + suc (count_parts ps)) (o + length (pool_of v ++ part_pool ps)))
+      ∙ rw (d, e) (ap (λ (x : List ValueRow). rows_of v t (type_at t r i) o ++ x) (parts-rows ps t r (suc i) (o + length (pool_of v))))
 
 -- the first members ps of the SEQUENCE at r
 abbrev pub Members : List ℕ → List ℕ → List ℕ → List ℕ → ℕ → ℕ → Table → ℕ → Parts → ℕ → ℕ → Type 0
-Members rows₁ rows₀ pool₁ pool₀ i o t r ps n m = Run rows₁ rows₀ pool₁ pool₀ i o (λ u. partRows ps t r 0 u) (partPool ps) n m
+Members rows₁ rows₀ pool₁ pool₀ i o t r ps n m = Run rows₁ rows₀ pool₁ pool₀ i o (λ u. part_rows ps t r 0 u) (part_pool ps) n m
 
 pub members-none : {rows pool : List ℕ} {i o : ℕ} (t : Table) (r : ℕ) → Members rows rows pool pool i o t r pnil 0 0
-unfolding rows_of poolOf
+unfolding rows_of pool_of
 members-none t r = run_none
 
 module _ (t : Table) (r : ℕ) (ps : Parts) where
-  absent-rows : (u : ℕ) → partRows ps t r 0 u ++ (row 15 0 0 1 ∷ []) ≡ partRows (joinedParts ps (absent pnil)) t r 0 u
+  absent-rows : (u : ℕ) → part_rows ps t r 0 u ++ (row 15 0 0 1 ∷ []) ≡ part_rows (joined_parts ps (absent pnil)) t r 0 u
   unfolding rows_of
   absent-rows u = parts-rows (absent pnil) ps t r 0 u
 
-  absent-pool : partPool ps ≡ partPool (joinedParts ps (absent pnil))
-  unfolding poolOf
-  absent-pool = sym (append-nil (partPool ps)) ∙ parts-pool (absent pnil) ps
+  absent-pool : part_pool ps ≡ part_pool (joined_parts ps (absent pnil))
+  unfolding pool_of
+  absent-pool = sym (append-nil (part_pool ps)) ∙ parts-pool (absent pnil) ps
 
-  present-rows : (v : Val) (p u : ℕ) → p ≡ countParts ps → partRows ps t r 0 u ++ rows_of v t (type_at t r p) (u + length (partPool ps)) ≡ partRows (joinedParts ps (present v pnil)) t r 0 u
+  present-rows : (v : Val) (p u : ℕ) → p ≡ count_parts ps → part_rows ps t r 0 u ++ rows_of v t (type_at t r p) (u + length (part_pool ps)) ≡ part_rows (joined_parts ps (present v pnil)) t r 0 u
   unfolding rows_of
   present-rows v p u e =
-      let d : p ≡ 0 + countParts ps = omega arith in
-      rw d (ap (λ (x : List ValueRow). partRows ps t r 0 u ++ x) (sym (append-nil (rows_of v t (type_at t r (0 + countParts ps)) (u + length (partPool ps))))) ∙ parts-rows (present v pnil) ps t r 0 u)
+      let d : p ≡ 0 + count_parts ps = omega arith in
+      rw d (ap (λ (x : List ValueRow). part_rows ps t r 0 u ++ x) (sym (append-nil (rows_of v t (type_at t r (0 + count_parts ps)) (u + length (part_pool ps))))) ∙ parts-rows (present v pnil) ps t r 0 u)
 
-  present-pool : (v : Val) → partPool ps ++ poolOf v ≡ partPool (joinedParts ps (present v pnil))
-  unfolding poolOf
-  present-pool v = ap (λ (x : List ℕ). partPool ps ++ x) (sym (append-nil (poolOf v))) ∙ parts-pool (present v pnil) ps
+  present-pool : (v : Val) → part_pool ps ++ pool_of v ≡ part_pool (joined_parts ps (present v pnil))
+  unfolding pool_of
+  present-pool v = ap (λ (x : List ℕ). part_pool ps ++ x) (sym (append-nil (pool_of v))) ∙ parts-pool (present v pnil) ps
 
   module _ {rows₂ rows₁ rows₀ pool₁ pool₀ : List ℕ} {i o n m : ℕ} where
     pub members-absent : Members rows₁ rows₀ pool₁ pool₀ i o t r ps n m → rows₂ ≡ sets rows₁ ((i + n) * 4) (15 ∷ 0 ∷ 0 ∷ 1 ∷ [])
-        → Members rows₂ rows₀ pool₁ pool₀ i o t r (joinedParts ps (absent pnil)) (n + 1) m
+        → Members rows₂ rows₀ pool₁ pool₀ i o t r (joined_parts ps (absent pnil)) (n + 1) m
     members-absent f g = run-same (run_row f 15 0 0 1 g) absent-rows absent-pool
 
-    pub members-present : {pool₂ : List ℕ} {q j k : ℕ} (v : Val) (p : ℕ) → p ≡ countParts ps → Members rows₁ rows₀ pool₁ pool₀ i o t r ps n m
-        → Stepped (Read q j k) rows₂ rows₁ pool₂ pool₁ (i + n) (o + m) t (type_at t r p) (ok (got v q)) → Members rows₂ rows₀ pool₂ pool₀ i o t r (joinedParts ps (present v pnil)) (n + j) (m + k)
+    pub members-present : {pool₂ : List ℕ} {q j k : ℕ} (v : Val) (p : ℕ) → p ≡ count_parts ps → Members rows₁ rows₀ pool₁ pool₀ i o t r ps n m
+        → Stepped (Read q j k) rows₂ rows₁ pool₂ pool₁ (i + n) (o + m) t (type_at t r p) (ok (got v q)) → Members rows₂ rows₀ pool₂ pool₀ i o t r (joined_parts ps (present v pnil)) (n + j) (m + k)
     members-present v p e f g =
-        run-same (run_more f v g) (λ u. ap (λ (x : ℕ). partRows ps t r 0 u ++ rows_of v t (type_at t r p) (u + x)) (sym f.bytes) ∙ present-rows v p u e) (present-pool v)
+        run-same (run_more f v g) (λ u. ap (λ (x : ℕ). part_rows ps t r 0 u ++ rows_of v t (type_at t r p) (u + x)) (sym f.bytes) ∙ present-rows v p u e) (present-pool v)
 
-    pub seq-above : {q c kind : ℕ} → Members rows₁ rows₀ pool₁ pool₀ (i + 1) o t r ps n m → kind ≡ kind_of t r → c ≡ countPresent ps → rows₂ ≡ sets rows₁ (i * 4) (kind ∷ c ∷ 0 ∷ (n + 1) ∷ [])
-        → Stepped (Read q (n + 1) m) rows₂ rows₀ pool₁ pool₀ i o t r (ok (got (vSeq ps) q))
-    unfolding rows_of poolOf
-    seq-above f e d s = run-above f _ _ (vSeq ps) (λ u. rw (e, kind-tag t r, d)) refl s
+    pub seq_above : {q c kind : ℕ} → Members rows₁ rows₀ pool₁ pool₀ (i + 1) o t r ps n m → kind ≡ kind_of t r → c ≡ count_present ps → rows₂ ≡ sets rows₁ (i * 4) (kind ∷ c ∷ 0 ∷ (n + 1) ∷ [])
+        → Stepped (Read q (n + 1) m) rows₂ rows₀ pool₁ pool₀ i o t r (ok (got (v_seq ps) q))
+    unfolding rows_of pool_of
+    seq_above f e d s = run-above f _ _ (v_seq ps) (λ u. rw (e, kind_tag t r, d)) refl s
 
 -- ---- one part
 
 pub run-one : {rows₁ rows₀ pool₁ pool₀ : List ℕ} {i o q n m : ℕ} {t : Table} {r : ℕ} (v : Val) → Stepped (Read q n m) rows₁ rows₀ pool₁ pool₀ i o t r (ok (got v q))
-    → Run rows₁ rows₀ pool₁ pool₀ i o (λ u. rows_of v t r u) (poolOf v) n m
+    → Run rows₁ rows₀ pool₁ pool₀ i o (λ u. rows_of v t r u) (pool_of v) n m
 run-one {n = n} {m = m} {t = t} {r = r} v g =
     let a : n ≡ length (rows_of v t r 0) = cc g.answer in
-    let b : m ≡ length (poolOf v) = cc g.answer in
+    let b : m ≡ length (pool_of v) = cc g.answer in
     record { size = λ u. omega (arith, rows-length v t r u, rows-length v t r 0); bytes = sym b; rows = λ l. g.rows (omega arith); pool = λ l. g.pool (omega arith) }
 
 pub choice-above : {rows₂ rows₁ rows₀ pool₁ pool₀ : List ℕ} {i o q e n m kind : ℕ} {t : Table} {r : ℕ} (k : ℕ) (v : Val)
     → Stepped (Read q n m) rows₁ rows₀ pool₁ pool₀ (i + 1) o t (type_at t r k) (ok (got v q)) → kind ≡ kind_of t r → rows₂ ≡ sets rows₁ (i * 4) (kind ∷ k ∷ 0 ∷ (n + 1) ∷ [])
-    → Stepped (Read e (n + 1) m) rows₂ rows₀ pool₁ pool₀ i o t r (ok (got (vChoice k v) e))
-unfolding rows_of poolOf
-choice-above {t = t} {r = r} k v f g s = run-above (run-one v f) _ k (vChoice k v) (λ u. rw (g, kind-tag t r)) refl s
+    → Stepped (Read e (n + 1) m) rows₂ rows₀ pool₁ pool₀ i o t r (ok (got (v_choice k v) e))
+unfolding rows_of pool_of
+choice-above {t = t} {r = r} k v f g s = run-above (run-one v f) _ k (v_choice k v) (λ u. rw (g, kind_tag t r)) refl s
 
 -- ---- readings in readings
 
@@ -277,9 +277,9 @@ module _ (t : Table) (r : ℕ) (x : Res (Got Val)) where
       go (no d) f = let w : d ≡ e = cc in ap no w
 
   -- a part that is refused
-  pub refused-part : {B : Type 0} {e : Refusal} (f : Got Val → Res B) → Refused e ≡ step_of t r x → bind x f ≡ no e
+  pub refused_part : {B : Type 0} {e : Refusal} (f : Got Val → Res B) → Refused e ≡ step_of t r x → bind x f ≡ no e
   unfolding bind
-  refused-part f h = rw (answer-refused h)
+  refused_part f h = rw (answer-refused h)
 
   -- counts of 32 bits
   module _ {q n m : ℕ} (h : Read q n m ≡ step_of t r x) where
@@ -290,7 +290,7 @@ module _ (t : Table) (r : ℕ) (x : Res (Got Val)) where
         go : (y : Res (Got Val)) → Read q n m ≡ step_of t r y → bind y (within t r) ≡ elim b as (λ c. Res (Got Val)) [ true ↦ y | false ↦ no (Amounts LentRoom (2 ^ 32) (2 ^ 32)) ]
         go (ok g) f =
             let c : n ≡ length (rows_of g.value t r 0) = cc in
-            let d : m ≡ length (poolOf g.value) = cc in
+            let d : m ≡ length (pool_of g.value) = cc in
             rw (rw (c, d) at e, within)
         go (no d) f = absurd (let z : ◌≡◌ {A = ℕ} 0 1 = cc in omega arith)
 

@@ -10,7 +10,7 @@ use Rattle.jer.specs.Value.{Val}
 use Rattle.jer.specs.Answer.{Res, ok, no}
 use Rattle.jer.specs.Rows.{ValueRow, row, numbers}
 use Rattle.jer.specs.declared.Refusal.{Refusal}
-use Rattle.slices.proofs.PartLaws.{sets-append}
+use Rattle.slices.proofs.PartLaws.{sets_append}
 use Rattle.places.specs.ByPlaces.{Got, got}
 use Rattle.leaf.specs.declared.Step.{Step}
 use Rattle.leaf.specs.declared.Step.TheVariants.{Refused}
@@ -42,17 +42,17 @@ unfolding numbers
 numbers-length [] = refl
 numbers-length (w ∷ ws) = omega (arith, numbers-length ws)
 
-pub numbers-append : (ws us : List ValueRow) → numbers (ws ++ us) ≡ numbers ws ++ numbers us
+pub numbers_append : (ws us : List ValueRow) → numbers (ws ++ us) ≡ numbers ws ++ numbers us
 unfolding numbers
-numbers-append [] us = refl
-numbers-append (w ∷ ws) us = ap (λ (l : List ℕ). w.kind ∷ w.a ∷ w.b ∷ w.size ∷ l) (numbers-append ws us)
+numbers_append [] us = refl
+numbers_append (w ∷ ws) us = ap (λ (l : List ℕ). w.kind ∷ w.a ∷ w.b ∷ w.size ∷ l) (numbers_append ws us)
 
 -- rows after rows
 pub rows-after : (l : List ℕ) (i : ℕ) (ws us : List ValueRow) {l₁ l₂ : List ℕ} {j : ℕ} → l₁ ≡ sets l (i * 4) (numbers ws) → j ≡ i + length ws → l₂ ≡ sets l₁ (j * 4) (numbers us)
     → l₂ ≡ sets l (i * 4) (numbers (ws ++ us))
 rows-after l i ws us {j = j} e f g =
     let n : j * 4 ≡ i * 4 + length (numbers ws) = omega (arith, numbers-length ws) in
-    g ∙ rw (e, n, numbers-append) (sym (sets-append l (i * 4) (numbers ws) (numbers us)))
+    g ∙ rw (e, n, numbers_append) (sym (sets_append l (i * 4) (numbers ws) (numbers us)))
 
 -- a row that is stored after those that follow it
 pub own_row : (l : List ℕ) (i k a b n : ℕ) (ws : List ValueRow) {l₁ l₂ : List ℕ} → l₁ ≡ sets l ((i + 1) * 4) (numbers ws) → l₂ ≡ sets l₁ (i * 4) (k ∷ a ∷ b ∷ n ∷ [])
@@ -60,7 +60,7 @@ pub own_row : (l : List ℕ) (i k a b n : ℕ) (ws : List ValueRow) {l₁ l₂ :
 unfolding numbers
 own_row l i k a b n ws e f =
     let m : (i + 1) * 4 ≡ i * 4 + 4 = omega arith in
-    f ∙ rw (e, m) (sets-sets l (i * 4) (i * 4 + 4) (k ∷ a ∷ b ∷ n ∷ []) (numbers ws) (omega arith) ∙ sym (sets-append l (i * 4) (k ∷ a ∷ b ∷ n ∷ []) (numbers ws)))
+    f ∙ rw (e, m) (sets-sets l (i * 4) (i * 4 + 4) (k ∷ a ∷ b ∷ n ∷ []) (numbers ws) (omega arith) ∙ sym (sets_append l (i * 4) (k ∷ a ∷ b ∷ n ∷ []) (numbers ws)))
 
 -- ---- readings
 

@@ -6,22 +6,22 @@ use Rattle.jer.specs.declared.Refusal.TheVariants.{AtByte}
 use Rattle.jer.specs.Table.{Table, table, type_at, position, Token}
 use Rattle.jer.specs.Value.{Val}
 use Rattle.jer.specs.Answer.{Res, ok, no}
-use Rattle.jer.specs.Rows.{numbers, rows_of, poolOf}
-use Rattle.jer.specs.Read.{readItem, missingElement}
-use Rattle.tokens.specs.Strings.{denoted, stringEnd}
-use Rattle.places.specs.ByPlaces.{Got, ending, leafAt}
-use Rattle.slices.specs.Lent.{Lent, before, after, tableIn}
+use Rattle.jer.specs.Rows.{numbers, rows_of, pool_of}
+use Rattle.jer.specs.Read.{read_item, missing_element}
+use Rattle.tokens.specs.Strings.{denoted, string_end}
+use Rattle.places.specs.ByPlaces.{Got, ending, leaf_at}
+use Rattle.slices.specs.Lent.{Lent, before, after, table_in}
 use Rattle.leaf.specs.declared.Step.{Step}
 use Rattle.leaf.specs.declared.Step.TheVariants.{Read, Refused}
 
 -- the answer for a value of the type at r; how many rows it has does not depend on where its strings stand in the pool
 abbrev pub step_of : Table → ℕ → Res (Got Val) → Step
-step_of t r (ok g) = Read g.next (length (rows_of g.value t r 0)) (length (poolOf g.value))
+step_of t r (ok g) = Read g.next (length (rows_of g.value t r 0)) (length (pool_of g.value))
 step_of t r (no e) = Refused e
 
 -- the pool bytes of a value, from o on, stand at places of 32 bits, as its rows say them; of a whole value, with o = 0, `within` shows it
 abbrev pub Fits : ℕ → Val → Type 0
-Fits o v = o + length (poolOf v) < 2 ^ 32
+Fits o v = o + length (pool_of v) < 2 ^ 32
 
 -- the value's rows stand from row i on, and the rest is as it was; a refused reading may have stored anything
 abbrev pub RowsStored : List ℕ → List ℕ → ℕ → ℕ → Table → ℕ → Res (Got Val) → Type 0
@@ -30,7 +30,7 @@ RowsStored after before i o t r (no e) = Unit {0}
 
 -- its strings stand in the pool from o on
 abbrev pub PoolStored : List ℕ → List ℕ → ℕ → Res (Got Val) → Type 0
-PoolStored after before o (ok g) = Fits o g.value → after ≡ sets before o (poolOf g.value)
+PoolStored after before o (ok g) = Fits o g.value → after ≡ sets before o (pool_of g.value)
 PoolStored after before o (no e) = Unit {0}
 
 -- what a call does that reads x as a value of the type at r: its answer, and the rows and the pool, after it (₁) and before it (₀)
@@ -39,29 +39,29 @@ pub record Stepped (z : Step) (rows₁ rows₀ pool₁ pool₀ : List ℕ) (i o 
   pub rows : RowsStored rows₁ rows₀ i o t r x
   pub pool : PoolStored pool₁ pool₀ o x
 
-abbrev pub refusedAt : Cause → ℕ → Step
-refusedAt cause place = Refused (AtByte cause place)
+abbrev pub refused_at : Cause → ℕ → Step
+refused_at cause place = Refused (AtByte cause place)
 
 -- ---- what the readers of leaves do
 
 -- a leaf of the token k is read at a place and stored from a slot of the rows and an offset of the pool on
 abbrev pub LeafRead : Token → Lent → Lent → Lent → ℕ → ℕ → ℕ → ℕ → Step → Lent → Lent → Type 0
 LeafRead k types names s row place slot offset z rows pool =
-    Stepped z (after rows) (before rows) (after pool) (before pool) slot offset (tableIn types names) row (leafAt (tableIn types names) (before s) k row place)
+    Stepped z (after rows) (before rows) (after pool) (before pool) slot offset (table_in types names) row (leaf_at (table_in types names) (before s) k row place)
 
 -- one without bytes in the pool, whatever the names and the pool are
 abbrev pub RowRead : Token → Lent → Lent → ℕ → ℕ → ℕ → Step → Lent → Type 0
 RowRead k types s row place slot z rows =
-    (ns pool : List ℕ) (offset : ℕ) → Stepped z (after rows) (before rows) pool pool slot offset (table (before types) ns) row (leafAt (table (before types) ns) (before s) k row place)
+    (ns pool : List ℕ) (offset : ℕ) → Stepped z (after rows) (before rows) pool pool slot offset (table (before types) ns) row (leaf_at (table (before types) ns) (before s) k row place)
 
 -- an item of an ENUMERATED
 abbrev pub ItemRead : Lent → Lent → Lent → ℕ → ℕ → ℕ → Step → Lent → Type 0
 ItemRead types names s row place slot z rows =
-    (pool : List ℕ) (offset : ℕ) → Stepped z (after rows) (before rows) pool pool slot offset (tableIn types names) row
-    (ending (stringEnd (before s) (place + 1)) (readItem (tableIn types names) row place (position (tableIn types names) row (denoted (before s) (place + 1)))))
+    (pool : List ℕ) (offset : ℕ) → Stepped z (after rows) (before rows) pool pool slot offset (table_in types names) row
+    (ending (string_end (before s) (place + 1)) (read_item (table_in types names) row place (position (table_in types names) row (denoted (before s) (place + 1)))))
 
 -- a missing element of an array at a place, after which next follows
 abbrev pub MissingRead : Lent → ℕ → ℕ → ℕ → ℕ → ℕ → Step → Lent → Type 0
 MissingRead types row member place slot next z rows =
     (ns pool : List ℕ) (offset : ℕ) → Stepped z (after rows) (before rows) pool pool slot offset (table (before types) ns) (type_at (table (before types) ns) row member)
-    (ending next (missingElement (table (before types) ns) row place member))
+    (ending next (missing_element (table (before types) ns) row place member))

@@ -6,7 +6,7 @@ mod strings; // strings.rt: ENUMERATED, OCTET STRING and UTF8String
 mod words; // words.rt: NULL, BOOLEAN and INTEGER
 
 ghost use Rattle.std.specs.Prelude.{◌≡◌, ◌^◌, ◌≤◌, length};
-ghost use Rattle.jer.specs.Table.{Token, tokenCode, table};
+ghost use Rattle.jer.specs.Table.{Token, token_code, table};
 ghost use Rattle.jer.specs.declared.Refusal.TheVariants.{AtByte};
 ghost use Rattle.leaf.specs.declared.Step.TheVariants as step;
 ghost use Rattle.leaf.specs.Step.{LeafRead};
@@ -52,7 +52,7 @@ pub fn leaf(
     offset: usize,
 ) -> Step
     requires { (length s.now ≤ 65536) × (token ≡ 3 → place ≤ 65536) × (slot ≤ 2 ^ 60) }
-    ensures { (k : Token) → token ≡ tokenCode k → LeafRead k types names s row place slot offset result rows pool }
+    ensures { (k : Token) → token ≡ token_code k → LeafRead k types names s row place slot offset result rows pool }
 {
     match token {
         NULL => null(types, s, rows, row, place, slot),

@@ -1,10 +1,10 @@
 // Leaves of strings: ENUMERATED, OCTET STRING and UTF8String. They are stored at a slot, with their bytes in the pool from an offset on.
 ghost use Rattle.std.specs.Prelude.{◌≡◌, List, [], ◌∷◌, ℕ, ◌+◌, ◌*◌, ◌^◌, ◌≤◌, ◌<◌, length};
 ghost use Rattle.std.proofs.lemmas.List.Edits.{sets};
-ghost use Rattle.jer.specs.Table.{tString, table};
-ghost use Rattle.jer.specs.Read.{octetsOf};
+ghost use Rattle.jer.specs.Table.{t_string, table};
+ghost use Rattle.jer.specs.Read.{octets_of};
 ghost use Rattle.tokens.specs.Strings.{denoted};
-ghost use Rattle.octets.specs.Decode.{foundOf, Stored};
+ghost use Rattle.octets.specs.Decode.{found_of, Stored};
 ghost use Rattle.leaf.specs.declared.Step.TheVariants as step;
 ghost use Rattle.leaf.specs.Step.{LeafRead, ItemRead};
 
@@ -56,8 +56,8 @@ fn octets_at(
     offset: usize,
 ) -> octets::decode::Found
     requires { (length s.now ≤ 65536) × (place ≤ 65536) }
-    ensures by_index { (ns : List ℕ) → result ≡ foundOf (octetsOf (table types.now ns) row (denoted s.now (place + 1))) }
-    ensures by_index_2 { (ns : List ℕ) → offset < 2 ^ 32 → Stored pool.new pool.old offset (octetsOf (table types.now ns) row (denoted s.now (place + 1))) }
+    ensures by_index { (ns : List ℕ) → result ≡ found_of (octets_of (table types.now ns) row (denoted s.now (place + 1))) }
+    ensures by_index_2 { (ns : List ℕ) → offset < 2 ^ 32 → Stored pool.new pool.old offset (octets_of (table types.now ns) row (denoted s.now (place + 1))) }
 {
     let j = wide(narrow(offset));
     if Row::at(types, row).is_base64() {
@@ -88,7 +88,7 @@ pub fn string(
     offset: usize,
 ) -> Step
     requires { (length s.now ≤ 65536) × (place ≤ 65536) × (slot ≤ 2 ^ 60) }
-    ensures { LeafRead tString types names s row place slot offset result rows pool }
+    ensures { LeafRead t_string types names s row place slot offset result rows pool }
 {
     let kind = kind_of(types, row);
     match kind {

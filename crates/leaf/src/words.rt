@@ -1,6 +1,6 @@
 // Leaves without bytes: NULL, BOOLEAN and INTEGER. They are stored at a slot.
 ghost use Rattle.std.specs.Prelude.{◌^◌, ◌≤◌};
-ghost use Rattle.jer.specs.Table.{tNull, tBoolean, tNumber};
+ghost use Rattle.jer.specs.Table.{t_null, t_boolean, t_number};
 ghost use Rattle.leaf.specs.Step.{RowRead};
 
 use crate::store::put_row;
@@ -20,7 +20,7 @@ pub fn null(
     slot: usize,
 ) -> Step
     requires { slot ≤ 2 ^ 60 }
-    ensures { RowRead tNull types s row place slot result rows }
+    ensures { RowRead t_null types s row place slot result rows }
 {
     let kind = kind_of(types, row);
     if kind != Row::NULL {
@@ -39,7 +39,7 @@ pub fn boolean(
     slot: usize,
 ) -> Step
     requires { slot ≤ 2 ^ 60 }
-    ensures { RowRead tBoolean types s row place slot result rows }
+    ensures { RowRead t_boolean types s row place slot result rows }
 {
     let kind = kind_of(types, row);
     if kind != Row::BOOLEAN {
@@ -59,7 +59,7 @@ pub fn number(
     slot: usize,
 ) -> Step
     requires { slot ≤ 2 ^ 60 }
-    ensures { RowRead tNumber types s row place slot result rows }
+    ensures { RowRead t_number types s row place slot result rows }
 {
     let kind = kind_of(types, row);
     if kind != Row::INTEGER {

@@ -9,8 +9,8 @@ use lib.ListN.{length, get_or, take, drop, set, length-append, length-take, leng
 use lib.Seq.{drop-cons, sets}
 use Rattle.jer.specs.Octets.{hex}
 use Rattle.jer.specs.Answer.{Values, values_of}
-use Rattle.jer.specs.Programs.{digits8, endLine, refusalLine}
-use Rattle.jer.specs.Reports.{reportedOf}
+use Rattle.jer.specs.Programs.{digits8, end_line, refusal_line}
+use Rattle.jer.specs.Reports.{reported_of}
 use Rattle.jer.specs.declared.Reported.{Reported}
 use Rattle.jer.specs.declared.Refusal.{Refusal}
 use Rattle.jer.specs.declared.Judged.{Judged}
@@ -20,8 +20,8 @@ use Rattle.jer.specs.declared.Reading.TheVariants as reading
 use Rattle.jer.specs.declared.Writing.{Writing}
 use Rattle.jer.specs.declared.Writing.TheVariants as writing
 use Rattle.octets.proofs.EncodeLaws.{hex-length}
-use Rattle.octets.proofs.PutLaws.{sets-as, sets-next, Putting, putting-start, putting-next}
-use Rattle.lines.specs.Shown.{fourLine, fourLines, readingLines, writingLines, noLine, judgedLine}
+use Rattle.octets.proofs.PutLaws.{sets_as, sets-next, Putting, putting_start, putting_next}
+use Rattle.lines.specs.Shown.{four_line, four_lines, reading_lines, writing_lines, no_line, judged_line}
 
 -- ---- a number
 
@@ -39,25 +39,25 @@ module _ (x : ℕ) {os : List ℕ} (e : os ≡ x / 2 ^ 24 % 256 ∷ x / 2 ^ 16 %
 -- ---- a line
 
 -- a line has one byte more than what it ends
-pub line-length : (s : List ℕ) → length (endLine s) ≡ length s + 1
-unfolding endLine
-line-length s = length-append s (0x0A ∷ [])
+pub line_length : (s : List ℕ) → length (end_line s) ≡ length s + 1
+unfolding end_line
+line_length s = length-append s (0x0A ∷ [])
 
 -- it is stored with its line feed last
-pub line-stored : (s l : List ℕ) (k : ℕ) {n : ℕ} {a b : List ℕ} → n ≡ length s → a ≡ sets l k s → b ≡ set a (k + n) 0x0A → b ≡ sets l k (endLine s)
-unfolding endLine
-line-stored s l k {n} {a} h e f = sets-next l k s (0x0A ∷ []) e (f ∙ ap (λ (m : ℕ). set a (k + m) 0x0A) h)
+pub line_stored : (s l : List ℕ) (k : ℕ) {n : ℕ} {a b : List ℕ} → n ≡ length s → a ≡ sets l k s → b ≡ set a (k + n) 0x0A → b ≡ sets l k (end_line s)
+unfolding end_line
+line_stored s l k {n} {a} h e f = sets-next l k s (0x0A ∷ []) e (f ∙ ap (λ (m : ℕ). set a (k + m) 0x0A) h)
 
 module _ (a b c d : ℕ) where
   -- a line of four numbers has 33 bytes
-  pub four-length : 33 ≡ length (fourLine a b c d)
-  unfolding fourLine endLine digits8 hex
+  pub four-length : 33 ≡ length (four_line a b c d)
+  unfolding four_line end_line digits8 hex
   four-length = refl
 
   -- it is stored number by number, with its line feed last
   pub four-stored : (l : List ℕ) (k : ℕ) {m n o p q : List ℕ} → m ≡ sets l k (digits8 (a ∷ [])) → n ≡ sets m (k + 8) (digits8 (b ∷ [])) → o ≡ sets n (k + 16) (digits8 (c ∷ [])) → p ≡ sets o (k + 24) (digits8 (d ∷ [])) → q ≡ set p (k + 32) 0x0A
-      → q ≡ sets l k (fourLine a b c d)
-  unfolding fourLine endLine digits8 hex
+      → q ≡ sets l k (four_line a b c d)
+  unfolding four_line end_line digits8 hex
   four-stored l k e f g h i =
       let x = digits8 (a ∷ []) in
       let y = digits8 (b ∷ []) in
@@ -65,52 +65,52 @@ module _ (a b c d : ℕ) where
       sets-next l k (((x ++ y) ++ z) ++ digits8 (d ∷ [])) (0x0A ∷ []) (sets-next l k ((x ++ y) ++ z) (digits8 (d ∷ [])) (sets-next l k (x ++ y) z (sets-next l k x y e f) g) h) i
 
 -- the line of a refusal is a line of four numbers
-pub refusal-four : (v : Values) {r : Reported} → r ≡ reportedOf v → fourLine 0xFFFFFFFF r.number r.first r.second ≡ refusalLine v
-unfolding fourLine refusalLine
-refusal-four v e = ap (λ (x : Reported). endLine (digits8 (0xFFFFFFFF ∷ x.number ∷ x.first ∷ x.second ∷ []))) e
+pub refusal-four : (v : Values) {r : Reported} → r ≡ reported_of v → four_line 0xFFFFFFFF r.number r.first r.second ≡ refusal_line v
+unfolding four_line refusal_line
+refusal-four v e = ap (λ (x : Reported). end_line (digits8 (0xFFFFFFFF ∷ x.number ∷ x.first ∷ x.second ∷ []))) e
 
 -- ---- rows
 
 -- four numbers make at most 33 bytes
-pub fours-length : (n : ℕ) (ns : List ℕ) → length (fourLines n ns) * 4 ≤ length ns * 33
-unfolding fourLines
-fours-length zero ns = omega arith
-fours-length (suc n) [] = omega arith
-fours-length (suc n) (a ∷ []) = omega arith
-fours-length (suc n) (a ∷ b ∷ []) = omega arith
-fours-length (suc n) (a ∷ b ∷ c ∷ []) = omega arith
-fours-length (suc n) (a ∷ b ∷ c ∷ d ∷ ns) = omega (arith, length-append (fourLine a b c d) (fourLines n ns), four-length a b c d, fours-length n ns)
+pub fours_length : (n : ℕ) (ns : List ℕ) → length (four_lines n ns) * 4 ≤ length ns * 33
+unfolding four_lines
+fours_length zero ns = omega arith
+fours_length (suc n) [] = omega arith
+fours_length (suc n) (a ∷ []) = omega arith
+fours_length (suc n) (a ∷ b ∷ []) = omega arith
+fours_length (suc n) (a ∷ b ∷ c ∷ []) = omega arith
+fours_length (suc n) (a ∷ b ∷ c ∷ d ∷ ns) = omega (arith, length-append (four_line a b c d) (four_lines n ns), four-length a b c d, fours_length n ns)
 
 -- at first all lines are left
-pub fours-start : (n : ℕ) (ns l : List ℕ) → Putting (fourLines n ns) (fourLines (n - 0) ns) l l 0 0
-fours-start n ns l = let e : n - 0 ≡ n = omega arith in rw e (putting-start (fourLines n ns) l 0)
+pub fours_start : (n : ℕ) (ns l : List ℕ) → Putting (four_lines n ns) (four_lines (n - 0) ns) l l 0 0
+fours_start n ns l = let e : n - 0 ≡ n = omega arith in rw e (putting_start (four_lines n ns) l 0)
 
 -- nothing is left if no line is
-pub fours-none : (n : ℕ) (ns : List ℕ) → n ≡ 0 → fourLines n ns ≡ []
-unfolding fourLines
-fours-none n ns h = rw h
+pub fours_none : (n : ℕ) (ns : List ℕ) → n ≡ 0 → four_lines n ns ≡ []
+unfolding four_lines
+fours_none n ns h = rw h
 
 -- nor if fewer than four numbers are
-fours-short : (n : ℕ) (ns : List ℕ) → length ns ≤ 3 → fourLines n ns ≡ []
-unfolding fourLines
-fours-short zero ns h = refl
-fours-short (suc n) [] h = refl
-fours-short (suc n) (a ∷ []) h = refl
-fours-short (suc n) (a ∷ b ∷ []) h = refl
-fours-short (suc n) (a ∷ b ∷ c ∷ []) h = refl
-fours-short (suc n) (a ∷ b ∷ c ∷ d ∷ ns) h = absurd (omega arith)
+fours_short : (n : ℕ) (ns : List ℕ) → length ns ≤ 3 → four_lines n ns ≡ []
+unfolding four_lines
+fours_short zero ns h = refl
+fours_short (suc n) [] h = refl
+fours_short (suc n) (a ∷ []) h = refl
+fours_short (suc n) (a ∷ b ∷ []) h = refl
+fours_short (suc n) (a ∷ b ∷ c ∷ []) h = refl
+fours_short (suc n) (a ∷ b ∷ c ∷ d ∷ ns) h = absurd (omega arith)
 
 -- i numbers of ns and j of n lines are done
 module _ (ns : List ℕ) (n i j : ℕ) where
   -- the last line is done
-  pub fours-done : length ns - i ≤ 3 → fourLines (n - j) (drop i ns) ≡ []
-  fours-done h = fours-short (n - j) (drop i ns) (omega (arith, length-drop i ns))
+  pub fours_done : length ns - i ≤ 3 → four_lines (n - j) (drop i ns) ≡ []
+  fours_done h = fours_short (n - j) (drop i ns) (omega (arith, length-drop i ns))
 
   -- the next line comes first of what is left
-  fours-more : 3 < length ns - i → j < n
-      → fourLines (n - j) (drop i ns) ≡ fourLine (get_or ns i 0) (get_or ns (i + 1) 0) (get_or ns (i + 2) 0) (get_or ns (i + 3) 0) ++ fourLines (n - (j + 1)) (drop (i + 4) ns)
-  unfolding fourLines
-  fours-more h l =
+  fours_more : 3 < length ns - i → j < n
+      → four_lines (n - j) (drop i ns) ≡ four_line (get_or ns i 0) (get_or ns (i + 1) 0) (get_or ns (i + 2) 0) (get_or ns (i + 3) 0) ++ four_lines (n - (j + 1)) (drop (i + 4) ns)
+  unfolding four_lines
+  fours_more h l =
       let e : i + 2 ≡ suc (suc i) = omega arith in
       let f : i + 3 ≡ suc (suc (suc i)) = omega arith in
       let g : i + 4 ≡ suc (suc (suc (suc i))) = omega arith in
@@ -118,19 +118,19 @@ module _ (ns : List ℕ) (n i j : ℕ) where
       rw (m, drop-cons ns i 0 (omega arith), drop-cons ns (suc i) 0 (omega arith), drop-cons ns (suc (suc i)) 0 (omega arith), drop-cons ns (suc (suc (suc i))) 0 (omega arith), add-one i, e, f, g)
 
   -- once it is stored, the lines after it are left
-  pub fours-next : {before now after : List ℕ} {k m : ℕ} → Putting (fourLines n ns) (fourLines (n - j) (drop i ns)) before now 0 k → 3 < length ns - i → j < n
-      → m ≡ length (fourLine (get_or ns i 0) (get_or ns (i + 1) 0) (get_or ns (i + 2) 0) (get_or ns (i + 3) 0))
-      → after ≡ sets now k (fourLine (get_or ns i 0) (get_or ns (i + 1) 0) (get_or ns (i + 2) 0) (get_or ns (i + 3) 0)) → length after ≡ length now
-      → Putting (fourLines n ns) (fourLines (n - (j + 1)) (drop (i + 4) ns)) before after 0 (k + m)
-  fours-next {now = now} {k = k} p h l e f s =
-      let x = fourLine (get_or ns i 0) (get_or ns (i + 1) 0) (get_or ns (i + 2) 0) (get_or ns (i + 3) 0) in
-      rw e (putting-next p x (fourLines (n - (j + 1)) (drop (i + 4) ns)) (fours-more h l) (f ∙ ap (λ (i : ℕ). sets now i x) (sym (zero-add k))) s)
+  pub fours_next : {before now after : List ℕ} {k m : ℕ} → Putting (four_lines n ns) (four_lines (n - j) (drop i ns)) before now 0 k → 3 < length ns - i → j < n
+      → m ≡ length (four_line (get_or ns i 0) (get_or ns (i + 1) 0) (get_or ns (i + 2) 0) (get_or ns (i + 3) 0))
+      → after ≡ sets now k (four_line (get_or ns i 0) (get_or ns (i + 1) 0) (get_or ns (i + 2) 0) (get_or ns (i + 3) 0)) → length after ≡ length now
+      → Putting (four_lines n ns) (four_lines (n - (j + 1)) (drop (i + 4) ns)) before after 0 (k + m)
+  fours_next {now = now} {k = k} p h l e f s =
+      let x = four_line (get_or ns i 0) (get_or ns (i + 1) 0) (get_or ns (i + 2) 0) (get_or ns (i + 3) 0) in
+      rw e (putting_next p x (four_lines (n - (j + 1)) (drop (i + 4) ns)) (fours_more h l) (f ∙ ap (λ (i : ℕ). sets now i x) (sym (zero-add k))) s)
 
 -- ---- answers
 
 -- how many bytes there are, and that they stand from k on: the same bytes, said otherwise
-pub shown-as : (l : List ℕ) (k : ℕ) {n : ℕ} {xs ys after : List ℕ} → xs ≡ ys → (n ≡ length xs) × (after ≡ sets l k xs) → (n ≡ length ys) × (after ≡ sets l k ys)
-shown-as l k e f = (f.0 ∙ ap length e, sets-as l k e f.1)
+pub shown_as : (l : List ℕ) (k : ℕ) {n : ℕ} {xs ys after : List ℕ} → xs ≡ ys → (n ≡ length xs) × (after ≡ sets l k xs) → (n ≡ length ys) × (after ≡ sets l k ys)
+shown_as l k e f = (f.0 ∙ ap length e, sets_as l k e f.1)
 
 -- bytes after others that are the first
 pub shown-next : (l xs ys : List ℕ) {k n : ℕ} {a b : List ℕ} → (k ≡ length xs) × (a ≡ sets l 0 xs) → (n ≡ length ys) × (b ≡ sets a k ys) → (k + n ≡ length (xs ++ ys)) × (b ≡ sets l 0 (xs ++ ys))
@@ -139,43 +139,43 @@ shown-next l xs ys {k} {n} {a} e f =
     (omega (arith, length-append xs ys, e.0, f.0), sets-next l 0 xs ys e.1 (f.1 ∙ ap (λ (i : ℕ). sets a i ys) w))
 
 -- a part of the octets makes the line of that part
-pub part-line : {os : List ℕ} (m : ℕ) (pool : List ℕ) → os ≡ take m pool → endLine (hex os) ≡ endLine (hex (take m pool))
-part-line m pool e = ap (λ (x : List ℕ). endLine (hex x)) e
+pub part_line : {os : List ℕ} (m : ℕ) (pool : List ℕ) → os ≡ take m pool → end_line (hex os) ≡ end_line (hex (take m pool))
+part_line m pool e = ap (λ (x : List ℕ). end_line (hex x)) e
 
 -- it has no more octets than all
 pub part_length : {os : List ℕ} (m : ℕ) (pool : List ℕ) → os ≡ take m pool → length os ≤ length pool
 part_length m pool e = omega (arith, ap length e, length-take m pool)
 
 -- what is printed for each answer of reading
-pub reading-refused : {r : Reading} {e : Refusal} (rows pool : List ℕ) → r ≡ reading.Refused e → refusalLine (values_of e) ≡ readingLines r rows pool
-unfolding readingLines
-reading-refused rows pool h = rw h
+pub reading_refused : {r : Reading} {e : Refusal} (rows pool : List ℕ) → r ≡ reading.Refused e → refusal_line (values_of e) ≡ reading_lines r rows pool
+unfolding reading_lines
+reading_refused rows pool h = rw h
 
-pub reading-read : {r : Reading} {n m : ℕ} (rows pool : List ℕ) → r ≡ reading.Read n m → fourLines n rows ++ endLine (hex (take m pool)) ≡ readingLines r rows pool
-unfolding readingLines
-reading-read rows pool h = rw h
+pub reading_read : {r : Reading} {n m : ℕ} (rows pool : List ℕ) → r ≡ reading.Read n m → four_lines n rows ++ end_line (hex (take m pool)) ≡ reading_lines r rows pool
+unfolding reading_lines
+reading_read rows pool h = rw h
 
 -- and of writing
-pub writing-refused : {w : Writing} {e : Refusal} (text : List ℕ) → w ≡ writing.Refused e → refusalLine (values_of e) ≡ writingLines w text
-unfolding writingLines
-writing-refused text h = rw h
+pub writing_refused : {w : Writing} {e : Refusal} (text : List ℕ) → w ≡ writing.Refused e → refusal_line (values_of e) ≡ writing_lines w text
+unfolding writing_lines
+writing_refused text h = rw h
 
-pub writing-written : {w : Writing} {n : ℕ} (text : List ℕ) → w ≡ writing.Written n → endLine (hex (take n text)) ≡ writingLines w text
-unfolding writingLines
-writing-written text h = rw h
+pub writing_written : {w : Writing} {n : ℕ} (text : List ℕ) → w ≡ writing.Written n → end_line (hex (take n text)) ≡ writing_lines w text
+unfolding writing_lines
+writing_written text h = rw h
 
 -- the line of a refused judgement has 21 bytes, and is stored part by part
 module _ (n p : ℕ) where
   pub no-stored : (l : List ℕ) {a b c d e f g : List ℕ} → a ≡ set l 0 0x4E → b ≡ set a 1 0x4F → c ≡ set b 2 0x20 → d ≡ sets c 3 (digits8 (n ∷ [])) → e ≡ set d 11 0x20 → f ≡ sets e 12 (digits8 (p ∷ [])) → g ≡ set f 20 0x0A
-      → (21 ≡ length (noLine n p)) × (g ≡ sets l 0 (noLine n p))
-  unfolding noLine endLine digits8 hex
+      → (21 ≡ length (no_line n p)) × (g ≡ sets l 0 (no_line n p))
+  unfolding no_line end_line digits8 hex
   no-stored l ea eb ec ed ee ef eg = (refl, rw (eg, ef, ee, ed, ec, eb, ea) refl)
 
 -- what is printed for each answer of judging
-pub judged-good : {j : Judged} (l : List ℕ) {a b c : List ℕ} → j ≡ judged.Good → a ≡ set l 0 0x4F → b ≡ set a 1 0x4B → c ≡ set b 2 0x0A → (3 ≡ length (judgedLine j)) × (c ≡ sets l 0 (judgedLine j))
-unfolding judgedLine endLine
+pub judged-good : {j : Judged} (l : List ℕ) {a b c : List ℕ} → j ≡ judged.Good → a ≡ set l 0 0x4F → b ≡ set a 1 0x4B → c ≡ set b 2 0x0A → (3 ≡ length (judged_line j)) × (c ≡ sets l 0 (judged_line j))
+unfolding judged_line end_line
 judged-good l h ea eb ec = rw h (refl, rw (ec, eb, ea) refl)
 
-pub judged-refused : {j : Judged} {e : Refusal} {r : Reported} → j ≡ judged.Refused e → r ≡ reportedOf (values_of e) → noLine r.number r.first ≡ judgedLine j
-unfolding judgedLine
-judged-refused {j} {e} h k = ap (λ (x : Reported). noLine x.number x.first) k ∙ rw h
+pub judged-refused : {j : Judged} {e : Refusal} {r : Reported} → j ≡ judged.Refused e → r ≡ reported_of (values_of e) → no_line r.number r.first ≡ judged_line j
+unfolding judged_line
+judged-refused {j} {e} h k = ap (λ (x : Reported). no_line x.number x.first) k ∙ rw h

@@ -3,8 +3,8 @@ ghost use Rattle.std.specs.Prelude.{◌≡◌, [], ◌∷◌, ◌+◌, ◌*◌, 
 ghost use Rattle.std.proofs.lemmas.List.Edits.{sets};
 ghost use Rattle.jer.specs.Octets.{hex};
 ghost use Rattle.jer.specs.Answer.{values, values_of};
-ghost use Rattle.jer.specs.Programs.{digits8, endLine, refusalLine};
-ghost use Rattle.lines.specs.Shown.{Shows, fourLine, fourLines, readingLines, writingLines, noLine, judgedLine};
+ghost use Rattle.jer.specs.Programs.{digits8, end_line, refusal_line};
+ghost use Rattle.lines.specs.Shown.{Shows, four_line, four_lines, reading_lines, writing_lines, no_line, judged_line};
 
 use jer::{Judged, Reading, Refusal, Writing, report};
 use octets::encode::put_hex;
@@ -35,7 +35,7 @@ fn put_number(text: &mut [u8], k: usize, x: u64) -> usize
 // A line of four numbers.
 fn put_four(text: &mut [u8], k: usize, a: u64, b: u64, c: u64, d: u64) -> usize
     requires { k ≤ 4294960000 }
-    ensures { Shows (fourLine a b c d) k text.old result text.new }
+    ensures { Shows (four_line a b c d) k text.old result text.new }
 {
     put_number(text, k, a);
     put_number(text, k + 8, b);
@@ -48,7 +48,7 @@ fn put_four(text: &mut [u8], k: usize, a: u64, b: u64, c: u64, d: u64) -> usize
 // The line of a refusal: FFFFFFFF, number, first and second amount.
 pub fn put_refusal(text: &mut [u8], k: usize, e: Refusal) -> usize
     requires { k ≤ 4294960000 }
-    ensures { Shows (refusalLine (values_of e)) k text.old result text.new }
+    ensures { Shows (refusal_line (values_of e)) k text.old result text.new }
 {
     let r = report(e);
     put_four(text, k, 4294967295, r.number as u64, r.first, r.second)
@@ -56,7 +56,7 @@ pub fn put_refusal(text: &mut [u8], k: usize, e: Refusal) -> usize
 
 // The line of refusal 15 at an input line.
 pub fn put_bad_line(text: &mut [u8], line: u32) -> usize
-    ensures { Shows (refusalLine (values 15 line 0)) 0 text.old result text.new }
+    ensures { Shows (refusal_line (values 15 line 0)) 0 text.old result text.new }
 {
     put_four(text, 0, 4294967295, 15, line as u64, 0)
 }
@@ -64,7 +64,7 @@ pub fn put_bad_line(text: &mut [u8], line: u32) -> usize
 // Octets as one line.
 pub fn put_octets(text: &mut [u8], k: usize, octets: &[u8]) -> usize
     requires { k + 2 * length octets.now ≤ 4294967000 }
-    ensures { Shows (endLine (hex octets.now)) k text.old result text.new }
+    ensures { Shows (end_line (hex octets.now)) k text.old result text.new }
 {
     let n = put_hex(text, k, octets);
     put(text, k + n, 0x0A);
@@ -74,7 +74,7 @@ pub fn put_octets(text: &mut [u8], k: usize, octets: &[u8]) -> usize
 // Numbers, four a line.
 pub fn put_rows(text: &mut [u8], rows: &[u32], n: usize) -> usize
     requires { length rows.now ≤ 65536 }
-    ensures { Shows (fourLines n rows.now) 0 text.old result text.new }
+    ensures { Shows (four_lines n rows.now) 0 text.old result text.new }
 {
     let mut i = 0;
     let mut j = 0;
@@ -100,7 +100,7 @@ pub fn put_rows(text: &mut [u8], rows: &[u32], n: usize) -> usize
 // What reading answered: rows and pool, or the refusal.
 pub fn put_reading(text: &mut [u8], r: Reading, rows: &[u32], pool: &[u8]) -> usize
     requires { (length rows.now ≤ 65536) × (length pool.now ≤ 65536) }
-    ensures { Shows (readingLines r rows.now pool.now) 0 text.old result text.new }
+    ensures { Shows (reading_lines r rows.now pool.now) 0 text.old result text.new }
 {
     match r {
         Reading::Refused(e) => put_refusal(text, 0, e),
@@ -114,7 +114,7 @@ pub fn put_reading(text: &mut [u8], r: Reading, rows: &[u32], pool: &[u8]) -> us
 // What writing answered: the text, or the refusal.
 pub fn put_writing(out: &mut [u8], w: Writing, text: &[u8]) -> usize
     requires { length text.now ≤ 65536 }
-    ensures { Shows (writingLines w text.now) 0 out.old result out.new }
+    ensures { Shows (writing_lines w text.now) 0 out.old result out.new }
 {
     match w {
         Writing::Refused(e) => put_refusal(out, 0, e),
@@ -124,7 +124,7 @@ pub fn put_writing(out: &mut [u8], w: Writing, text: &[u8]) -> usize
 
 // NO, a number and a place or row.
 fn put_no(text: &mut [u8], number: u64, first: u64) -> usize
-    ensures { Shows (noLine number first) 0 text.old result text.new }
+    ensures { Shows (no_line number first) 0 text.old result text.new }
 {
     put(text, 0, 0x4E);
     put(text, 1, 0x4F);
@@ -138,7 +138,7 @@ fn put_no(text: &mut [u8], number: u64, first: u64) -> usize
 
 // What judging answered: OK, or the refusal's number and its place or row.
 pub fn put_judged(text: &mut [u8], j: Judged) -> usize
-    ensures { Shows (judgedLine j) 0 text.old result text.new }
+    ensures { Shows (judged_line j) 0 text.old result text.new }
 {
     match j {
         Judged::Good => {

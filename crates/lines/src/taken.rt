@@ -1,8 +1,8 @@
 // A line of hexadecimal, from a place in what a program was given.
 ghost use Rattle.std.specs.Prelude.{◌≡◌, true, ◌+◌, ◌*◌, ◌<◌, ◌≤◌, length, take, drop, set};
 ghost use Rattle.std.proofs.lemmas.List.Edits.{sets};
-ghost use Rattle.jer.specs.Programs.{lineFrom, octetsIn, line_at, numbersIn};
-ghost use Rattle.lines.specs.Taken.{octetsOf, octetAt, number_at, isHex, is_some, numbersLine, taken_of, after};
+ghost use Rattle.jer.specs.Programs.{line_from, octets_in, line_at, numbers_in};
+ghost use Rattle.lines.specs.Taken.{octets_of, octet_at, number_at, is_hex, is_some, numbers_line, taken_of, after};
 
 use slices::{digit, part, put, put_number};
 
@@ -20,7 +20,7 @@ pub const DIGITS: usize = 16384;
 // How many bytes the line at a place has.
 fn line_len(s: &[u8], at: usize) -> usize
     requires { at ≤ length s.now }
-    ensures { result ≡ length (lineFrom (drop at s.now)).bytes }
+    ensures { result ≡ length (line_from (drop at s.now)).bytes }
 {
     let mut i = at;
     while i < s.len() {
@@ -34,7 +34,7 @@ fn line_len(s: &[u8], at: usize) -> usize
 
 // Whether all bytes are hexadecimal digits.
 fn is_hex(line: &[u8]) -> bool
-    ensures { result ≡ isHex line.now }
+    ensures { result ≡ is_hex line.now }
 {
     let mut i = 0;
     while i < line.len() {
@@ -49,7 +49,7 @@ fn is_hex(line: &[u8]) -> bool
 // Whether a line is hexadecimal, not over-long, of whole units of octets.
 fn is_good(line: &[u8], unit: usize) -> bool
     requires { 1 ≤ unit }
-    ensures { result ≡ is_some (octetsIn unit line.now) }
+    ensures { result ≡ is_some (octets_in unit line.now) }
 {
     if DIGITS < line.len() {
         return false;
@@ -65,15 +65,15 @@ fn is_good(line: &[u8], unit: usize) -> bool
 
 // The octet whose two digits stand at i.
 fn octet(line: &[u8], i: usize) -> u8
-    requires { (isHex line.now ≡ true) × (i + 1 < length line.now) }
-    ensures { result ≡ octetAt line.now i }
+    requires { (is_hex line.now ≡ true) × (i + 1 < length line.now) }
+    ensures { result ≡ octet_at line.now i }
 {
     (digit(line[i] as u32) * 16 + digit(line[i + 1] as u32)) as u8
 }
 
 // The number whose eight digits stand at i.
 fn number(line: &[u8], i: usize) -> u32
-    requires { (isHex line.now ≡ true) × (i + 7 < length line.now) }
+    requires { (is_hex line.now ≡ true) × (i + 7 < length line.now) }
     ensures { result ≡ number_at line.now i }
 {
     let a = octet(line, i) as u32;
@@ -85,8 +85,8 @@ fn number(line: &[u8], i: usize) -> u32
 
 // Stores the octets of digits, as far as there is room.
 fn store_octets(line: &[u8], out: &mut [u8])
-    requires { isHex line.now ≡ true }
-    ensures { out.new ≡ sets out.old 0 (octetsOf line.now) }
+    requires { is_hex line.now ≡ true }
+    ensures { out.new ≡ sets out.old 0 (octets_of line.now) }
 {
     let mut i = 0;
     let mut k = 0;
@@ -100,8 +100,8 @@ fn store_octets(line: &[u8], out: &mut [u8])
 
 // Stores the numbers of digits, eight each, as far as there is room.
 fn store_numbers(line: &[u8], out: &mut [u32])
-    requires { isHex line.now ≡ true }
-    ensures { out.new ≡ sets out.old 0 (numbersIn (octetsOf line.now)) }
+    requires { is_hex line.now ≡ true }
+    ensures { out.new ≡ sets out.old 0 (numbers_in (octets_of line.now)) }
 {
     let mut i = 0;
     let mut k = 0;
@@ -142,8 +142,8 @@ pub fn octets_line(s: &[u8], at: usize, out: &mut [u8]) -> Taken
 
 // The numbers of the line at a place, stored as far as there is room. A bad line stores nothing.
 pub fn numbers_line(s: &[u8], at: usize, out: &mut [u32]) -> Taken
-    ensures value { result ≡ taken_of s.now at (numbersLine (drop at s.now)) }
-    ensures out_after { out.new ≡ after out.old (numbersLine (drop at s.now)) }
+    ensures value { result ≡ taken_of s.now at (numbers_line (drop at s.now)) }
+    ensures out_after { out.new ≡ after out.old (numbers_line (drop at s.now)) }
 {
     if s.len() <= at {
         return Taken::Bad;

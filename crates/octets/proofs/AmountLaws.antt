@@ -23,8 +23,8 @@ amount-over n h = go (leb n greatest) refl
     go false e = rw (e, amount)
 
 -- an amount may be cut before more is added
-pub amount-add : (a b : ℕ) → amount (amount a + b) ≡ amount (a + b)
-amount-add a b = go (leb a greatest) refl
+pub amount_add : (a b : ℕ) → amount (amount a + b) ≡ amount (a + b)
+amount_add a b = go (leb a greatest) refl
   where
     go : (t : Bool) → leb a greatest ≡ t → amount (amount a + b) ≡ amount (a + b)
     go true e = ap (λ (n : ℕ). amount (n + b)) (sym (amount-within a (leb-true a greatest e)))

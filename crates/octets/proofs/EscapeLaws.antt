@@ -9,23 +9,23 @@ use borrow.Author.Tests.{lt-ltb, le-ltb, eq-eqb, ne_eqb, eqb-true, eqb-false}
 use lib.Dec.{eqb, ltb}
 use lib.ListN.{length, get_or, drop, drop_of_length-le, length-append}
 use lib.Seq.{drop-cons, sets}
-use Rattle.json.specs.Bytes.{pick}
-use Rattle.json.proofs.Feed.{pick-none}
-use Rattle.json.proofs.SoundRows.{pick-within, only, ◌⨾◌}
-use Rattle.jer.specs.Octets.{hexDigit}
-use Rattle.jer.specs.Table.{sameBytes}
+use Rattle.json_text.specs.Bytes.{pick}
+use Rattle.json_text.proofs.Feed.{pick-none}
+use Rattle.json_text.proofs.SoundRows.{pick-within, only, ◌⨾◌}
+use Rattle.jer.specs.Octets.{hex_digit}
+use Rattle.jer.specs.Table.{same_bytes}
 use Rattle.jer.specs.Write.{escaped, escapes}
 use Rattle.jer.specs.Calls.{amount}
-use Rattle.jer.proofs.ValidLaws.{sameBytes-eq}
-use Rattle.octets.specs.Encode.{letterFor}
-use Rattle.octets.proofs.PutLaws.{Putting, putting-next}
-use Rattle.octets.proofs.AmountLaws.{amount-within, amount-add, amount-most}
+use Rattle.jer.proofs.ValidLaws.{same_bytes-eq}
+use Rattle.octets.specs.Encode.{letter_for}
+use Rattle.octets.proofs.PutLaws.{Putting, putting_next}
+use Rattle.octets.proofs.AmountLaws.{amount-within, amount_add, amount-most}
 
 -- ---- the short escapes
 
 module _ (b : ℕ) where
-  pub letter-none : (b ≡ 0x22 → ⊥) → (b ≡ 0x5C → ⊥) → (b ≡ 0x08 → ⊥) → (b ≡ 0x09 → ⊥) → (b ≡ 0x0A → ⊥) → (b ≡ 0x0C → ⊥) → (b ≡ 0x0D → ⊥) → 0 ≡ letterFor b
-  unfolding letterFor
+  pub letter-none : (b ≡ 0x22 → ⊥) → (b ≡ 0x5C → ⊥) → (b ≡ 0x08 → ⊥) → (b ≡ 0x09 → ⊥) → (b ≡ 0x0A → ⊥) → (b ≡ 0x0C → ⊥) → (b ≡ 0x0D → ⊥) → 0 ≡ letter_for b
+  unfolding letter_for
   letter-none h₁ h₂ h₃ h₄ h₅ h₆ h₇ =
       sym (pick-none b _ 0 ((λ i. h₁ (only i)) ⨾ (λ i. h₂ (only i)) ⨾ (λ i. h₃ (only i)) ⨾ (λ i. h₄ (only i)) ⨾ (λ i. h₅ (only i)) ⨾ (λ i. h₆ (only i)) ⨾ (λ i. h₇ (only i)) ⨾ tt))
 
@@ -47,37 +47,37 @@ below f (suc n) t k h = go (f n) refl t (below f n) (eqb k n) refl
 -- ---- a byte, by its letter
 
 -- with the letter x, or 0
-escapedBy : ℕ → ℕ → List ℕ
-escapedBy x b =
+escaped_by : ℕ → ℕ → List ℕ
+escaped_by x b =
     elim (eqb x 0) [
-      | true ↦ elim (ltb b 0x20) [ true ↦ 0x5C ∷ 0x75 ∷ 0x30 ∷ 0x30 ∷ hexDigit (b / 16) ∷ hexDigit (b % 16) ∷ [] | false ↦ b ∷ [] ]
+      | true ↦ elim (ltb b 0x20) [ true ↦ 0x5C ∷ 0x75 ∷ 0x30 ∷ 0x30 ∷ hex_digit (b / 16) ∷ hex_digit (b % 16) ∷ [] | false ↦ b ∷ [] ]
       | false ↦ 0x5C ∷ x ∷ []
     ]
 
-by-letter : (b : ℕ) → b < 256 → escaped b ≡ escapedBy (letterFor b) b
-unfolding escaped escapedBy letterFor pick sameBytes hexDigit
-by-letter b h = sameBytes-eq (escaped b) (escapedBy (letterFor b) b) (below (λ k. sameBytes (escaped k) (escapedBy (letterFor k) k)) 256 refl b h)
+by-letter : (b : ℕ) → b < 256 → escaped b ≡ escaped_by (letter_for b) b
+unfolding escaped escaped_by letter_for pick same_bytes hex_digit
+by-letter b h = same_bytes-eq (escaped b) (escaped_by (letter_for b) b) (below (λ k. same_bytes (escaped k) (escaped_by (letter_for k) k)) 256 refl b h)
 
-module _ {b : ℕ} (f : b < 256) {x : ℕ} (e : x ≡ letterFor b) where
-  by-this : escaped b ≡ escapedBy x b
-  by-this = by-letter b f ∙ ap (λ (y : ℕ). escapedBy y b) (sym e)
+module _ {b : ℕ} (f : b < 256) {x : ℕ} (e : x ≡ letter_for b) where
+  by_this : escaped b ≡ escaped_by x b
+  by_this = by-letter b f ∙ ap (λ (y : ℕ). escaped_by y b) (sym e)
 
   pub escaped-letter : (x ≡ 0 → ⊥) → escaped b ≡ 0x5C ∷ x ∷ []
-  unfolding escapedBy
-  escaped-letter h = by-this ∙ rw (ne_eqb x 0 h, escapedBy)
+  unfolding escaped_by
+  escaped-letter h = by_this ∙ rw (ne_eqb x 0 h, escaped_by)
 
   module _ (z : x ≡ 0) where
     pub escaped-plain : 0x20 ≤ b → escaped b ≡ b ∷ []
-    unfolding escapedBy
-    escaped-plain h = by-this ∙ rw (eq-eqb x 0 z, escapedBy) (rw (le-ltb b 0x20 h))
+    unfolding escaped_by
+    escaped-plain h = by_this ∙ rw (eq-eqb x 0 z, escaped_by) (rw (le-ltb b 0x20 h))
 
-    pub escaped-control : b < 0x20 → escaped b ≡ 0x5C ∷ 0x75 ∷ 0x30 ∷ 0x30 ∷ hexDigit (b / 16) ∷ hexDigit (b % 16) ∷ []
-    unfolding escapedBy
-    escaped-control h = by-this ∙ rw (eq-eqb x 0 z, escapedBy) (rw (lt-ltb b 0x20 h))
+    pub escaped_control : b < 0x20 → escaped b ≡ 0x5C ∷ 0x75 ∷ 0x30 ∷ 0x30 ∷ hex_digit (b / 16) ∷ hex_digit (b % 16) ∷ []
+    unfolding escaped_by
+    escaped_control h = by_this ∙ rw (eq-eqb x 0 z, escaped_by) (rw (lt-ltb b 0x20 h))
 
-pub control-digits : (b : ℕ) {x y : ℕ} → x ≡ hexDigit (b / 16) → y ≡ hexDigit (b % 16)
-    → 0x5C ∷ 0x75 ∷ 0x30 ∷ 0x30 ∷ x ∷ y ∷ [] ≡ 0x5C ∷ 0x75 ∷ 0x30 ∷ 0x30 ∷ hexDigit (b / 16) ∷ hexDigit (b % 16) ∷ []
-control-digits b e f = rw (e, f)
+pub control_digits : (b : ℕ) {x y : ℕ} → x ≡ hex_digit (b / 16) → y ≡ hex_digit (b % 16)
+    → 0x5C ∷ 0x75 ∷ 0x30 ∷ 0x30 ∷ x ∷ y ∷ [] ≡ 0x5C ∷ 0x75 ∷ 0x30 ∷ 0x30 ∷ hex_digit (b / 16) ∷ hex_digit (b % 16) ∷ []
+control_digits b e f = rw (e, f)
 
 -- ---- how many bytes there are
 
@@ -128,7 +128,7 @@ module _ (os : List ℕ) (i n : ℕ) (c : Counting os i n) where
   counting_more h x m e f =
       let rest = length (escapes (drop (i + 1) os)) in
       let w : n + x + rest ≡ n + length (escapes (drop i os)) = omega (arith, e, ap length (escapes-more os i h), length-append (escaped (get_or os i 0)) (escapes (drop (i + 1) os))) in
-      record { counted = rw f (amount-add (n + x) rest ∙ ap amount w ∙ c.counted); most = omega (arith, f, amount-most (n + x)) }
+      record { counted = rw f (amount_add (n + x) rest ∙ ap amount w ∙ c.counted); most = omega (arith, f, amount-most (n + x)) }
 
   pub counting-done : length os ≤ i → n ≡ amount (length (escapes os))
   counting-done h =
@@ -141,4 +141,4 @@ module _ (os : List ℕ) {before now : List ℕ} {i k n : ℕ} (p : Putting (esc
   escapes-room = omega (arith, p.count, e, ap length (escapes-more os i h), length-append (escaped (get_or os i 0)) (escapes (drop (i + 1) os)))
 
   pub escapes-next : {after : List ℕ} → after ≡ sets now (k + n) (escaped (get_or os i 0)) → length after ≡ length now → Putting (escapes os) (escapes (drop (i + 1) os)) before after k (n + r)
-  escapes-next f l = rw e (putting-next p (escaped (get_or os i 0)) (escapes (drop (i + 1) os)) (escapes-more os i h) f l)
+  escapes-next f l = rw e (putting_next p (escaped (get_or os i 0)) (escapes (drop (i + 1) os)) (escapes-more os i h) f l)

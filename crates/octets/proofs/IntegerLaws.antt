@@ -10,7 +10,7 @@ use borrow.Author.Tests.{lt-ltb, le-ltb, ltb-true, ltb-false}
 use lib.Dec.{ltb}
 use lib.ListN.{length, set}
 use lib.Seq.{sets}
-use Rattle.jer.specs.Write.{digits, intText}
+use Rattle.jer.specs.Write.{digits, int_text}
 use Rattle.octets.proofs.PutLaws.{set-sets}
 
 module _ (f m : ℕ) (ds : List ℕ) where
@@ -104,8 +104,8 @@ pub record PuttingDigits (n m : ℕ) (before now : List ℕ) (k i : ℕ) : Type 
   pub stored : now ≡ sets before (k + i + 1) ds
   pub kept : length now ≡ length before
 
-pub putting-start : (n : ℕ) (before : List ℕ) (k count : ℕ) → n < 18446744073709551616 → count ≡ length (digits 20 n []) → 1 ≤ count → PuttingDigits n n before before k (count - 1)
-putting-start n before k count h e l = record { ds = []; left = digits-start n h; many = omega arith; stored = refl; kept = refl }
+pub putting_start : (n : ℕ) (before : List ℕ) (k count : ℕ) → n < 18446744073709551616 → count ≡ length (digits 20 n []) → 1 ≤ count → PuttingDigits n n before before k (count - 1)
+putting_start n before k count h e l = record { ds = []; left = digits-start n h; many = omega arith; stored = refl; kept = refl }
 
 module _ {n m : ℕ} {before now : List ℕ} {k i : ℕ} (p : PuttingDigits n m before now k i) where
   one_more : (x : ℕ) {after : List ℕ} → after ≡ set now (k + i) x → after ≡ sets before (k + i) (x ∷ p.ds)
@@ -113,15 +113,15 @@ module _ {n m : ℕ} {before now : List ℕ} {k i : ℕ} (p : PuttingDigits n m 
       e ∙ ap (λ (l : List ℕ). set l (k + i) x) p.stored ∙ set-sets before (k + i) (k + i + 1) x p.ds (omega arith)
       ∙ ap (λ (j : ℕ). sets (set before (k + i) x) j p.ds) (add-one (k + i))
 
-  pub putting-few : i < 20
-  putting-few = omega (arith, p.many, digits-few 20 n)
+  pub putting_few : i < 20
+  putting_few = omega (arith, p.many, digits-few 20 n)
 
-  pub putting-inside : 10 ≤ m → 1 ≤ i
-  putting-inside h = omega (arith, p.many, digits-left (digits-next p.left h))
+  pub putting_inside : 10 ≤ m → 1 ≤ i
+  putting_inside h = omega (arith, p.many, digits-left (digits-next p.left h))
 
-  pub putting-next : 10 ≤ m → {after : List ℕ} → after ≡ set now (k + i) (0x30 + m % 10) → length after ≡ length now → PuttingDigits n (m / 10) before after k (i - 1)
-  putting-next h e l =
-      let j = putting-inside h in
+  pub putting_next : 10 ≤ m → {after : List ℕ} → after ≡ set now (k + i) (0x30 + m % 10) → length after ≡ length now → PuttingDigits n (m / 10) before after k (i - 1)
+  putting_next h e l =
+      let j = putting_inside h in
       let w : k + i ≡ k + (i - 1) + 1 = omega arith in
       record {
         ds = (0x30 + m % 10) ∷ p.ds;
@@ -131,8 +131,8 @@ module _ {n m : ℕ} {before now : List ℕ} {k i : ℕ} (p : PuttingDigits n m 
         kept = l ∙ p.kept;
       }
 
-  pub putting-done : m < 10 → {after : List ℕ} → after ≡ set now k (0x30 + m) → after ≡ sets before k (digits 20 n [])
-  putting-done h e =
+  pub putting_done : m < 10 → {after : List ℕ} → after ≡ set now k (0x30 + m) → after ≡ sets before k (digits 20 n [])
+  putting_done h e =
       let z : i ≡ 0 = omega (arith, p.many, ap length (digits_last p.left h)) in
       let w : k ≡ k + i = omega arith in
       one-more-first w e ∙ ap (sets before k) (sym (digits_last p.left h))
@@ -144,12 +144,12 @@ module _ {n m : ℕ} {before now : List ℕ} {k i : ℕ} (p : PuttingDigits n m 
 -- ---- the INTEGER
 
 module _ (n : ℕ) where
-  pub int-plus : n < 9223372036854775808 → intText n ≡ digits 20 n []
-  unfolding intText
-  int-plus h = rw (lt-ltb n 9223372036854775808 h, intText)
+  pub int-plus : n < 9223372036854775808 → int_text n ≡ digits 20 n []
+  unfolding int_text
+  int-plus h = rw (lt-ltb n 9223372036854775808 h, int_text)
 
-  pub int-minus : 9223372036854775808 ≤ n → n < 18446744073709551616 → intText n ≡ 0x2D ∷ digits 20 (18446744073709551615 - n + 1) []
-  unfolding intText
+  pub int-minus : 9223372036854775808 ≤ n → n < 18446744073709551616 → int_text n ≡ 0x2D ∷ digits 20 (18446744073709551615 - n + 1) []
+  unfolding int_text
   int-minus h k =
       let w : 18446744073709551616 - n ≡ 18446744073709551615 - n + 1 = omega arith in
-      rw (le-ltb n 9223372036854775808 h, intText, w)
+      rw (le-ltb n 9223372036854775808 h, int_text, w)

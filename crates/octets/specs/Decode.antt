@@ -2,7 +2,7 @@
 use Rattle.std.specs.Prelude.{ℕ, ◌<◌, ◌≤◌, ◌≡◌, List, [], ◌∷◌, ◌++◌, Bool, true, false, ltb, length, take}
 use Rattle.std.proofs.Math.Option.{Option, none, some}
 use Rattle.std.proofs.lemmas.List.Edits.{sets}
-use Rattle.jer.specs.Octets.{also, only_if, unhex, base64Value, unbase64}
+use Rattle.jer.specs.Octets.{also, only_if, unhex, base64_value, unbase64}
 use Rattle.tokens.specs.Strings.{denoted}
 use Rattle.octets.specs.declared.decode.Found.{Found}
 use Rattle.octets.specs.declared.decode.Found.TheVariants as found
@@ -12,9 +12,9 @@ use Rattle.octets.specs.declared.decode.Group.{Group}
 use Rattle.octets.specs.declared.decode.Group.TheVariants as group
 
 -- how many octets there are, if the characters are those of octets
-abbrev pub foundOf : Option (List ℕ) → Found
-foundOf none = found.Bad
-foundOf (some os) = found.Octets (length os)
+abbrev pub found_of : Option (List ℕ) → Found
+found_of none = found.Bad
+found_of (some os) = found.Octets (length os)
 
 -- the octets stand in the pool from j on, and the rest is as it was; of a string that has none nothing is said
 abbrev pub Stored : List ℕ → List ℕ → ℕ → Option (List ℕ) → Type 0
@@ -24,8 +24,8 @@ Stored after before j (some os) = after ≡ sets before j os
 -- ---- one character
 
 -- a character of one byte is its own value
-unfoldable pub asciiValue : ℕ → Option ℕ
-asciiValue c = only_if (ltb c 0x80) c
+unfoldable pub ascii_value : ℕ → Option ℕ
+ascii_value c = only_if (ltb c 0x80) c
 
 -- at i a string has a character of the value x, and goes on at q
 pub record Digit (value : ℕ → Option ℕ) (s : List ℕ) (i x q : ℕ) : Type 0 where
@@ -73,7 +73,7 @@ Groups octets s i r = First octets s (octets (denoted s i)) i r
 
 -- at i, after the Base64 digits of x and y
 abbrev pub Tail : List ℕ → ℕ → ℕ → ℕ → Group → Type 0
-Tail s i x y r = (a b : ℕ) → base64Value a ≡ some x → base64Value b ≡ some y → First unbase64 s (unbase64 (a ∷ b ∷ denoted s i)) i r
+Tail s i x y r = (a b : ℕ) → base64_value a ≡ some x → base64_value b ≡ some y → First unbase64 s (unbase64 (a ∷ b ∷ denoted s i)) i r
 
 -- Base64 or hexadecimal
 abbrev pub decoding : Bool → List ℕ → Option (List ℕ)

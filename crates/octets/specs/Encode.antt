@@ -1,11 +1,11 @@
 -- The short escapes.
 use Rattle.std.specs.Prelude.{ℕ, [], ◌∷◌}
-use Rattle.json.specs.Bytes.{on, pick}
+use Rattle.json_text.specs.Bytes.{on, pick}
 
 -- the letter that stands for a byte after a backslash, 0 for a byte that has none
 -- 01, Writing: "Escapes only \" \\ \b \t \n \f \r"
-unfoldable pub letterFor : ℕ → ℕ
-letterFor b =
+unfoldable pub letter_for : ℕ → ℕ
+letter_for b =
     pick b
     (on 0x22 0x22 (λ b. 0x22)
     ∷ on 0x5C 0x5C (λ b. 0x5C)

@@ -1,8 +1,8 @@
 // Octets from the characters that a string denotes, from the place after its opening quotation mark.
 ghost use Rattle.std.specs.Prelude.{◌≡◌, ◌≤◌, ◌<◌, length};
-ghost use Rattle.jer.specs.Octets.{hexValue, unhex, base64Value, unbase64};
+ghost use Rattle.jer.specs.Octets.{hex_value, unhex, base64_value, unbase64};
 ghost use Rattle.tokens.specs.Strings.{denoted};
-ghost use Rattle.octets.specs.Decode.{foundOf, Stored, asciiValue, Reads, Groups, Tail, decoding};
+ghost use Rattle.octets.specs.Decode.{found_of, Stored, ascii_value, Reads, Groups, Tail, decoding};
 
 use slices::{digit, put_all};
 use tokens::strings::{Piece, piece_at, same_as};
@@ -41,7 +41,7 @@ pub enum Group {
 // The character at i, if it is below U+0080.
 pub fn next_char(s: &[u8], i: usize) -> Next
     requires { length s.now ≤ 65536 }
-    ensures { Reads asciiValue s.now i result }
+    ensures { Reads ascii_value s.now i result }
 {
     match piece_at(s, i) {
         Piece::Close => Next::End,
@@ -65,7 +65,7 @@ pub fn next_char(s: &[u8], i: usize) -> Next
 // The hexadecimal digit at i.
 fn hex_digit(s: &[u8], i: usize) -> Next
     requires { length s.now ≤ 65536 }
-    ensures { Reads hexValue s.now i result }
+    ensures { Reads hex_value s.now i result }
 {
     match next_char(s, i) {
         Next::End => Next::End,
@@ -100,7 +100,7 @@ fn hex_group(s: &[u8], i: usize) -> Group
 // The Base64 digit at i.
 fn base64_digit(s: &[u8], i: usize) -> Next
     requires { length s.now ≤ 65536 }
-    ensures { Reads base64Value s.now i result }
+    ensures { Reads base64_value s.now i result }
 {
     match next_char(s, i) {
         Next::End => Next::End,
@@ -174,7 +174,7 @@ fn next_group(s: &[u8], i: usize, base64: bool) -> Group
 // Stores the octets of the string at p, from j on, as far as there is room.
 fn octets(s: &[u8], p: usize, pool: &mut [u8], j: usize, base64: bool) -> Found
     requires { (length s.now ≤ 65536) × (j ≤ 4294967296) }
-    ensures value { result ≡ foundOf (decoding base64 (denoted s.now p)) }
+    ensures value { result ≡ found_of (decoding base64 (denoted s.now p)) }
     ensures stored { Stored pool.new pool.old j (decoding base64 (denoted s.now p)) }
 {
     let mut i = p;
@@ -200,7 +200,7 @@ fn octets(s: &[u8], p: usize, pool: &mut [u8], j: usize, base64: bool) -> Found
 // The octets of the string at p in hexadecimal, from j on.
 pub fn hex_octets(s: &[u8], p: usize, pool: &mut [u8], j: usize) -> Found
     requires { (length s.now ≤ 65536) × (j ≤ 4294967296) }
-    ensures value { result ≡ foundOf (unhex (denoted s.now p)) }
+    ensures value { result ≡ found_of (unhex (denoted s.now p)) }
     ensures stored { Stored pool.new pool.old j (unhex (denoted s.now p)) }
 {
     octets(s, p, pool, j, false)
@@ -209,7 +209,7 @@ pub fn hex_octets(s: &[u8], p: usize, pool: &mut [u8], j: usize) -> Found
 // The octets of the string at p in Base64, from j on.
 pub fn base64_octets(s: &[u8], p: usize, pool: &mut [u8], j: usize) -> Found
     requires { (length s.now ≤ 65536) × (j ≤ 4294967296) }
-    ensures value { result ≡ foundOf (unbase64 (denoted s.now p)) }
+    ensures value { result ≡ found_of (unbase64 (denoted s.now p)) }
     ensures stored { Stored pool.new pool.old j (unbase64 (denoted s.now p)) }
 {
     octets(s, p, pool, j, true)

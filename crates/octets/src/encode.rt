@@ -1,7 +1,7 @@
 // Octets as the characters of a string, stored into a lent text from k on, as far as there is room.
 ghost use Rattle.std.specs.Prelude.{◌≡◌, ◌+◌, ◌<◌, ◌≤◌, [], ◌∷◌, length};
 ghost use Rattle.std.proofs.lemmas.List.Edits.{sets};
-ghost use Rattle.jer.specs.Octets.{hexDigit, hex, base64Digit, base64};
+ghost use Rattle.jer.specs.Octets.{hex_digit, hex, base64_digit, base64};
 ghost use Rattle.jer.specs.Calls.{amount};
 
 use slices::put_all;
@@ -9,7 +9,7 @@ use slices::put_all;
 // A hexadecimal digit in upper case.
 pub fn hex_digit(x: u8) -> u8
     requires { x < 16 }
-    ensures { result ≡ hexDigit x }
+    ensures { result ≡ hex_digit x }
 {
     if x < 10 { 0x30 + x } else { 0x37 + x }
 }
@@ -42,7 +42,7 @@ pub fn hex_len(octets: &[u8]) -> u64
 // A Base64 digit.
 fn base64_digit(x: u8) -> u8
     requires { x < 64 }
-    ensures { result ≡ base64Digit x }
+    ensures { result ≡ base64_digit x }
 {
     match x {
         0..=25 => x + 0x41,

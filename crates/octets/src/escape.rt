@@ -3,7 +3,7 @@ ghost use Rattle.std.specs.Prelude.{◌≡◌, ◌+◌, ◌≤◌, length};
 ghost use Rattle.std.proofs.lemmas.List.Edits.{sets};
 ghost use Rattle.jer.specs.Write.{escaped, escapes};
 ghost use Rattle.jer.specs.Calls.{amount};
-ghost use Rattle.octets.specs.Encode.{letterFor};
+ghost use Rattle.octets.specs.Encode.{letter_for};
 
 use crate::amount::add;
 use crate::encode::hex_digit;
@@ -11,7 +11,7 @@ use slices::{put, put_all};
 
 // The letter of a byte's short escape, 0 if it has none.
 fn letter_for(b: u8) -> u8
-    ensures { result ≡ letterFor b }
+    ensures { result ≡ letter_for b }
 {
     match b {
         0x22 => 0x22,

@@ -1,7 +1,7 @@
 // An INTEGER in decimal, stored into a lent text from k on, as far as there is room.
 ghost use Rattle.std.specs.Prelude.{◌≡◌, [], ◌+◌, ◌*◌, ◌≤◌, ◌^◌, length};
 ghost use Rattle.std.proofs.lemmas.List.Edits.{sets};
-ghost use Rattle.jer.specs.Write.{digits, intText};
+ghost use Rattle.jer.specs.Write.{digits, int_text};
 
 use slices::put;
 
@@ -48,8 +48,8 @@ fn joined(low: u32, high: u32) -> u64
 // Stores the INTEGER of two halves. Returns how many bytes that makes.
 pub fn put_integer(text: &mut [u8], k: usize, low: u32, high: u32) -> usize
     requires { k ≤ 4294967295 }
-    ensures value { result ≡ length (intText (high * 2 ^ 32 + low)) }
-    ensures text_after { text.new ≡ sets text.old k (intText (high * 2 ^ 32 + low)) }
+    ensures value { result ≡ length (int_text (high * 2 ^ 32 + low)) }
+    ensures text_after { text.new ≡ sets text.old k (int_text (high * 2 ^ 32 + low)) }
 {
     let n = joined(low, high);
     if n < 9223372036854775808 {
@@ -61,7 +61,7 @@ pub fn put_integer(text: &mut [u8], k: usize, low: u32, high: u32) -> usize
 
 // How many bytes it makes.
 pub fn integer_len(low: u32, high: u32) -> u64
-    ensures { result ≡ length (intText (high * 2 ^ 32 + low)) }
+    ensures { result ≡ length (int_text (high * 2 ^ 32 + low)) }
 {
     let n = joined(low, high);
     if n < 9223372036854775808 {

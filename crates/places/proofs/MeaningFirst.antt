@@ -6,110 +6,110 @@ use mathlib.Core.Bool.{Bool, true, false}
 use native.Mathlib.Omega.{arith}
 use borrow.Author.Tests.{ne_eqb}
 use lib.Dec.{eqb}
-use Rattle.json.specs.Bytes.{In, Row, on, pick}
-use Rattle.json.specs.Tree.{Json, jnull, jbool, jint, jreal, jstr, jarr, jobj}
-use Rattle.json.proofs.Feed.{in-true, pick-none}
-use Rattle.jer.specs.Table.{Token, tNull, tBoolean, tNumber, tString, tArray, tObject}
+use Rattle.json_text.specs.Bytes.{In, Row, on, pick}
+use Rattle.json_text.specs.Tree.{Json, jnull, jbool, jint, jreal, jstr, jarr, jobj}
+use Rattle.json_text.proofs.Feed.{in-true, pick-none}
+use Rattle.jer.specs.Table.{Token, t_null, t_boolean, t_number, t_string, t_array, t_object}
 use Rattle.jer.specs.Read.{null?}
 use Rattle.tokens.specs.Places.{byte_at}
-use Rattle.tokens.specs.Skip.{isOpening, pastWord, pastWith, pastValue}
-use Rattle.tokens.specs.Numbers.{isDigit}
-use Rattle.tokens.proofs.TieFirst.{FirstByte, of_null, ofTrue, ofFalse, ofMinus, ofDigit, ofRealMinus, ofRealDigit, ofString, ofArray, ofObject, differs}
-use Rattle.places.specs.ByPlaces.{tokenAt, isNullAt}
-use Rattle.places.proofs.MeaningStands.{Stands, stands-byte, stands-passed}
+use Rattle.tokens.specs.Skip.{is_opening, past_word, past_with, past_value}
+use Rattle.tokens.specs.Numbers.{is_digit}
+use Rattle.tokens.proofs.TieFirst.{FirstByte, of_null, of_true, of_false, of_minus, of_digit, of_real_minus, of_real_digit, of_string, of_array, of_object, differs}
+use Rattle.places.specs.ByPlaces.{token_at, is_null_at}
+use Rattle.places.proofs.MeaningStands.{Stands, stands_byte, stands-passed}
 
 -- ---- its token
 
-abbrev pub tokenFor : Json → Token
-tokenFor (jnull p) = tNull
-tokenFor (jbool p b) = tBoolean
-tokenFor (jint p m n) = tNumber
-tokenFor (jreal p) = tNumber
-tokenFor (jstr p s) = tString
-tokenFor (jarr p is) = tArray
-tokenFor (jobj p ms) = tObject
+abbrev pub token_for : Json → Token
+token_for (jnull p) = t_null
+token_for (jbool p b) = t_boolean
+token_for (jint p m n) = t_number
+token_for (jreal p) = t_number
+token_for (jstr p s) = t_string
+token_for (jarr p is) = t_array
+token_for (jobj p ms) = t_object
 
-abbrev tokenRows : List (Row Token)
-tokenRows =
-    on 0x22 0x22 (λ b. tString) ∷ on 0x5B 0x5B (λ b. tArray) ∷ on 0x66 0x66 (λ b. tBoolean) ∷ on 0x6E 0x6E (λ b. tNull) ∷ on 0x74 0x74 (λ b. tBoolean) ∷ on 0x7B 0x7B (λ b. tObject) ∷ []
+abbrev token_rows : List (Row Token)
+token_rows =
+    on 0x22 0x22 (λ b. t_string) ∷ on 0x5B 0x5B (λ b. t_array) ∷ on 0x66 0x66 (λ b. t_boolean) ∷ on 0x6E 0x6E (λ b. t_null) ∷ on 0x74 0x74 (λ b. t_boolean) ∷ on 0x7B 0x7B (λ b. t_object) ∷ []
 
-byte-token : {j : Json} {b : ℕ} → FirstByte j b → pick b tokenRows tNumber ≡ tokenFor j
+byte_token : {j : Json} {b : ℕ} → FirstByte j b → pick b token_rows t_number ≡ token_for j
 unfolding pick
-byte-token of_null = refl
-byte-token ofTrue = refl
-byte-token ofFalse = refl
-byte-token ofMinus = refl
-byte-token (ofDigit {b = b} h) = pick-none b tokenRows tNumber (omega arith)
-byte-token ofRealMinus = refl
-byte-token (ofRealDigit {b = b} h) = pick-none b tokenRows tNumber (omega arith)
-byte-token ofString = refl
-byte-token ofArray = refl
-byte-token ofObject = refl
+byte_token of_null = refl
+byte_token of_true = refl
+byte_token of_false = refl
+byte_token of_minus = refl
+byte_token (of_digit {b = b} h) = pick-none b token_rows t_number (omega arith)
+byte_token of_real_minus = refl
+byte_token (of_real_digit {b = b} h) = pick-none b token_rows t_number (omega arith)
+byte_token of_string = refl
+byte_token of_array = refl
+byte_token of_object = refl
 
-pub token-at : {d p q : ℕ} {j : Json} {s : List ℕ} → Stands d s j p q → tokenAt s p ≡ tokenFor j
-unfolding tokenAt
-token-at k = byte-token (stands-byte k)
+pub token-at : {d p q : ℕ} {j : Json} {s : List ℕ} → Stands d s j p q → token_at s p ≡ token_for j
+unfolding token_at
+token-at k = byte_token (stands_byte k)
 
 -- ---- null
 
 digit-not-null : {b : ℕ} → In 0x30 0x39 b → eqb b 0x6E ≡ false
 digit-not-null {b} h = ne_eqb b 0x6E (λ e. omega arith)
 
-null-byte : {j : Json} {b : ℕ} → FirstByte j b → eqb b 0x6E ≡ null? j
+null_byte : {j : Json} {b : ℕ} → FirstByte j b → eqb b 0x6E ≡ null? j
 unfolding null?
-null-byte of_null = refl
-null-byte ofTrue = refl
-null-byte ofFalse = refl
-null-byte ofMinus = refl
-null-byte (ofDigit h) = digit-not-null h
-null-byte ofRealMinus = refl
-null-byte (ofRealDigit h) = digit-not-null h
-null-byte ofString = refl
-null-byte ofArray = refl
-null-byte ofObject = refl
+null_byte of_null = refl
+null_byte of_true = refl
+null_byte of_false = refl
+null_byte of_minus = refl
+null_byte (of_digit h) = digit-not-null h
+null_byte of_real_minus = refl
+null_byte (of_real_digit h) = digit-not-null h
+null_byte of_string = refl
+null_byte of_array = refl
+null_byte of_object = refl
 
-pub null-at : {d p q : ℕ} {j : Json} {s : List ℕ} → Stands d s j p q → isNullAt s p ≡ null? j
-unfolding isNullAt
-null-at k = null-byte (stands-byte k)
+pub null-at : {d p q : ℕ} {j : Json} {s : List ℕ} → Stands d s j p q → is_null_at s p ≡ null? j
+unfolding is_null_at
+null-at k = null_byte (stands_byte k)
 
 -- ---- words: null, a boolean or a number
 
-abbrev pub isWord : Json → Bool
-isWord (jnull p) = true
-isWord (jbool p b) = true
-isWord (jint p m n) = true
-isWord (jreal p) = true
-isWord (jstr p s) = false
-isWord (jarr p is) = false
-isWord (jobj p ms) = false
+abbrev pub is_word : Json → Bool
+is_word (jnull p) = true
+is_word (jbool p b) = true
+is_word (jint p m n) = true
+is_word (jreal p) = true
+is_word (jstr p s) = false
+is_word (jarr p is) = false
+is_word (jobj p ms) = false
 
-digit-word : {b : ℕ} → In 0x30 0x39 b → (eqb b 0x22 ≡ false) × (isOpening b ≡ false)
+digit-word : {b : ℕ} → In 0x30 0x39 b → (eqb b 0x22 ≡ false) × (is_opening b ≡ false)
 digit-word {b} h = (other 0x22 refl, rw (other 0x5B refl, other 0x7B refl))
   where
-    other : (c : ℕ) → isDigit c ≡ false → eqb b c ≡ false
-    other c g = differs isDigit b c (in-true 0x30 0x39 b h) g
+    other : (c : ℕ) → is_digit c ≡ false → eqb b c ≡ false
+    other c g = differs is_digit b c (in-true 0x30 0x39 b h) g
 
-byte_word : {j : Json} {b : ℕ} → FirstByte j b → isWord j ≡ true → (eqb b 0x22 ≡ false) × (isOpening b ≡ false)
+byte_word : {j : Json} {b : ℕ} → FirstByte j b → is_word j ≡ true → (eqb b 0x22 ≡ false) × (is_opening b ≡ false)
 byte_word of_null w = (refl, refl)
-byte_word ofTrue w = (refl, refl)
-byte_word ofFalse w = (refl, refl)
-byte_word ofMinus w = (refl, refl)
-byte_word (ofDigit h) w = digit-word h
-byte_word ofRealMinus w = (refl, refl)
-byte_word (ofRealDigit h) w = digit-word h
-byte_word ofString w = (sym w, refl)
-byte_word ofArray w = (refl, sym w)
-byte_word ofObject w = (refl, sym w)
+byte_word of_true w = (refl, refl)
+byte_word of_false w = (refl, refl)
+byte_word of_minus w = (refl, refl)
+byte_word (of_digit h) w = digit-word h
+byte_word of_real_minus w = (refl, refl)
+byte_word (of_real_digit h) w = digit-word h
+byte_word of_string w = (sym w, refl)
+byte_word of_array w = (refl, sym w)
+byte_word of_object w = (refl, sym w)
 
-word-passed : (d : ℕ) (s : List ℕ) (p : ℕ) → (eqb (byte_at s p) 0x22 ≡ false) × (isOpening (byte_at s p) ≡ false) → pastValue d s p ≡ pastWord s p
-unfolding pastValue pastWith
-word-passed zero s p w = rw (w.0, pastWith, w.1)
-word-passed (suc d) s p w = rw (w.0, pastWith, w.1)
+word-passed : (d : ℕ) (s : List ℕ) (p : ℕ) → (eqb (byte_at s p) 0x22 ≡ false) × (is_opening (byte_at s p) ≡ false) → past_value d s p ≡ past_word s p
+unfolding past_value past_with
+word-passed zero s p w = rw (w.0, past_with, w.1)
+word-passed (suc d) s p w = rw (w.0, past_with, w.1)
 
-pub word_end : {d p q : ℕ} {j : Json} {s : List ℕ} → Stands d s j p q → isWord j ≡ true → pastWord s p ≡ q
-word_end {d} {p} {s = s} k w = sym (word-passed d s p (byte_word (stands-byte k) w)) ∙ stands-passed k
+pub word_end : {d p q : ℕ} {j : Json} {s : List ℕ} → Stands d s j p q → is_word j ≡ true → past_word s p ≡ q
+word_end {d} {p} {s = s} k w = sym (word-passed d s p (byte_word (stands_byte k) w)) ∙ stands-passed k
 
-null_word : (j : Json) → null? j ≡ true → isWord j ≡ true
+null_word : (j : Json) → null? j ≡ true → is_word j ≡ true
 unfolding null?
 null_word (jnull p) h = h
 null_word (jbool p b) h = refl
@@ -119,5 +119,5 @@ null_word (jstr p s) h = h
 null_word (jarr p is) h = h
 null_word (jobj p ms) h = h
 
-pub null-end : {d p q : ℕ} {j : Json} {s : List ℕ} → Stands d s j p q → null? j ≡ true → pastWord s p ≡ q
+pub null-end : {d p q : ℕ} {j : Json} {s : List ℕ} → Stands d s j p q → null? j ≡ true → past_word s p ≡ q
 null-end {j = j} k h = word_end k (null_word j h)

@@ -6,32 +6,32 @@ use mathlib.Core.Bool.{true}
 use mathlib.Core.Option.{none}
 use Rattle.jer.specs.declared.Reading.{Reading}
 use Rattle.jer.specs.declared.Reading.TheVariants as reading
-use Rattle.jer.specs.Valid.{firstBad}
+use Rattle.jer.specs.Valid.{first_bad}
 use Rattle.jer.specs.Value.{Val}
 use Rattle.jer.specs.Means.{Means}
 use Rattle.jer.specs.Cut.{ByAdditions, cut, lacks}
 use Rattle.jer.specs.Samples.{outcome}
-use Rattle.jer.specs.Contracts.{ReadCall}
-use Rattle.jer.proofs.CutTested.{among, Listed, same, keepsMember, keeps, allKeep, byAdditions, by-additions}
+use Rattle.jer.specs.CallClauses.{ReadCall}
+use Rattle.jer.proofs.CutTested.{among, Listed, same, keeps_member, keeps, all_keep, by_additions, by_additions_lem}
 use Rattle.promises.specs.Statements.{SameRoom, Stores, Older}
-use Rattle.promises.proofs.BookingTables.{spring, summer, rowsPaired}
+use Rattle.promises.proofs.BookingTables.{spring, summer, rows_paired}
 use Rattle.promises.proofs.Demand3.{older-reads-cut}
 
 -- both tables are good
-pub spring-good : firstBad spring ≡ none
+pub spring-good : first_bad spring ≡ none
 unfolding outcome spring
 spring-good = refl
 
-pub summer-good : firstBad summer ≡ none
+pub summer-good : first_bad summer ≡ none
 unfolding outcome summer
 summer-good = refl
 
-tested : byAdditions summer spring rowsPaired ≡ true
-unfolding outcome byAdditions allKeep keeps keepsMember among same spring summer rowsPaired
+tested : by_additions summer spring rows_paired ≡ true
+unfolding outcome by_additions all_keep keeps keeps_member among same spring summer rows_paired
 tested = refl
 
-pub summer-from-spring : ByAdditions summer spring (Listed rowsPaired)
-summer-from-spring = by-additions summer spring rowsPaired tested
+pub summer-from-spring : ByAdditions summer spring (Listed rows_paired)
+summer-from-spring = by_additions_lem summer spring rows_paired tested
 
 -- so whatever the summer table reads, the spring table reads cut down, or refuses by 11 exactly when the cut value holds what it lacks
 pub spring-reads-summer : {s rows pool rows₂ pool₂ a b c d : List ℕ} {n m : ℕ} {r : Reading} → SameRoom rows pool rows₂ pool₂ → ReadCall summer s rows pool (reading.Read n m) a b

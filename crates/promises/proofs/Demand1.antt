@@ -8,21 +8,21 @@ use Rattle.jer.specs.declared.Reading.{Reading}
 use Rattle.jer.specs.declared.Readings.{Readings}
 use Rattle.jer.specs.declared.Writing.{Writing}
 use Rattle.jer.specs.Table.{Table}
-use Rattle.jer.specs.Contracts.{TableCall, TextCall, ReadCall, WriteCall}
+use Rattle.jer.specs.CallClauses.{TableCall, TextCall, ReadCall, WriteCall}
 use Rattle.jer.specs.Each.{EachCall}
 
-pub table-determined : (t : Table) (r u : Judged) → TableCall t r → TableCall t u → r ≡ u
-table-determined t r u a b = a ∙ sym b
+pub table_determined : (t : Table) (r u : Judged) → TableCall t r → TableCall t u → r ≡ u
+table_determined t r u a b = a ∙ sym b
 
-pub text-determined : (s : List ℕ) (r u : Judged) → TextCall s r → TextCall s u → r ≡ u
-text-determined s r u a b = a ∙ sym b
+pub text_determined : (s : List ℕ) (r u : Judged) → TextCall s r → TextCall s u → r ≡ u
+text_determined s r u a b = a ∙ sym b
 
-pub read-determined : {t : Table} {s rows pool : List ℕ} {r u : Reading} {a b c d : List ℕ} → ReadCall t s rows pool r a b → ReadCall t s rows pool u c d → (r ≡ u) × (a ≡ c) × (b ≡ d)
-read-determined x y = (x.answer ∙ sym y.answer, x.rowsLeft ∙ sym y.rowsLeft, x.poolLeft ∙ sym y.poolLeft)
+pub read_determined : {t : Table} {s rows pool : List ℕ} {r u : Reading} {a b c d : List ℕ} → ReadCall t s rows pool r a b → ReadCall t s rows pool u c d → (r ≡ u) × (a ≡ c) × (b ≡ d)
+read_determined x y = (x.answer ∙ sym y.answer, x.rows_left ∙ sym y.rows_left, x.pool_left ∙ sym y.pool_left)
 
-pub each-determined : {t : Table} {texts ends rows pool tells : List ℕ} {r u : Readings} {a b c d e f : List ℕ} → EachCall t texts ends rows pool tells r a b c → EachCall t texts ends rows pool tells u d e f
+pub each_determined : {t : Table} {texts ends rows pool tells : List ℕ} {r u : Readings} {a b c d e f : List ℕ} → EachCall t texts ends rows pool tells r a b c → EachCall t texts ends rows pool tells u d e f
     → (r ≡ u) × (a ≡ d) × (b ≡ e) × (c ≡ f)
-each-determined x y = (x.answer ∙ sym y.answer, x.rowsLeft ∙ sym y.rowsLeft, x.poolLeft ∙ sym y.poolLeft, x.tellsLeft ∙ sym y.tellsLeft)
+each_determined x y = (x.answer ∙ sym y.answer, x.rows_left ∙ sym y.rows_left, x.pool_left ∙ sym y.pool_left, x.tells_left ∙ sym y.tells_left)
 
-pub write-determined : {t : Table} {ns pool text : List ℕ} {r u : Writing} {a c : List ℕ} → WriteCall t ns pool text r a → WriteCall t ns pool text u c → (r ≡ u) × (a ≡ c)
-write-determined x y = (x.answer ∙ sym y.answer, x.textLeft ∙ sym y.textLeft)
+pub write_determined : {t : Table} {ns pool text : List ℕ} {r u : Writing} {a c : List ℕ} → WriteCall t ns pool text r a → WriteCall t ns pool text u c → (r ≡ u) × (a ≡ c)
+write_determined x y = (x.answer ∙ sym y.answer, x.text_left ∙ sym y.text_left)

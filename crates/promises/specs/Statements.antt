@@ -6,10 +6,10 @@ use Rattle.jer.specs.declared.Reading.TheVariants as reading
 use Rattle.jer.specs.Table.{Table}
 use Rattle.jer.specs.Value.{Val}
 use Rattle.jer.specs.Answer.{Res, number_of}
-use Rattle.jer.specs.Rows.{rows_of, poolOf}
+use Rattle.jer.specs.Rows.{rows_of, pool_of}
 use Rattle.jer.specs.Means.{Reads}
 use Rattle.jer.specs.Cut.{cut}
-use Rattle.jer.specs.Calls.{over, rowNumbers, readAnswer, rowsAfter, poolAfter}
+use Rattle.jer.specs.Calls.{over, row_numbers, read_answer, rows_after, pool_after}
 
 -- one exactly when the other
 abbrev pub Exactly : Type 0 → Type 0 → Type 0
@@ -27,19 +27,19 @@ pub record SameTable (n m : ℕ) (rows pool : List ℕ) (n₂ m₂ : ℕ) (rows�
 
 -- a call stores the value v: r and both buffers afterwards
 pub record Stores (t : Table) (v : Val) (rows pool : List ℕ) (r : Reading) (rows' pool' : List ℕ) : Type 0 where
-  pub answer : r ≡ reading.Read (length (rows_of v t 0 0)) (length (poolOf v))
-  pub rowsLeft : rows' ≡ over (rowNumbers t v) rows
-  pub poolLeft : pool' ≡ over (poolOf v) pool
+  pub answer : r ≡ reading.Read (length (rows_of v t 0 0)) (length (pool_of v))
+  pub rows_left : rows' ≡ over (row_numbers t v) rows
+  pub pool_left : pool' ≡ over (pool_of v) pool
 
 -- what the older table answers where the newer one read v: the value cut down is stored; or 11, with nothing touched, if it still lacks something
 pub data Older (old : Table) (rows pool : List ℕ) (v : Val) (r : Reading) (rows' pool' : List ℕ) : Bool → Type 0 where
-  cutDown : Stores old (cut v old 0) rows pool r rows' pool' → Older old rows pool v r rows' pool' false
+  cut_down : Stores old (cut v old 0) rows pool r rows' pool' → Older old rows pool v r rows' pool' false
   lacking : {e : Refusal} → number_of e ≡ 11 → r ≡ reading.Refused e → rows' ≡ rows → pool' ≡ pool → Older old rows pool v r rows' pool' true
 
 -- a reading by the grammar: what the text says at the table, answered and stored
 pub record ReadsBy (t : Table) (s rows pool : List ℕ) (r : Reading) (rows' pool' : List ℕ) : Type 0 where
   pub says : Res Val
   pub reads : Reads t s says
-  pub answer : r ≡ readAnswer t (length rows) (length pool) says
-  pub rowsLeft : rows' ≡ rowsAfter t rows (length pool) says
-  pub poolLeft : pool' ≡ poolAfter t (length rows) pool says
+  pub answer : r ≡ read_answer t (length rows) (length pool) says
+  pub rows_left : rows' ≡ rows_after t rows (length pool) says
+  pub pool_left : pool' ≡ pool_after t (length rows) pool says

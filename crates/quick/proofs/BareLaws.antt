@@ -7,26 +7,26 @@ use mathlib.Core.Option.{Option, none, some}
 use native.Mathlib.Nat.{mod-eq_of_lt}
 use native.Mathlib.Omega.{arith}
 use lib.ListN.{length, take, drop}
-use Rattle.json.specs.Tree.{Json, jnull, jbool, jint, jstr}
-use Rattle.json.specs.Grammar as grammar
-use Rattle.json.specs.Grammar.{Value, Quoted}
-use Rattle.jer.specs.Table.{Table, kind_of, isBase64, countOf, BOOLEAN, INTEGER, ENUMERATED, NULL, OCTET-STRING, UTF8String}
-use Rattle.jer.specs.Value.{Leaf, lBool, l_int, lEnum, lNull, lBytes, Val, vLeaf, vInt}
+use Rattle.json_text.specs.Tree.{Json, jnull, jbool, jint, jstr}
+use Rattle.json_text.specs.Grammar as grammar
+use Rattle.json_text.specs.Grammar.{Value, Quoted}
+use Rattle.jer.specs.Table.{Table, kind_of, is_base64, count_of, BOOLEAN, INTEGER, ENUMERATED, NULL, OCTET-STRING, UTF8String}
+use Rattle.jer.specs.Value.{Leaf, l_bool, l_int, l_enum, l_null, l_bytes, Val, v_leaf, v_int}
 use Rattle.jer.specs.Answer.{Res, ok}
-use Rattle.jer.specs.Read.{read, octetsOf}
+use Rattle.jer.specs.Read.{read, octets_of}
 use Rattle.tokens.specs.Strings.{denoted}
 use Rattle.octets.specs.declared.decode.Found.TheVariants.{Octets}
-use Rattle.octets.specs.Decode.{foundOf, Stored}
-use Rattle.jer.specs.Rows.{bit, leafPool}
+use Rattle.octets.specs.Decode.{found_of, Stored}
+use Rattle.jer.specs.Rows.{bit, leaf_pool}
 use Rattle.spelled.specs.Stretch.{Stretch, Passed}
 use Rattle.spelled.specs.Leaves.{IntegerAt, StringAt}
 use Rattle.spelled.specs.Names.{PositionIs}
 use Rattle.spelled.specs.Octets.{OctetsAre}
 use Rattle.jer.specs.Octets.{unhex, unbase64}
-use Rattle.spelled.proofs.ReadLaws.{read-null, read-bool, read_int, read-item, read-utf8, read-hex, read-base64}
+use Rattle.spelled.proofs.ReadLaws.{read-null, read_bool, read_int_lem, read-item, read-utf8, read-hex, read-base64}
 use Rattle.quick.specs.declared.bare.Words as declared-leaf
 use Rattle.quick.specs.Stood.{Stood}
-use Rattle.quick.specs.Tape.{Text, Words, in_row, inText, inHex, inBase64, inEscaped}
+use Rattle.quick.specs.Tape.{Text, Words, in_row, in_text, in_hex, in_base64, in_escaped}
 use Rattle.quick.specs.Taken.{LeafTaken}
 use Rattle.quick.proofs.NameLaws.{string-denoted}
 
@@ -36,7 +36,7 @@ Answers next a b pool g = (g.next ≡ next) × (g.a ≡ a) × (g.b ≡ b) × (g.
 
 -- ---- the kinds that the row holds
 
-in-row : (t : Table) (s : List ℕ) (r p : ℕ) (l : Leaf) (g : declared-leaf.Words) (n a b : ℕ) → Answers n a b 0 g → ((d : ℕ) → Stood t s d r p n (vLeaf l)) → Words s t r l a b → leafPool l ≡ [] → p < n → n ≤ length s → LeafTaken t s r p g
+in-row : (t : Table) (s : List ℕ) (r p : ℕ) (l : Leaf) (g : declared-leaf.Words) (n a b : ℕ) → Answers n a b 0 g → ((d : ℕ) → Stood t s d r p n (v_leaf l)) → Words s t r l a b → leaf_pool l ≡ [] → p < n → n ≤ length s → LeafTaken t s r p g
 in-row t s r p l g n a b w k x o h i =
     record {
       leaf = l;
@@ -54,19 +54,19 @@ passed-stood t s r p n j v e f d = record { tree = j; here = (f d).stretch; read
 pub null-leaf : {t : Table} {s : List ℕ} {r p n : ℕ} {g : declared-leaf.Words} → kind_of t r ≡ NULL → (0 < n → (d : ℕ) → Passed (Value d p (jnull p)) s p n) → Answers n 0 0 0 g → 0 < g.next → LeafTaken t s r p g
 null-leaf {t} {s} {r} {p} {n} {g} e f w h =
     let k = f (omega (arith, w.0)) in
-    in-row t s r p lNull g n 0 0 w (passed-stood t s r p n (jnull p) (vLeaf lNull) (read-null t r p e) k) (in_row (omega arith) refl (λ o. refl)) refl (k 0).ahead (k 0).inside
+    in-row t s r p l_null g n 0 0 w (passed-stood t s r p n (jnull p) (v_leaf l_null) (read-null t r p e) k) (in_row (omega arith) refl (λ o. refl)) refl (k 0).ahead (k 0).inside
 
-pub bool-leaf : {t : Table} {s : List ℕ} {r p n a : ℕ} {g : declared-leaf.Words} (b : Bool) → bit b ≡ a → kind_of t r ≡ BOOLEAN → (0 < n → (d : ℕ) → Passed (Value d p (jbool p b)) s p n) → Answers n a 0 0 g → 0 < g.next → LeafTaken t s r p g
-bool-leaf {t} {s} {r} {p} {n} {a} {g} b i e f w h =
+pub bool_leaf : {t : Table} {s : List ℕ} {r p n a : ℕ} {g : declared-leaf.Words} (b : Bool) → bit b ≡ a → kind_of t r ≡ BOOLEAN → (0 < n → (d : ℕ) → Passed (Value d p (jbool p b)) s p n) → Answers n a 0 0 g → 0 < g.next → LeafTaken t s r p g
+bool_leaf {t} {s} {r} {p} {n} {a} {g} b i e f w h =
     let k = f (omega (arith, w.0)) in
-    in-row t s r p (lBool b) g n a 0 w (passed-stood t s r p n (jbool p b) (vLeaf (lBool b)) (read-bool t r p b e) k) (in_row {l = lBool b} {a = a} {b = 0} (omega arith) refl (λ o. rw i)) refl (k 0).ahead (k 0).inside
+    in-row t s r p (l_bool b) g n a 0 w (passed-stood t s r p n (jbool p b) (v_leaf (l_bool b)) (read_bool t r p b e) k) (in_row {l = l_bool b} {a = a} {b = 0} (omega arith) refl (λ o. rw i)) refl (k 0).ahead (k 0).inside
 
-pub integer-leaf : {t : Table} {s : List ℕ} {r p n a b : ℕ} {g : declared-leaf.Words} → kind_of t r ≡ INTEGER → (0 < n → IntegerAt s p n a b) → Answers n a b 0 g → 0 < g.next → LeafTaken t s r p g
-integer-leaf {t} {s} {r} {p} {n} {a} {b} {g} e f w h =
+pub integer_leaf : {t : Table} {s : List ℕ} {r p n a b : ℕ} {g : declared-leaf.Words} → kind_of t r ≡ INTEGER → (0 < n → IntegerAt s p n a b) → Answers n a b 0 g → 0 < g.next → LeafTaken t s r p g
+integer_leaf {t} {s} {r} {p} {n} {a} {b} {g} e f w h =
     let k = f (omega (arith, w.0)) in
     let y = k.passed.stretch in
     in-row t s r p (l_int k.number) g n a b w
-    (λ d. record { tree = jint p k.minus k.magnitude; here = record { bytes = y.bytes; holds = grammar.whole y.holds; text = y.text; end = y.end }; reads = read_int t r p k.magnitude k.number k.minus e k.reads })
+    (λ d. record { tree = jint p k.minus k.magnitude; here = record { bytes = y.bytes; holds = grammar.whole y.holds; text = y.text; end = y.end }; reads = read_int_lem t r p k.magnitude k.number k.minus e k.reads })
     (in_row {l = l_int k.number} {a = a} {b = b} (omega arith) refl (λ o. rw (k.lower, k.upper))) refl k.passed.ahead k.passed.inside
 
 -- ---- strings
@@ -75,9 +75,9 @@ text-leaf : (t : Table) (s : List ℕ) (r p n a b c : ℕ) (e' : Bool) (g : decl
 text-leaf t s r p n a b c e' g e k ea eb pl w =
     let y = k.passed.stretch in
     record {
-      leaf = lBytes k.chars;
+      leaf = l_bytes k.chars;
       stood = λ d. rw w.0 (record { tree = jstr p k.chars; here = record { bytes = y.bytes; holds = grammar.string y.holds; text = y.text; end = y.end }; reads = read-utf8 t r p k.chars e });
-      words = rw (w.1, w.2, ea) (inText e (record { end = n; quoted = y; size = eb ∙ k.size; plain = λ h. let q = pl h in (k.plain q.0).0 ∙ ap (λ (m : ℕ). take m (drop (p + 1) s)) (sym q.1) }));
+      words = rw (w.1, w.2, ea) (in_text e (record { end = n; quoted = y; size = eb ∙ k.size; plain = λ h. let q = pl h in (k.plain q.0).0 ∙ ap (λ (m : ℕ). take m (drop (p + 1) s)) (sym q.1) }));
       pool = w.3 ∙ k.size;
       ahead = omega (arith, w.0, k.passed.ahead);
       placed = omega (arith, w.0, k.passed.inside);
@@ -92,12 +92,12 @@ escaped-leaf {t} {s} {r} {p} {n} {a} {b} {c} {e'} {g} e k ea eb l w = text-leaf 
 
 -- ---- octets
 
-octets-leaf : (t : Table) (s : List ℕ) (r p n c : ℕ) (e' : Bool) (os : List ℕ) (g : declared-leaf.Words) (a b m : ℕ) (w : StringAt s p n c e') → read (jstr p w.chars) t r ≡ ok (vLeaf (lBytes os)) → Words s t r (lBytes os) a b → m ≡ length os → m ≤ c
+octets-leaf : (t : Table) (s : List ℕ) (r p n c : ℕ) (e' : Bool) (os : List ℕ) (g : declared-leaf.Words) (a b m : ℕ) (w : StringAt s p n c e') → read (jstr p w.chars) t r ≡ ok (v_leaf (l_bytes os)) → Words s t r (l_bytes os) a b → m ≡ length os → m ≤ c
     → Answers n a b m g → LeafTaken t s r p g
 octets-leaf t s r p n c e' os g a b m w e x f l q =
     let y = w.passed.stretch in
     record {
-      leaf = lBytes os;
+      leaf = l_bytes os;
       stood = λ d. rw q.0 (record { tree = jstr p w.chars; here = record { bytes = y.bytes; holds = grammar.string y.holds; text = y.text; end = y.end }; reads = e });
       words = rw (q.1, q.2) x;
       pool = q.3 ∙ f;
@@ -106,13 +106,13 @@ octets-leaf t s r p n c e' os g a b m w e x f l q =
       few = omega (arith, q.0, q.3, w.few);
     }
 
-module _ {t : Table} {s : List ℕ} {r p n c m : ℕ} {e' : Bool} {g : declared-leaf.Words} (kd : kind_of t r ≡ OCTET-STRING) (w : StringAt s p n c e') (pl : e' ≡ false) {x : Bool} (bx : x ≡ isBase64 t r) where
+module _ {t : Table} {s : List ℕ} {r p n c m : ℕ} {e' : Bool} {g : declared-leaf.Words} (kd : kind_of t r ≡ OCTET-STRING) (w : StringAt s p n c e') (pl : e' ≡ false) {x : Bool} (bx : x ≡ is_base64 t r) where
   pub hex-leaf : x ≡ false → (m < 4294967295 → OctetsAre unhex (take c (drop (p + 1) s)) m) → c ≡ m * 2 → c ≤ 65536 → Answers n p m m g → LeafTaken t s r p g
   hex-leaf xf f e l q =
       let k = f (omega arith) in
       let y = w.plain pl in
       octets-leaf t s r p n c e' k.octets g p m m w (read-hex t r p w.chars k.octets kd (sym bx ∙ xf) (ap unhex y.0 ∙ k.decoded))
-      (inHex kd (sym bx ∙ xf) (ap (λ (z : ℕ). unhex (take z (drop (p + 1) s))) (sym e) ∙ k.decoded) k.size (omega (arith, y.1, w.passed.inside))) k.size (omega arith) q
+      (in_hex kd (sym bx ∙ xf) (ap (λ (z : ℕ). unhex (take z (drop (p + 1) s))) (sym e) ∙ k.decoded) k.size (omega (arith, y.1, w.passed.inside))) k.size (omega arith) q
 
   pub base64-leaf : {b : ℕ} → x ≡ true → (m < 4294967295 → OctetsAre unbase64 (take c (drop (p + 1) s)) m) → m ≤ c → c ≤ 32767 → b ≡ c * 65536 + m → Answers n p b m g → LeafTaken t s r p g
   base64-leaf {b} xt f l h eb q =
@@ -121,49 +121,49 @@ module _ {t : Table} {s : List ℕ} {r p n c m : ℕ} {e' : Bool} {g : declared-
       let d : b / 65536 ≡ c = omega arith in
       let d' : b % 65536 ≡ m = omega arith in
       octets-leaf t s r p n c e' k.octets g p b m w (read-base64 t r p w.chars k.octets kd (sym bx ∙ xt) (ap unbase64 y.0 ∙ k.decoded))
-      (inBase64 kd (sym bx ∙ xt) (ap (λ (z : ℕ). unbase64 (take z (drop (p + 1) s))) d ∙ k.decoded) (d' ∙ k.size) (omega (arith, y.1, w.passed.inside)) (omega arith)) k.size l q
+      (in_base64 kd (sym bx ∙ xt) (ap (λ (z : ℕ). unbase64 (take z (drop (p + 1) s))) d ∙ k.decoded) (d' ∙ k.size) (omega (arith, y.1, w.passed.inside)) (omega arith)) k.size l q
 
-pub stored-as : (after before : List ℕ) (o : ℕ) {x y : Option (List ℕ)} → x ≡ y → Stored after before o x → Stored after before o y
-stored-as after before o e k = rw (← e) k
+pub stored_as : (after before : List ℕ) (o : ℕ) {x y : Option (List ℕ)} → x ≡ y → Stored after before o x → Stored after before o y
+stored_as after before o e k = rw (← e) k
 
 record SomeOctets (x : Option (List ℕ)) (m : ℕ) : Type 0 where
   octets : List ℕ
   is : x ≡ some octets
   size : m ≡ length octets
 
-read-octets : (t : Table) (r p : ℕ) (x os : List ℕ) → kind_of t r ≡ OCTET-STRING → octetsOf t r x ≡ some os → read (jstr p x) t r ≡ ok (vLeaf (lBytes os))
-unfolding octetsOf
-read-octets t r p x os e h = go (isBase64 t r) refl h
+read-octets : (t : Table) (r p : ℕ) (x os : List ℕ) → kind_of t r ≡ OCTET-STRING → octets_of t r x ≡ some os → read (jstr p x) t r ≡ ok (v_leaf (l_bytes os))
+unfolding octets_of
+read-octets t r p x os e h = go (is_base64 t r) refl h
   where
-    go : (b : Bool) → isBase64 t r ≡ b → ◌≡◌ {A = Option (List ℕ)} (elim b [ true ↦ unbase64 x | false ↦ unhex x ]) (some os) → read (jstr p x) t r ≡ ok (vLeaf (lBytes os))
+    go : (b : Bool) → is_base64 t r ≡ b → ◌≡◌ {A = Option (List ℕ)} (elim b [ true ↦ unbase64 x | false ↦ unhex x ]) (some os) → read (jstr p x) t r ≡ ok (v_leaf (l_bytes os))
     go true w k = read-base64 t r p x os e w k
     go false w k = read-hex t r p x os e w k
 
-octets-some : (x : Option (List ℕ)) {m : ℕ} → Octets m ≡ foundOf x → SomeOctets x m
+octets-some : (x : Option (List ℕ)) {m : ℕ} → Octets m ≡ found_of x → SomeOctets x m
 octets-some none h = absurd (let z : ◌≡◌ {A = ℕ} 0 1 = cc in omega arith)
 octets-some (some os) h = record { octets = os; is = refl; size = cc }
 
-pub escaped-octets : {t : Table} {s : List ℕ} {r p n c m b : ℕ} {e' : Bool} {g : declared-leaf.Words} → kind_of t r ≡ OCTET-STRING → (w : StringAt s p n c e') → Octets m ≡ foundOf (octetsOf t r (denoted s (p + 1))) → m ≤ c → b ≡ m + 2147483648 → p ≤ 65536 → Answers n p b m g
+pub escaped-octets : {t : Table} {s : List ℕ} {r p n c m b : ℕ} {e' : Bool} {g : declared-leaf.Words} → kind_of t r ≡ OCTET-STRING → (w : StringAt s p n c e') → Octets m ≡ found_of (octets_of t r (denoted s (p + 1))) → m ≤ c → b ≡ m + 2147483648 → p ≤ 65536 → Answers n p b m g
     → LeafTaken t s r p g
 escaped-octets {t} {s} {r} {p} {n} {c} {m} {b} {e'} {g} kd w h l eb pl q =
     let k = octets-some _ h in
-    octets-leaf t s r p n c e' k.octets g p b m w (read-octets t r p w.chars k.octets kd (ap (λ (y : List ℕ). octetsOf t r y) (sym (string-denoted s p n c e' w)) ∙ k.is)) (inEscaped kd k.is (omega (arith, k.size)) pl) k.size l q
+    octets-leaf t s r p n c e' k.octets g p b m w (read-octets t r p w.chars k.octets kd (ap (λ (y : List ℕ). octets_of t r y) (sym (string-denoted s p n c e' w)) ∙ k.is)) (in_escaped kd k.is (omega (arith, k.size)) pl) k.size l q
 
 -- ---- an item
 
-pub item-leaf : {t : Table} {s : List ℕ} {r p n k c : ℕ} {e' : Bool} {g : declared-leaf.Words} → kind_of t r ≡ ENUMERATED → (w : StringAt s p n c e') → PositionIs t r w.chars k → k < countOf t r → Answers n k 0 0 g → LeafTaken t s r p g
+pub item-leaf : {t : Table} {s : List ℕ} {r p n k c : ℕ} {e' : Bool} {g : declared-leaf.Words} → kind_of t r ≡ ENUMERATED → (w : StringAt s p n c e') → PositionIs t r w.chars k → k < count_of t r → Answers n k 0 0 g → LeafTaken t s r p g
 item-leaf {t} {s} {r} {p} {n} {k} {c} {e'} {g} e w q l a =
     let y = w.passed.stretch in
-    in-row t s r p (lEnum k) g n k 0 a
+    in-row t s r p (l_enum k) g n k 0 a
     (λ d. record { tree = jstr p w.chars; here = record { bytes = y.bytes; holds = grammar.string y.holds; text = y.text; end = y.end }; reads = read-item t r p w.chars k e (q.known l) })
-    (in_row {l = lEnum k} {a = k} {b = 0} (omega arith) refl (λ o. refl)) refl w.passed.ahead w.passed.inside
+    (in_row {l = l_enum k} {a = k} {b = 0} (omega arith) refl (λ o. refl)) refl w.passed.ahead w.passed.inside
 
 -- ---- the two booleans
 
-pub bool-true : {t : Table} {s : List ℕ} {r p n : ℕ} {g : declared-leaf.Words} → kind_of t r ≡ BOOLEAN → (0 < n → (d : ℕ) → Passed (Value d p (jbool p true)) s p n) → Answers n 1 0 0 g → 0 < g.next → LeafTaken t s r p g
+pub bool_true : {t : Table} {s : List ℕ} {r p n : ℕ} {g : declared-leaf.Words} → kind_of t r ≡ BOOLEAN → (0 < n → (d : ℕ) → Passed (Value d p (jbool p true)) s p n) → Answers n 1 0 0 g → 0 < g.next → LeafTaken t s r p g
 unfolding bit
-bool-true e f w h = bool-leaf true refl e f w h
+bool_true e f w h = bool_leaf true refl e f w h
 
 pub bool_false : {t : Table} {s : List ℕ} {r p n : ℕ} {g : declared-leaf.Words} → kind_of t r ≡ BOOLEAN → (0 < n → (d : ℕ) → Passed (Value d p (jbool p false)) s p n) → Answers n 0 0 0 g → 0 < g.next → LeafTaken t s r p g
 unfolding bit
-bool_false e f w h = bool-leaf false refl e f w h
+bool_false e f w h = bool_leaf false refl e f w h

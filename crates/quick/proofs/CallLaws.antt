@@ -14,15 +14,15 @@ use Rattle.jer.specs.declared.Judged.TheVariants as judged
 use Rattle.jer.specs.declared.Reading.{Reading}
 use Rattle.jer.specs.declared.Reading.TheVariants as reading
 use Rattle.jer.specs.Table.{Table, table}
-use Rattle.jer.specs.Valid.{firstBad}
+use Rattle.jer.specs.Valid.{first_bad}
 use Rattle.jer.specs.Value.{Val}
 use Rattle.jer.specs.Answer.{Res, ok, bind}
-use Rattle.jer.specs.Calls.{table_of, goodTable, goodText, judgedBy, tableJudged, readText, over, rowNumbers, roomy, readAnswer, rowsAfter, poolAfter}
-use Rattle.jer.specs.Contracts.{ReadCall}
-use Rattle.jer.specs.Read.{readWhole}
-use Rattle.jer.specs.Rows.{numbers, rows_of, poolOf}
+use Rattle.jer.specs.Calls.{table_of, good_table, good_text, judged_by, table_judged, read_text, over, row_numbers, roomy, read_answer, rows_after, pool_after}
+use Rattle.jer.specs.CallClauses.{ReadCall}
+use Rattle.jer.specs.Read.{read_whole}
+use Rattle.jer.specs.Rows.{numbers, rows_of, pool_of}
 use Rattle.jer.specs.Sane.{Sane}
-use Rattle.jer.proofs.ValidSane.{valid-sane}
+use Rattle.jer.proofs.ValidSane.{valid_sane}
 use Rattle.leaf.proofs.StoreLaws.{numbers-length}
 use Rattle.quick.specs.declared.Got.{Got}
 use Rattle.quick.specs.Taken.{Whole}
@@ -30,19 +30,19 @@ use Rattle.quick.specs.Emit.{Room, Noted, Emits}
 
 -- ---- the table
 
-good-table : (t : Table) → judged.Good ≡ tableJudged t → firstBad t ≡ none
-unfolding tableJudged goodTable table_of judgedBy
-good-table t h = go (firstBad t) h
+good-table : (t : Table) → judged.Good ≡ table_judged t → first_bad t ≡ none
+unfolding table_judged good_table table_of judged_by
+good-table t h = go (first_bad t) h
   where
-    go : (x : Option ℕ) → judged.Good ≡ judgedBy (table_of t x) → x ≡ none
+    go : (x : Option ℕ) → judged.Good ≡ judged_by (table_of t x) → x ≡ none
     go none h = refl
     go (some r) h = absurd (let z : ◌≡◌ {A = ℕ} 0 1 = cc in omega arith)
 
-pub sane-table : (t : Table) → judged.Good ≡ tableJudged t → Sane t
-sane-table t h = valid-sane t (good-table t h)
+pub sane-table : (t : Table) → judged.Good ≡ table_judged t → Sane t
+sane-table t h = valid_sane t (good-table t h)
 
-table-ok : (t : Table) → judged.Good ≡ tableJudged t → goodTable t ≡ ok t
-unfolding goodTable table_of
+table-ok : (t : Table) → judged.Good ≡ table_judged t → good_table t ≡ ok t
+unfolding good_table table_of
 table-ok t h = rw (good-table t h)
 
 -- ---- answers and buffers
@@ -51,42 +51,42 @@ over-sets : (xs l : List ℕ) → length xs ≤ length l → sets l 0 xs ≡ ove
 unfolding over
 over-sets xs l h = sets-eq xs l 0 (omega arith) ∙ (let z : 0 + length xs ≡ length xs = omega arith in rw z)
 
-module _ {t : Table} {s z : List ℕ} {g : Got} (table-good : judged.Good ≡ tableJudged t) (w : Whole t s z g) (rows₀ pool₀ : List ℕ) where
-  text-means : readText t s ≡ ok w.value
-  unfolding readText bind
+module _ {t : Table} {s z : List ℕ} {g : Got} (table-good : judged.Good ≡ table_judged t) (w : Whole t s z g) (rows₀ pool₀ : List ℕ) where
+  text-means : read_text t s ≡ ok w.value
+  unfolding read_text bind
   text-means = rw (table-ok t table-good) w.reads
 
-  numbers-are : length (rowNumbers t w.value) ≡ g.rows * 4
-  unfolding rowNumbers
-  numbers-are = numbers-length (rows_of w.value t 0 0) ∙ omega (arith, w.rows)
+  numbers_are : length (row_numbers t w.value) ≡ g.rows * 4
+  unfolding row_numbers
+  numbers_are = numbers-length (rows_of w.value t 0 0) ∙ omega (arith, w.rows)
 
   short-of : roomy t w.value (length rows₀) (length pool₀) ≡ false → ReadCall t s rows₀ pool₀ (reading.Refused (Amounts LentRoom g.rows g.pool)) rows₀ pool₀
-  unfolding readAnswer rowsAfter poolAfter
-  short-of h = record { answer = rw (text-means, h, readAnswer) (rw (w.rows, w.pool)); rowsLeft = rw (text-means, h, rowsAfter); poolLeft = rw (text-means, h, poolAfter) }
+  unfolding read_answer rows_after pool_after
+  short-of h = record { answer = rw (text-means, h, read_answer) (rw (w.rows, w.pool)); rows_left = rw (text-means, h, rows_after); pool_left = rw (text-means, h, pool_after) }
 
   pub few-rows : {r : Reading} → r ≡ reading.Refused (Amounts LentRoom g.rows g.pool) → length rows₀ < g.rows * 4 → ReadCall t s rows₀ pool₀ r rows₀ pool₀
   unfolding roomy
-  few-rows e l = rw e (short-of (rw (lt-leb (length (rowNumbers t w.value)) (length rows₀) (omega (arith, numbers-are)), roomy)))
+  few-rows e l = rw e (short-of (rw (lt-leb (length (row_numbers t w.value)) (length rows₀) (omega (arith, numbers_are)), roomy)))
 
-  pub few_bytes : {r : Reading} → r ≡ reading.Refused (Amounts LentRoom g.rows g.pool) → g.rows * 4 ≤ length rows₀ → length pool₀ < g.pool → ReadCall t s rows₀ pool₀ r rows₀ pool₀
+  pub few_bytes_lem : {r : Reading} → r ≡ reading.Refused (Amounts LentRoom g.rows g.pool) → g.rows * 4 ≤ length rows₀ → length pool₀ < g.pool → ReadCall t s rows₀ pool₀ r rows₀ pool₀
   unfolding roomy
-  few_bytes e a l =
-      rw e (short-of (rw (le-leb (length (rowNumbers t w.value)) (length rows₀) (omega (arith, numbers-are)), lt-leb (length (poolOf w.value)) (length pool₀) (omega (arith, w.pool)), roomy)))
+  few_bytes_lem e a l =
+      rw e (short-of (rw (le-leb (length (row_numbers t w.value)) (length rows₀) (omega (arith, numbers_are)), lt-leb (length (pool_of w.value)) (length pool₀) (omega (arith, w.pool)), roomy)))
 
-  stored : {rows₁ pool₁ : List ℕ} → g.rows * 4 ≤ length rows₀ → g.pool ≤ length pool₀ → rows₁ ≡ sets rows₀ 0 (numbers (rows_of w.value t 0 0)) → pool₁ ≡ sets pool₀ 0 (poolOf w.value)
+  stored : {rows₁ pool₁ : List ℕ} → g.rows * 4 ≤ length rows₀ → g.pool ≤ length pool₀ → rows₁ ≡ sets rows₀ 0 (numbers (rows_of w.value t 0 0)) → pool₁ ≡ sets pool₀ 0 (pool_of w.value)
       → ReadCall t s rows₀ pool₀ (reading.Read g.rows g.pool) rows₁ pool₁
-  unfolding readAnswer rowsAfter poolAfter roomy rowNumbers
+  unfolding read_answer rows_after pool_after roomy row_numbers
   stored a b c d =
-      let h : roomy t w.value (length rows₀) (length pool₀) ≡ true = rw (le-leb (length (rowNumbers t w.value)) (length rows₀) (omega (arith, numbers-are)), le-leb (length (poolOf w.value)) (length pool₀) (omega (arith, w.pool)), roomy) in
+      let h : roomy t w.value (length rows₀) (length pool₀) ≡ true = rw (le-leb (length (row_numbers t w.value)) (length rows₀) (omega (arith, numbers_are)), le-leb (length (pool_of w.value)) (length pool₀) (omega (arith, w.pool)), roomy) in
       record {
-        answer = rw (text-means, h, readAnswer) (rw (w.rows, w.pool));
-        rowsLeft = rw (text-means, h, rowsAfter) (c ∙ over-sets (numbers (rows_of w.value t 0 0)) rows₀ (omega (arith, numbers-are)));
-        poolLeft = rw (text-means, h, poolAfter) (d ∙ over-sets (poolOf w.value) pool₀ (omega (arith, w.pool)));
+        answer = rw (text-means, h, read_answer) (rw (w.rows, w.pool));
+        rows_left = rw (text-means, h, rows_after) (c ∙ over-sets (numbers (rows_of w.value t 0 0)) rows₀ (omega (arith, numbers_are)));
+        pool_left = rw (text-means, h, pool_after) (d ∙ over-sets (pool_of w.value) pool₀ (omega (arith, w.pool)));
       }
 
-module _ {types names s z : List ℕ} {g : Got} (table-good : judged.Good ≡ tableJudged (table types names)) (w : Whole (table types names) s z g) (rows₀ pool₀ : List ℕ) where
-  pub whole-noted : length s ≤ 65536 → g.rows * 4 ≤ length rows₀ → g.pool ≤ length pool₀ → Noted types s z rows₀ pool₀ 0 0 0 0
-  whole-noted l a b =
+module _ {types names s z : List ℕ} {g : Got} (table-good : judged.Good ≡ table_judged (table types names)) (w : Whole (table types names) s z g) (rows₀ pool₀ : List ℕ) where
+  pub whole_noted : length s ≤ 65536 → g.rows * 4 ≤ length rows₀ → g.pool ≤ length pool₀ → Noted types s z rows₀ pool₀ 0 0 0 0
+  whole_noted l a b =
       record { names = names; value = w.value; end = g.tape; stands = w.stands; inside = w.inside; room = record { slots = omega (arith, w.rows); bytes = omega (arith, w.pool); small = omega (arith, w.pool, w.few) } }
 
   pub whole-stored : {rows₁ pool₁ : List ℕ} {next : ℕ} → g.rows * 4 ≤ length rows₀ → g.pool ≤ length pool₀ → Emits types s z 0 0 0 0 rows₀ rows₁ pool₀ pool₁ next → ReadCall (table types names) s rows₀ pool₀ (reading.Read g.rows g.pool) rows₁ pool₁

@@ -9,74 +9,74 @@ use native.Mathlib.Omega.{arith}
 use borrow.Author.Tests.{eqb-true}
 use lib.Dec.{eqb}
 use lib.ListN.{length, drop}
-use Rattle.json.specs.Bytes.{In, Row, on, pick, past}
-use Rattle.json.specs.Tree.{Json, jnull, jbool, jint, jreal, jstr, jarr, jobj, Members, mnil, mcons}
-use Rattle.json.specs.Grammar as grammar
-use Rattle.json.proofs.Feed.{pick-none}
-use Rattle.jer.specs.Table.{Table, kind_of, isUnwrapped, is_type, countOf, type_at, marked, position, alternative, CHOICE, UNWRAPPED, Token, tNull, tBoolean, tNumber, tString, tArray, tObject, tokenCode}
-use Rattle.jer.specs.Value.{Val, vChoice}
+use Rattle.json_text.specs.Bytes.{In, Row, on, pick, past}
+use Rattle.json_text.specs.Tree.{Json, jnull, jbool, jint, jreal, jstr, jarr, jobj, Members, mnil, mcons}
+use Rattle.json_text.specs.Grammar as grammar
+use Rattle.json_text.proofs.Feed.{pick-none}
+use Rattle.jer.specs.Table.{Table, kind_of, is_unwrapped, is_type, count_of, type_at, marked, position, alternative, CHOICE, UNWRAPPED, Token, t_null, t_boolean, t_number, t_string, t_array, t_object, token_code}
+use Rattle.jer.specs.Value.{Val, v_choice}
 use Rattle.jer.specs.Answer.{Res, ok, bind}
-use Rattle.jer.specs.Read.{Entry, null?, Meaning, read, entries, elements, readString, readArray, readBraces, readChoice, readChosen, readInt, atKind, picked, unwrapping}
-use Rattle.jer.specs.Rows.{rows_of, poolOf, above}
+use Rattle.jer.specs.Read.{Entry, null?, Meaning, read, entries, elements, read_string, read_array, read_braces, read_choice, read_chosen, read_int, at_kind, picked, unwrapping}
+use Rattle.jer.specs.Rows.{rows_of, pool_of, above}
 use Rattle.jer.specs.Sane.{Sane}
 use Rattle.tokens.specs.Places.{byte_at}
-use Rattle.tokens.proofs.TieFirst.{FirstByte, of_null, ofTrue, ofFalse, ofMinus, ofDigit, ofRealMinus, ofRealDigit, ofString, ofArray, ofObject, first_byte}
-use Rattle.places.specs.ByPlaces.{tokenAt}
+use Rattle.tokens.proofs.TieFirst.{FirstByte, of_null, of_true, of_false, of_minus, of_digit, of_real_minus, of_real_digit, of_string, of_array, of_object, first_byte}
+use Rattle.places.specs.ByPlaces.{token_at}
 use Rattle.places.proofs.MeaningNames.{alternative-found}
 use Rattle.types.specs.declared.token.Found.TheVariants.{At}
-use Rattle.types.specs.Rows.{foundOf}
+use Rattle.types.specs.Rows.{found_of}
 use Rattle.spelled.specs.Stretch.{Stretch}
 use Rattle.quick.specs.declared.Got.{Got}
 use Rattle.quick.specs.declared.name.Name as declared-name
 use Rattle.quick.specs.Stood.{Spaces, TreeAt, Stood}
-use Rattle.quick.specs.Tape.{Alike, headed, Stands, aChoice}
+use Rattle.quick.specs.Tape.{Alike, headed, Stands, a_choice}
 use Rattle.quick.specs.Taken.{Headed, Given, Taken, Walked, NameTaken, MemberAt}
-use Rattle.quick.proofs.ListLaws.{byte-drop}
-use Rattle.quick.proofs.TapeLaws.{alike-part, stands_alike}
+use Rattle.quick.proofs.ListLaws.{byte_drop}
+use Rattle.quick.proofs.TapeLaws.{alike_part, stands_alike}
 use Rattle.quick.proofs.WalkLaws.{mark-inside, headed-after, header, bracket-closed}
 use Rattle.quick.proofs.ObjectLaws.{Closes, Member, member-here, closes-last}
 use Rattle.quick.proofs.NameLaws.{found_some}
 
-choice-rows : (v : Val) (t : Table) (r i : ℕ) → length (rows_of (vChoice i v) t r 0) ≡ suc (length (rows_of v t (type_at t r i) 0))
+choice-rows : (v : Val) (t : Table) (r i : ℕ) → length (rows_of (v_choice i v) t r 0) ≡ suc (length (rows_of v t (type_at t r i) 0))
 unfolding rows_of above
 choice-rows v t r i = refl
 
-choice-pool : (v : Val) (i : ℕ) → length (poolOf (vChoice i v)) ≡ length (poolOf v)
-unfolding poolOf
+choice-pool : (v : Val) (i : ℕ) → length (pool_of (v_choice i v)) ≡ length (pool_of v)
+unfolding pool_of
 choice-pool v i = refl
 
 -- a choice closed, whose value stands after its header
 choice-closed : (t : Table) (s z y x : List ℕ) (d d' r p j i m at next : ℕ) (g h : Got) → kind_of t r ≡ CHOICE → m ≡ type_at t r i → Walked t s z y d m at (j + 3) g → (nz : g.next ≡ 0 → ⊥) → p ≤ at → g.next ≤ next → next ≤ length s
     → x ≡ headed y j i (g.rows + 1) g.tape → Headed g.rows g.pool g.tape next h
-    → ((v : Val) → Stood t s d (type_at t r i) at g.next v → Stood t s d' r p next (vChoice i v)) → Walked t s z x d' r p j h
+    → ((v : Val) → Stood t s d (type_at t r i) at g.next v → Stood t s d' r p next (v_choice i v)) → Walked t s z x d' r p j h
 choice-closed t s z y x d d' r p j i m at next g h k em w nz l l' b u hd f =
     let a : Taken t s y d (type_at t r i) at (j + 3) g = rw (← em) (w.taken (omega (arith, nz))) in
     let hh = header y j i g.rows g.tape (omega (arith, a.words, a.inside)) in
-    bracket-closed t s z y x d' r p j i g.rows g.pool g.tape next (vChoice i a.value) h (alike-part 0 j w.kept (omega arith) (omega arith)) (omega (arith, a.words, a.inside)) u hd
+    bracket-closed t s z y x d' r p j i g.rows g.pool g.tape next (v_choice i a.value) h (alike_part 0 j w.kept (omega arith) (omega arith)) (omega (arith, a.words, a.inside)) u hd
     (f a.value a.stood)
-    (aChoice k (rw (← a.rows) hh) (stands_alike (headed y j i (g.rows + 1) g.tape) a.stands (headed-after y j i (g.rows + 1) g.tape g.tape)))
+    (a_choice k (rw (← a.rows) hh) (stands_alike (headed y j i (g.rows + 1) g.tape) a.stands (headed-after y j i (g.rows + 1) g.tape g.tape)))
     (omega (arith, choice-rows a.value t r i, a.rows)) (omega (arith, choice-pool a.value i, a.pool)) (omega (arith, a.ahead)) b (omega (arith, a.words)) a.inside (omega (arith, a.few))
 
 -- ---- an object of one member
 
-read-choice : (t : Table) (r p o i : ℕ) (x : List ℕ) (j : Json) (v : Val) → isUnwrapped t r ≡ false → eqb (kind_of t r) CHOICE ≡ true → position t r x ≡ some i → read j t (type_at t r i) ≡ ok v
-    → read (jobj p (mcons o x j mnil)) t r ≡ ok (vChoice i v)
-unfolding read unwrapping readBraces readChoice readChosen bind
-read-choice t r p o i x j v u k q e = rw (u, unwrapping) (rw (k, readBraces) (rw (q, readChosen, e)))
+read-choice : (t : Table) (r p o i : ℕ) (x : List ℕ) (j : Json) (v : Val) → is_unwrapped t r ≡ false → eqb (kind_of t r) CHOICE ≡ true → position t r x ≡ some i → read j t (type_at t r i) ≡ ok v
+    → read (jobj p (mcons o x j mnil)) t r ≡ ok (v_choice i v)
+unfolding read unwrapping read_braces read_choice read_chosen bind
+read-choice t r p o i x j v u k q e = rw (u, unwrapping) (rw (k, read_braces) (rw (q, read_chosen, e)))
 
-choice-stood : (t : Table) (s : List ℕ) (d r p c i : ℕ) (o : ℕ) (x : List ℕ) (j : Json) (v : Val) → isUnwrapped t r ≡ false → kind_of t r ≡ CHOICE → byte_at s p ≡ 0x7B → Closes t s d r (p + 1) (suc c) (mcons o x j mnil)
-    → position t r x ≡ some i → read j t (type_at t r i) ≡ ok v → Stood t s (d + 1) r p (c + 1) (vChoice i v)
+choice-stood : (t : Table) (s : List ℕ) (d r p c i : ℕ) (o : ℕ) (x : List ℕ) (j : Json) (v : Val) → is_unwrapped t r ≡ false → kind_of t r ≡ CHOICE → byte_at s p ≡ 0x7B → Closes t s d r (p + 1) (suc c) (mcons o x j mnil)
+    → position t r x ≡ some i → read j t (type_at t r i) ≡ ok v → Stood t s (d + 1) r p (c + 1) (v_choice i v)
 unfolding past
 choice-stood t s d r p c i o x j v u k h m' q e =
     let m : Closes t s d r (suc p) (suc c) (mcons o x j mnil) = rw (← add-one p) m' in
     rw (add-one d, add-one c) (record {
       tree = jobj p (mcons o x j mnil);
-      here = record { bytes = 0x7B ∷ m.bytes; holds = grammar.members m.value; text = byte-drop s p 0x7B h (omega arith) ∙ rw m.text; end = m.end };
+      here = record { bytes = 0x7B ∷ m.bytes; holds = grammar.members m.value; text = byte_drop s p 0x7B h (omega arith) ∙ rw m.text; end = m.end };
       reads = read-choice t r p o i x j v u (ap (λ (y : ℕ). eqb y CHOICE) k) q e;
     })
 
-pub choice-here : {t : Table} {s z y x : List ℕ} {d r p j o at c m b q : ℕ} {nm : declared-name.Name} {g h : Got} → kind_of t r ≡ CHOICE → isUnwrapped t r ≡ false → q ≡ byte_at s p → q ≡ 0x7B
-    → Spaces s (p + 1) o → p + 1 ≤ o → (nt : NameTaken t s r o nm) → nm.position < countOf t r → Spaces s nm.next at → nm.next ≤ at → m ≡ type_at t r nm.position → Walked t s z y d m at (j + 3) g → (g.next ≡ 0 → ⊥)
+pub choice-here : {t : Table} {s z y x : List ℕ} {d r p j o at c m b q : ℕ} {nm : declared-name.Name} {g h : Got} → kind_of t r ≡ CHOICE → is_unwrapped t r ≡ false → q ≡ byte_at s p → q ≡ 0x7B
+    → Spaces s (p + 1) o → p + 1 ≤ o → (nt : NameTaken t s r o nm) → nm.position < count_of t r → Spaces s nm.next at → nm.next ≤ at → m ≡ type_at t r nm.position → Walked t s z y d m at (j + 3) g → (g.next ≡ 0 → ⊥)
     → Spaces s g.next c → g.next ≤ c → b ≡ byte_at s c → b ≡ 0x7D → x ≡ headed y j nm.position (g.rows + 1) g.tape → Headed g.rows g.pool g.tape (c + 1) h → Walked t s z x (d + 1) r p j h
 choice-here {t} {s} {z} {y} {x} {d} {r} {p} {j} {o} {at} {c} {m} {b} {q} {nm} {g} {h} k u qp qe sp l nt known sp₂ l₂ em w nz sp₃ l₃ bc be e hd =
     choice-closed t s z y x d (d + 1) r p j nm.position m at (c + 1) g h k em w nz (omega (arith, nt.ahead)) (omega arith) (omega (arith, mark-inside s c b 0x7D bc be (omega arith))) e hd
@@ -89,70 +89,70 @@ choice-here {t} {s} {z} {y} {x} {d} {r} {p} {j} {o} {at} {c} {m} {b} {q} {nm} {g
 -- ---- UNWRAPPED
 
 -- the token of a tree
-abbrev tokenFor : Json → Token
-tokenFor (jnull p) = tNull
-tokenFor (jbool p b) = tBoolean
-tokenFor (jint p m n) = tNumber
-tokenFor (jreal p) = tNumber
-tokenFor (jstr p s) = tString
-tokenFor (jarr p is) = tArray
-tokenFor (jobj p ms) = tObject
+abbrev token_for : Json → Token
+token_for (jnull p) = t_null
+token_for (jbool p b) = t_boolean
+token_for (jint p m n) = t_number
+token_for (jreal p) = t_number
+token_for (jstr p s) = t_string
+token_for (jarr p is) = t_array
+token_for (jobj p ms) = t_object
 
-abbrev tokenRows : List (Row Token)
-tokenRows =
-    on 0x22 0x22 (λ b. tString) ∷ on 0x5B 0x5B (λ b. tArray) ∷ on 0x66 0x66 (λ b. tBoolean) ∷ on 0x6E 0x6E (λ b. tNull) ∷ on 0x74 0x74 (λ b. tBoolean) ∷ on 0x7B 0x7B (λ b. tObject) ∷ []
+abbrev token_rows : List (Row Token)
+token_rows =
+    on 0x22 0x22 (λ b. t_string) ∷ on 0x5B 0x5B (λ b. t_array) ∷ on 0x66 0x66 (λ b. t_boolean) ∷ on 0x6E 0x6E (λ b. t_null) ∷ on 0x74 0x74 (λ b. t_boolean) ∷ on 0x7B 0x7B (λ b. t_object) ∷ []
 
-byte-token : {j : Json} {b : ℕ} → FirstByte j b → pick b tokenRows tNumber ≡ tokenFor j
+byte_token : {j : Json} {b : ℕ} → FirstByte j b → pick b token_rows t_number ≡ token_for j
 unfolding pick
-byte-token of_null = refl
-byte-token ofTrue = refl
-byte-token ofFalse = refl
-byte-token ofMinus = refl
-byte-token (ofDigit {b = b} h) = pick-none b tokenRows tNumber (omega arith)
-byte-token ofRealMinus = refl
-byte-token (ofRealDigit {b = b} h) = pick-none b tokenRows tNumber (omega arith)
-byte-token ofString = refl
-byte-token ofArray = refl
-byte-token ofObject = refl
+byte_token of_null = refl
+byte_token of_true = refl
+byte_token of_false = refl
+byte_token of_minus = refl
+byte_token (of_digit {b = b} h) = pick-none b token_rows t_number (omega arith)
+byte_token of_real_minus = refl
+byte_token (of_real_digit {b = b} h) = pick-none b token_rows t_number (omega arith)
+byte_token of_string = refl
+byte_token of_array = refl
+byte_token of_object = refl
 
-token-at : (s : List ℕ) (d p q : ℕ) (j : Json) → TreeAt s d p q j → tokenAt s p ≡ tokenFor j
-unfolding tokenAt
-token-at s d p q j k = byte-token (first_byte s (drop q s) k.holds k.text)
+token-at : (s : List ℕ) (d p q : ℕ) (j : Json) → TreeAt s d p q j → token_at s p ≡ token_for j
+unfolding token_at
+token-at s d p q j k = byte_token (first_byte s (drop q s) k.holds k.text)
 
-unwrapped-read : (t : Table) (k : Token) (p r i : ℕ) (plain : Meaning) (v : Val) → isUnwrapped t r ≡ true → alternative t r k ≡ some i → isUnwrapped t (type_at t r i) ≡ false → unwrapping t k p plain (type_at t r i) ≡ ok v
-    → unwrapping t k p plain r ≡ ok (vChoice i v)
+unwrapped-read : (t : Table) (k : Token) (p r i : ℕ) (plain : Meaning) (v : Val) → is_unwrapped t r ≡ true → alternative t r k ≡ some i → is_unwrapped t (type_at t r i) ≡ false → unwrapping t k p plain (type_at t r i) ≡ ok v
+    → unwrapping t k p plain r ≡ ok (v_choice i v)
 unfolding unwrapping picked bind
 unwrapped-read t k p r i plain v u a n e =
     let f : plain (type_at t r i) ≡ ok v = rw (n, unwrapping) at e in
     rw (u, unwrapping) (rw (a, picked, f))
 
 -- a tree is read at the alternative that its token picks
-picked-read : (j : Json) (t : Table) (r i : ℕ) (v : Val) → isUnwrapped t r ≡ true → alternative t r (tokenFor j) ≡ some i → isUnwrapped t (type_at t r i) ≡ false → read j t (type_at t r i) ≡ ok v → read j t r ≡ ok (vChoice i v)
+picked-read : (j : Json) (t : Table) (r i : ℕ) (v : Val) → is_unwrapped t r ≡ true → alternative t r (token_for j) ≡ some i → is_unwrapped t (type_at t r i) ≡ false → read j t (type_at t r i) ≡ ok v → read j t r ≡ ok (v_choice i v)
 unfolding read
-picked-read (jnull p) t r i v u a n e = unwrapped-read t tNull p r i _ v u a n e
-picked-read (jbool p b) t r i v u a n e = unwrapped-read t tBoolean p r i _ v u a n e
-picked-read (jint p m k) t r i v u a n e = unwrapped-read t tNumber p r i _ v u a n e
-picked-read (jreal p) t r i v u a n e = unwrapped-read t tNumber p r i _ v u a n e
-picked-read (jstr p s) t r i v u a n e = unwrapped-read t tString p r i _ v u a n e
-picked-read (jarr p is) t r i v u a n e = unwrapped-read t tArray p r i _ v u a n e
-picked-read (jobj p ms) t r i v u a n e = unwrapped-read t tObject p r i _ v u a n e
+picked-read (jnull p) t r i v u a n e = unwrapped-read t t_null p r i _ v u a n e
+picked-read (jbool p b) t r i v u a n e = unwrapped-read t t_boolean p r i _ v u a n e
+picked-read (jint p m k) t r i v u a n e = unwrapped-read t t_number p r i _ v u a n e
+picked-read (jreal p) t r i v u a n e = unwrapped-read t t_number p r i _ v u a n e
+picked-read (jstr p s) t r i v u a n e = unwrapped-read t t_string p r i _ v u a n e
+picked-read (jarr p is) t r i v u a n e = unwrapped-read t t_array p r i _ v u a n e
+picked-read (jobj p ms) t r i v u a n e = unwrapped-read t t_object p r i _ v u a n e
 
-unwrapped-kind : (t : Table) (r : ℕ) → isUnwrapped t r ≡ true → kind_of t r ≡ CHOICE
-unfolding isUnwrapped
+unwrapped-kind : (t : Table) (r : ℕ) → is_unwrapped t r ≡ true → kind_of t r ≡ CHOICE
+unfolding is_unwrapped
 unwrapped-kind t r h = go (eqb (kind_of t r) CHOICE) refl h
   where
     go : (b : Bool) → eqb (kind_of t r) CHOICE ≡ b → (b && marked t r UNWRAPPED) ≡ true → kind_of t r ≡ CHOICE
     go true e w = eqb-true (kind_of t r) CHOICE e
     go false e w = absurd (let z : ◌≡◌ {A = ℕ} 0 1 = cc in omega arith)
 
-module _ (t : Table) (s : List ℕ) (r p k : ℕ) (sane : Sane t) (u : isUnwrapped t r ≡ true) (f : At k ≡ foundOf (alternative t r (tokenAt s p))) where
-  pub picked-is : alternative t r (tokenAt s p) ≡ some k
+module _ (t : Table) (s : List ℕ) (r p k : ℕ) (sane : Sane t) (u : is_unwrapped t r ≡ true) (f : At k ≡ found_of (alternative t r (token_at s p))) where
+  pub picked-is : alternative t r (token_at s p) ≡ some k
   picked-is = found_some _ f
 
-  pub picked-inside : k < countOf t r
-  picked-inside = alternative-found t r (tokenAt s p) k picked-is
+  pub picked-inside : k < count_of t r
+  picked-inside = alternative-found t r (token_at s p) k picked-is
 
-  pub picked-plain : isUnwrapped t (type_at t r k) ≡ false
+  pub picked-plain : is_unwrapped t (type_at t r k) ≡ false
   picked-plain = sane.plain r k u picked-inside
 
   pub picked-given : {z fl : List ℕ} {j m : ℕ} → Given t s z fl r p j → m ≡ type_at t r k → j + 3 ≤ length z → Given t s z fl m p (j + 3)

@@ -11,13 +11,13 @@ use lib.Bits.{bit_or, or_step, or_shr, or_zero_r}
 use lib.Count.{ones, ones_step}
 use lib.Dec.{eqb}
 use lib.ListN.{length, drop}
-use Rattle.json.specs.Bytes.{In, past}
-use Rattle.json.specs.Tree.{Json, jnull}
-use Rattle.jer.specs.Table.{Table, countOf, optional, type_at, mayMiss, nullTaken}
-use Rattle.jer.specs.Read.{null?, nullAbsent}
+use Rattle.json_text.specs.Bytes.{In, past}
+use Rattle.json_text.specs.Tree.{Json, jnull}
+use Rattle.jer.specs.Table.{Table, count_of, optional, type_at, may_miss, null_taken}
+use Rattle.jer.specs.Read.{null?, null_absent}
 use Rattle.tokens.specs.Places.{byte_at}
-use Rattle.tokens.proofs.TieFirst.{FirstByte, of_null, ofTrue, ofFalse, ofMinus, ofDigit, ofRealMinus, ofRealDigit, ofString, ofArray, ofObject, first_byte}
-use Rattle.places.specs.ByPlaces.{bit_of, withBit}
+use Rattle.tokens.proofs.TieFirst.{FirstByte, of_null, of_true, of_false, of_minus, of_digit, of_real_minus, of_real_digit, of_string, of_array, of_object, first_byte}
+use Rattle.places.specs.ByPlaces.{bit_of, with_bit}
 use Rattle.spelled.specs.Stretch.{Stretch}
 use Rattle.quick.specs.Stood.{TreeAt}
 
@@ -26,42 +26,42 @@ use Rattle.quick.specs.Stood.{TreeAt}
 digit-not-null : {b : ℕ} → In 0x30 0x39 b → eqb b 0x6E ≡ false
 digit-not-null {b} h = ne_eqb b 0x6E (λ e. omega arith)
 
-null-byte : {j : Json} {b : ℕ} → FirstByte j b → eqb b 0x6E ≡ null? j
+null_byte : {j : Json} {b : ℕ} → FirstByte j b → eqb b 0x6E ≡ null? j
 unfolding null?
-null-byte of_null = refl
-null-byte ofTrue = refl
-null-byte ofFalse = refl
-null-byte ofMinus = refl
-null-byte (ofDigit h) = digit-not-null h
-null-byte ofRealMinus = refl
-null-byte (ofRealDigit h) = digit-not-null h
-null-byte ofString = refl
-null-byte ofArray = refl
-null-byte ofObject = refl
+null_byte of_null = refl
+null_byte of_true = refl
+null_byte of_false = refl
+null_byte of_minus = refl
+null_byte (of_digit h) = digit-not-null h
+null_byte of_real_minus = refl
+null_byte (of_real_digit h) = digit-not-null h
+null_byte of_string = refl
+null_byte of_array = refl
+null_byte of_object = refl
 
 -- the first byte tells whether a value is null
 pub null-at : (s : List ℕ) (d p q : ℕ) (j : Json) → TreeAt s d p q j → eqb (byte_at s p) 0x6E ≡ null? j
-null-at s d p q j k = null-byte (first_byte s (drop q s) k.holds k.text)
+null-at s d p q j k = null_byte (first_byte s (drop q s) k.holds k.text)
 
 -- ---- the ones of the members met
 
-or-half : (a b : ℕ) → bit_or a b / 2 ≡ bit_or (a / 2) (b / 2)
-or-half a b = rw (or_step a b) (omega arith)
+or_half : (a b : ℕ) → bit_or a b / 2 ≡ bit_or (a / 2) (b / 2)
+or_half a b = rw (or_step a b) (omega arith)
 
-or-odd : (a b : ℕ) → bit_or a b % 2 ≡ max (a % 2) (b % 2)
-or-odd a b = rw (or_step a b) (omega arith)
+or_odd : (a b : ℕ) → bit_or a b % 2 ≡ max (a % 2) (b % 2)
+or_odd a b = rw (or_step a b) (omega arith)
 
-pub ones-with : (k x : ℕ) → bit_of x k ≡ false → ones (withBit x k) ≡ ones x + 1
-ones-with zero x h =
+pub ones_with : (k x : ℕ) → bit_of x k ≡ false → ones (with_bit x k) ≡ ones x + 1
+ones_with zero x h =
     let f = eqb-false (x / 2 ^ 0 % 2) 1 h in
     let o : x % 2 ≡ 0 = omega (arith, f, div-one x) in
-    ones_step (bit_or x 1) ∙ rw (or-half x 1, or-odd x 1, or_zero_r (x / 2), o) (omega (arith, ones_step x))
-ones-with (suc k) x h =
+    ones_step (bit_or x 1) ∙ rw (or_half x 1, or_odd x 1, or_zero_r (x / 2), o) (omega (arith, ones_step x))
+ones_with (suc k) x h =
     let e : 2 ^ suc k / 2 ≡ 2 ^ k = omega (arith, pow-suc 2 k) in
     let o : 2 ^ suc k % 2 ≡ 0 = omega (arith, pow-suc 2 k) in
     let g : bit_of (x / 2) k ≡ false = ap (λ (n : ℕ). eqb (n % 2) 1) (div-div-eq-div-mul x 2 (2 ^ k) ∙ ap (λ (n : ℕ). x / n) (sym (pow-succ' 2 k))) ∙ h in
-    let i = ones-with k (x / 2) g in
-    ones_step (bit_or x (2 ^ suc k)) ∙ rw (or-half x (2 ^ suc k), or-odd x (2 ^ suc k), e, o, i) (omega (arith, ones_step x))
+    let i = ones_with k (x / 2) g in
+    ones_step (bit_or x (2 ^ suc k)) ∙ rw (or_half x (2 ^ suc k), or_odd x (2 ^ suc k), e, o, i) (omega (arith, ones_step x))
 
 -- ---- members that are missing
 
@@ -71,31 +71,31 @@ both_ways h e = let z : ◌≡◌ {A = ℕ} 0 1 = cc in omega arith
 pub never : false ≡ true → ⊥
 never h = let z : ◌≡◌ {A = ℕ} 0 1 = cc in omega arith
 
-pub missing-more : (t : Table) (r met k : ℕ) → ((i : ℕ) → i < k → bit_of met i ≡ false → mayMiss t r i ≡ true) → (bit_of met k ≡ false → mayMiss t r k ≡ true) → (i : ℕ) → i < k + 1 → bit_of met i ≡ false → mayMiss t r i ≡ true
+pub missing-more : (t : Table) (r met k : ℕ) → ((i : ℕ) → i < k → bit_of met i ≡ false → may_miss t r i ≡ true) → (bit_of met k ≡ false → may_miss t r k ≡ true) → (i : ℕ) → i < k + 1 → bit_of met i ≡ false → may_miss t r i ≡ true
 missing-more t r met k f g i l h = go (eqb i k) refl
   where
-    go : (b : Bool) → eqb i k ≡ b → mayMiss t r i ≡ true
-    go true e = let w = eqb-true i k e in ap (λ (x : ℕ). mayMiss t r x) w ∙ g (ap (λ (x : ℕ). bit_of met x) (sym w) ∙ h)
+    go : (b : Bool) → eqb i k ≡ b → may_miss t r i ≡ true
+    go true e = let w = eqb-true i k e in ap (λ (x : ℕ). may_miss t r x) w ∙ g (ap (λ (x : ℕ). bit_of met x) (sym w) ∙ h)
     go false e = f i (omega (arith, eqb-false i k e)) h
 
-pub null-no : (t : Table) (r i : ℕ) (b : Bool) → b ≡ optional t r i → not b ≡ true → false ≡ nullAbsent t r i
-unfolding nullAbsent
+pub null-no : (t : Table) (r i : ℕ) (b : Bool) → b ≡ optional t r i → not b ≡ true → false ≡ null_absent t r i
+unfolding null_absent
 null-no t r i true e h = absurd (never h)
 null-no t r i false e h = rw (← e)
 
-pub null-yes : (t : Table) (r i m : ℕ) (b c : Bool) → b ≡ optional t r i → not b ≡ false → m ≡ type_at t r i → c ≡ nullTaken t m → not c ≡ nullAbsent t r i
-unfolding nullAbsent
-null-yes t r i m true c e h f g = rw (← e, g, f)
-null-yes t r i m false c e h f g = absurd (never (sym h))
+pub null_yes : (t : Table) (r i m : ℕ) (b c : Bool) → b ≡ optional t r i → not b ≡ false → m ≡ type_at t r i → c ≡ null_taken t m → not c ≡ null_absent t r i
+unfolding null_absent
+null_yes t r i m true c e h f g = rw (← e, g, f)
+null_yes t r i m false c e h f g = absurd (never (sym h))
 
-pub absent-no : (t : Table) (s : List ℕ) (r i p b : ℕ) → b ≡ byte_at s p → (b ≡ 0x6E → ⊥) → false ≡ (eqb (byte_at s p) 0x6E && nullAbsent t r i)
+pub absent-no : (t : Table) (s : List ℕ) (r i p b : ℕ) → b ≡ byte_at s p → (b ≡ 0x6E → ⊥) → false ≡ (eqb (byte_at s p) 0x6E && null_absent t r i)
 absent-no t s r i p b e h = rw (← e, ne_eqb b 0x6E h)
 
-pub absent-yes : (t : Table) (s : List ℕ) (r i p b : ℕ) (c : Bool) → b ≡ byte_at s p → b ≡ 0x6E → c ≡ nullAbsent t r i → c ≡ (eqb (byte_at s p) 0x6E && nullAbsent t r i)
-absent-yes t s r i p b c e h f = rw (← e, eq-eqb b 0x6E h) f
+pub absent_yes : (t : Table) (s : List ℕ) (r i p b : ℕ) (c : Bool) → b ≡ byte_at s p → b ≡ 0x6E → c ≡ null_absent t r i → c ≡ (eqb (byte_at s p) 0x6E && null_absent t r i)
+absent_yes t s r i p b c e h f = rw (← e, eq-eqb b 0x6E h) f
 
-pub missing-no : (t : Table) (s : List ℕ) (r i p b : ℕ) → b ≡ byte_at s p → (b ≡ 0x6E → ⊥) → false ≡ (eqb (byte_at s p) 0x6E && mayMiss t r i)
+pub missing-no : (t : Table) (s : List ℕ) (r i p b : ℕ) → b ≡ byte_at s p → (b ≡ 0x6E → ⊥) → false ≡ (eqb (byte_at s p) 0x6E && may_miss t r i)
 missing-no t s r i p b e h = rw (← e, ne_eqb b 0x6E h)
 
-pub missing-yes : (t : Table) (s : List ℕ) (r i p b : ℕ) (c : Bool) → b ≡ byte_at s p → b ≡ 0x6E → c ≡ mayMiss t r i → c ≡ (eqb (byte_at s p) 0x6E && mayMiss t r i)
-missing-yes t s r i p b c e h f = rw (← e, eq-eqb b 0x6E h) f
+pub missing_yes : (t : Table) (s : List ℕ) (r i p b : ℕ) (c : Bool) → b ≡ byte_at s p → b ≡ 0x6E → c ≡ may_miss t r i → c ≡ (eqb (byte_at s p) 0x6E && may_miss t r i)
+missing_yes t s r i p b c e h f = rw (← e, eq-eqb b 0x6E h) f

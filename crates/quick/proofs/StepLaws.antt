@@ -6,13 +6,13 @@ use mathlib.Core.Bool.{Bool, true, false, ◌&&◌}
 use native.Mathlib.Omega.{arith}
 use lib.Dec.{eqb}
 use lib.ListN.{length, get_or, set, length-set}
-use Rattle.json.specs.Tree.{Json, jnull}
-use Rattle.json.specs.Grammar.{Value}
-use Rattle.jer.specs.Table.{Table, is_type, countOf, type_at, extensible, mayMiss}
-use Rattle.jer.specs.Read.{nullAbsent, null?}
+use Rattle.json_text.specs.Tree.{Json, jnull}
+use Rattle.json_text.specs.Grammar.{Value}
+use Rattle.jer.specs.Table.{Table, is_type, count_of, type_at, extensible, may_miss}
+use Rattle.jer.specs.Read.{null_absent, null?}
 use Rattle.jer.specs.Sane.{Sane}
 use Rattle.tokens.specs.Places.{byte_at}
-use Rattle.places.specs.ByPlaces.{bit_of, withBit}
+use Rattle.places.specs.ByPlaces.{bit_of, with_bit}
 use Rattle.quick.specs.declared.Got.{Got}
 use Rattle.quick.specs.declared.name.Name as declared-name
 use Rattle.quick.specs.declared.step.Step as declared-step
@@ -21,7 +21,7 @@ use Rattle.quick.specs.Stood.{Spaces, TreeAt}
 use Rattle.quick.specs.Tape.{Alike, Stands}
 use Rattle.quick.specs.Taken as taken
 use Rattle.quick.specs.Taken.{Given, Taken, Walked, NameTaken, MemberAt, Met, valued, nulled, passed, Stepped, Came}
-use Rattle.quick.proofs.TapeLaws.{alike-part}
+use Rattle.quick.proofs.TapeLaws.{alike_part}
 use Rattle.quick.proofs.WalkLaws.{alike_then, alike_set}
 use Rattle.quick.proofs.MemberLaws.{null-at}
 
@@ -34,23 +34,23 @@ unfolding null?
 no-null p = refl
 
 -- what a value of the member at k is given
-pub member-given : {t : Table} {s z f : List ℕ} {r p j at k m : ℕ} → Given t s z f r p j → k < countOf t r → m ≡ type_at t r k → at ≤ length s → Given t s z f m at j
+pub member-given : {t : Table} {s z f : List ℕ} {r p j at k m : ℕ} → Given t s z f r p j → k < count_of t r → m ≡ type_at t r k → at ≤ length s → Given t s z f m at j
 member-given {r = r} {k = k} g l e a =
     record { sane = g.sane; typed = rw e (g.sane.member r k g.typed l); short = g.short; room = g.room; here = omega (arith, g.short); start = g.start; flags = g.flags }
 
-pub member-here-given : {t : Table} {s z f : List ℕ} {r p j k m : ℕ} → Given t s z f r p j → k < countOf t r → m ≡ type_at t r k → Given t s z f m p j
+pub member-here-given : {t : Table} {s z f : List ℕ} {r p j k m : ℕ} → Given t s z f r p j → k < count_of t r → m ≡ type_at t r k → Given t s z f m p j
 member-here-given {r = r} {k = k} g l e =
     record { sane = g.sane; typed = rw e (g.sane.member r k g.typed l); short = g.short; room = g.room; here = g.here; start = g.start; flags = g.flags }
 
 member-at : {t : Table} {s : List ℕ} {r p at : ℕ} {nm : declared-name.Name} (nt : NameTaken t s r p nm) → Spaces s nm.next at → (d q : ℕ) (tree : Json) → TreeAt s d at q tree → MemberAt s d p q nt.name tree
 member-at {at = at} {nm = nm} nt sp d q tree k = record { colon = nm.next; named = nt.stood; from = at; gap = sp; value = k }
 
-absent-is : (t : Table) (s : List ℕ) (d r at k q : ℕ) (tree : Json) {b : Bool} → b ≡ (eqb (byte_at s at) 0x6E && nullAbsent t r k) → TreeAt s d at q tree → (null? tree && nullAbsent t r k) ≡ b
-absent-is t s d r at k q tree ab w = ap (λ (x : Bool). x && nullAbsent t r k) (sym (null-at s d at q tree w)) ∙ sym ab
+absent-is : (t : Table) (s : List ℕ) (d r at k q : ℕ) (tree : Json) {b : Bool} → b ≡ (eqb (byte_at s at) 0x6E && null_absent t r k) → TreeAt s d at q tree → (null? tree && null_absent t r k) ≡ b
+absent-is t s d r at k q tree ab w = ap (λ (x : Bool). x && null_absent t r k) (sym (null-at s d at q tree w)) ∙ sym ab
 
-module _ {t : Table} {s z : List ℕ} {d r p top end met has at k : ℕ} {nm : declared-name.Name} (nt : NameTaken t s r p nm) (e : k ≡ nm.position) (l : k < countOf t r) (un : bit_of met k ≡ false)
-    (sp : Spaces s nm.next at × (nm.next ≤ at) × (nm.next ≤ length s → at ≤ length s)) {b : Bool} (ab : b ≡ (eqb (byte_at s at) 0x6E && nullAbsent t r k)) {g : declared-step.Step} where
-  pub step-null : b ≡ true → (n : ℕ) → (0 < n → (d : ℕ) → Passed (Value d at (jnull at)) s at n) → {mt : ℕ} → mt ≡ withBit met k → Gave n end 0 0 mt has g → end ≤ length z → 0 < g.next
+module _ {t : Table} {s z : List ℕ} {d r p top end met has at k : ℕ} {nm : declared-name.Name} (nt : NameTaken t s r p nm) (e : k ≡ nm.position) (l : k < count_of t r) (un : bit_of met k ≡ false)
+    (sp : Spaces s nm.next at × (nm.next ≤ at) × (nm.next ≤ length s → at ≤ length s)) {b : Bool} (ab : b ≡ (eqb (byte_at s at) 0x6E && null_absent t r k)) {g : declared-step.Step} where
+  pub step-null : b ≡ true → (n : ℕ) → (0 < n → (d : ℕ) → Passed (Value d at (jnull at)) s at n) → {mt : ℕ} → mt ≡ with_bit met k → Gave n end 0 0 mt has g → end ≤ length z → 0 < g.next
       → Stepped t s z z d r p top end met has g
   step-null h n f em w i o =
       let x = f (omega (arith, w.0)) in
@@ -64,7 +64,7 @@ module _ {t : Table} {s z : List ℕ} {d r p top end met has at k : ℕ} {nm : d
         few = omega (arith, w.0, w.3, sp.1, nt.ahead, (x d).ahead);
       }
 
-  pub step_value : b ≡ false → (m c : ℕ) (v : Got) (y : List ℕ) → m ≡ type_at t r k → c ≡ k → Walked t s z y d m at end v → (v.next ≡ 0 → ⊥) → {mt hs : ℕ} → mt ≡ withBit met k → hs ≡ withBit has k → Gave v.next v.tape v.rows v.pool mt hs g
+  pub step_value : b ≡ false → (m c : ℕ) (v : Got) (y : List ℕ) → m ≡ type_at t r k → c ≡ k → Walked t s z y d m at end v → (v.next ≡ 0 → ⊥) → {mt hs : ℕ} → mt ≡ with_bit met k → hs ≡ with_bit has k → Gave v.next v.tape v.rows v.pool mt hs g
       → Stepped t s z (set y (top + 3 + c) end) d r p top end met has g
   step_value h m c v y em ec w' nz e₁ e₂ w =
       let x : Taken t s y d (type_at t r k) at end v = rw (← em) (w'.taken (omega (arith, nz))) in
@@ -83,7 +83,7 @@ tree-to : {s : List ℕ} {d at n q : ℕ} (j : Json) → q ≡ n → TreeAt s d 
 tree-to j e k = rw e k
 
 -- an unknown one
-pub step-passed : {t : Table} {s z : List ℕ} {d r p top end met has at : ℕ} {nm : declared-name.Name} (nt : NameTaken t s r p nm) → countOf t r ≤ nm.position
+pub step-passed : {t : Table} {s z : List ℕ} {d r p top end met has at : ℕ} {nm : declared-name.Name} (nt : NameTaken t s r p nm) → count_of t r ≤ nm.position
     → Spaces s nm.next at × (nm.next ≤ at) × (nm.next ≤ length s → at ≤ length s) → {b : Bool} → b ≡ extensible t r → b ≡ true → {g : declared-step.Step} (n : ℕ) → (0 < n → ValueAt d s at n)
     → Gave n end 0 0 met has g → end ≤ length z → 0 < g.next → Stepped t s z z d r p top end met has g
 step-passed {t} {s} {z} {d} {r} {p} {at = at} nt l sp e h {g} n f w i o =
@@ -100,7 +100,7 @@ step-passed {t} {s} {z} {d} {r} {p} {at = at} nt l sp e h {g} n f w i o =
 
 -- the tape before the links is kept
 pub link-kept : {t : Table} {s z y : List ℕ} {d m at end : ℕ} {v : Got} (b i : ℕ) → Walked t s z y d m at end v → b ≤ end → Alike z (set y (b + i) end) 0 b
-link-kept {z = z} {y = y} {end = end} b i w l = alike_then z y _ 0 b (alike-part 0 b w.kept (omega arith) l) (alike_set y (b + i) end 0 b (λ n h u e. omega arith))
+link-kept {z = z} {y = y} {end = end} b i w l = alike_then z y _ 0 b (alike_part 0 b w.kept (omega arith) l) (alike_set y (b + i) end 0 b (λ n h u e. omega arith))
 
 -- ---- numbers of the table, as the code has them
 
@@ -110,16 +110,16 @@ known_at l e = omega arith
 pub links-at : (b w c n : ℕ) → w ≡ c → c ≡ n → b + w ≡ b + n
 links-at b w c n e f = omega arith
 
-pub cleared-below : (z : List ℕ) (b c n : ℕ) → ((i : ℕ) → i < c → get_or z (b + i) 0 ≡ 0) → c ≡ n → (i : ℕ) → i < n → get_or z (b + i) 0 ≡ 0
-cleared-below z b c n f e i l = f i (omega arith)
+pub cleared_below : (z : List ℕ) (b c n : ℕ) → ((i : ℕ) → i < c → get_or z (b + i) 0 ≡ 0) → c ≡ n → (i : ℕ) → i < n → get_or z (b + i) 0 ≡ 0
+cleared_below z b c n f e i l = f i (omega arith)
 
 -- ---- an element of an ARRAY
 
-missing-is : (t : Table) (s : List ℕ) (d r at k q : ℕ) (tree : Json) {b : Bool} → b ≡ (eqb (byte_at s at) 0x6E && mayMiss t r k) → TreeAt s d at q tree → (null? tree && mayMiss t r k) ≡ b
-missing-is t s d r at k q tree ab w = ap (λ (x : Bool). x && mayMiss t r k) (sym (null-at s d at q tree w)) ∙ sym ab
+missing-is : (t : Table) (s : List ℕ) (d r at k q : ℕ) (tree : Json) {b : Bool} → b ≡ (eqb (byte_at s at) 0x6E && may_miss t r k) → TreeAt s d at q tree → (null? tree && may_miss t r k) ≡ b
+missing-is t s d r at k q tree ab w = ap (λ (x : Bool). x && may_miss t r k) (sym (null-at s d at q tree w)) ∙ sym ab
 
 module _ {t : Table} {s z : List ℕ} {d r p top end met has k : ℕ} {g : declared-step.Step} where
-  pub element-surplus : countOf t r ≤ k → {b : Bool} → b ≡ extensible t r → b ≡ true → (n : ℕ) → (0 < n → ValueAt d s p n) → Gave n end 0 0 met has g → end ≤ length z → 0 < g.next → Came t s z z d r p top end k met has g
+  pub element-surplus : count_of t r ≤ k → {b : Bool} → b ≡ extensible t r → b ≡ true → (n : ℕ) → (0 < n → ValueAt d s p n) → Gave n end 0 0 met has g → end ≤ length z → 0 < g.next → Came t s z z d r p top end k met has g
   element-surplus l e h n f w i o =
       let x = f (omega (arith, w.0)) in
       record {
@@ -131,8 +131,8 @@ module _ {t : Table} {s z : List ℕ} {d r p top end met has k : ℕ} {g : decla
         few = omega (arith, w.0, w.3, x.passed.ahead);
       }
 
-  module _ (l : k < countOf t r) {b : Bool} (ab : b ≡ (eqb (byte_at s p) 0x6E && mayMiss t r k)) where
-    pub element-null : b ≡ true → (n : ℕ) → (0 < n → (d : ℕ) → Passed (Value d p (jnull p)) s p n) → {mt : ℕ} → mt ≡ withBit met k → Gave n end 0 0 mt has g → end ≤ length z → 0 < g.next → Came t s z z d r p top end k met has g
+  module _ (l : k < count_of t r) {b : Bool} (ab : b ≡ (eqb (byte_at s p) 0x6E && may_miss t r k)) where
+    pub element-null : b ≡ true → (n : ℕ) → (0 < n → (d : ℕ) → Passed (Value d p (jnull p)) s p n) → {mt : ℕ} → mt ≡ with_bit met k → Gave n end 0 0 mt has g → end ≤ length z → 0 < g.next → Came t s z z d r p top end k met has g
     element-null h n f em w i o =
         let x = f (omega (arith, w.0)) in
         let y = tree-to (jnull p) w.0 (x d).stretch in
@@ -145,7 +145,7 @@ module _ {t : Table} {s z : List ℕ} {d r p top end met has k : ℕ} {g : decla
           few = omega (arith, w.0, w.3, (x d).ahead);
         }
 
-    pub element-value : b ≡ false → (m c : ℕ) (v : Got) (y : List ℕ) → m ≡ type_at t r k → c ≡ k → Walked t s z y d m p end v → (v.next ≡ 0 → ⊥) → {mt hs : ℕ} → mt ≡ withBit met k → hs ≡ withBit has k
+    pub element-value : b ≡ false → (m c : ℕ) (v : Got) (y : List ℕ) → m ≡ type_at t r k → c ≡ k → Walked t s z y d m p end v → (v.next ≡ 0 → ⊥) → {mt hs : ℕ} → mt ≡ with_bit met k → hs ≡ with_bit has k
         → Gave v.next v.tape v.rows v.pool mt hs g → Came t s z (set y (top + 3 + c) end) d r p top end k met has g
     element-value h m c v y em ec w' nz e₁ e₂ w =
         let x : Taken t s y d (type_at t r k) p end v = rw (← em) (w'.taken (omega (arith, nz))) in

@@ -26,8 +26,8 @@ length-take-le zero l = omega arith
 length-take-le (suc n) [] = omega arith
 length-take-le (suc n) (x ∷ l) = omega (arith, length-take-le n l)
 
-pub part-short : (s : List ℕ) (from n : ℕ) (x : List ℕ) → x ≡ take n (drop from s) → length x ≤ n
-part-short s from n x e = omega (arith, ap (length {A = ℕ}) e, length-take-le n (drop from s))
+pub part_short : (s : List ℕ) (from n : ℕ) (x : List ℕ) → x ≡ take n (drop from s) → length x ≤ n
+part_short s from n x e = omega (arith, ap (length {A = ℕ}) e, length-take-le n (drop from s))
 
 pub plain-stored : (pool : List ℕ) (o : ℕ) {pool' : List ℕ} {a b : ℕ} (s : List ℕ) (w n : ℕ) (x : List ℕ) → w ≡ a → n ≡ b → x ≡ take n (drop (w + 1) s) → pool' ≡ sets pool o x → b < 2147483648
     → (b < 2 ^ 31 → pool' ≡ sets pool o (take b (drop (a + 1) s))) × (2 ^ 31 ≤ b → pool' ≡ sets pool o (denoted s (a + 1)))

@@ -6,15 +6,15 @@ use native.Mathlib.Nat.{le_refl}
 use native.Mathlib.Omega.{arith}
 use borrow.Author.Tests.{le-leb}
 use lib.ListN.{length, drop, drop_of_length-le}
-use Rattle.json.specs.Tree.{Json}
-use Rattle.json.specs.Grammar.{Text, Padded}
-use Rattle.json.specs.Machine.{parse}
-use Rattle.json.proofs.Takes.{takes-text}
+use Rattle.json_text.specs.Tree.{Json}
+use Rattle.json_text.specs.Grammar.{Text, Padded}
+use Rattle.json_text.specs.Machine.{parse}
+use Rattle.json_text.proofs.Takes.{takes_text}
 use Rattle.jer.specs.Table.{Table, is_type}
 use Rattle.jer.specs.Value.{Val}
 use Rattle.jer.specs.Answer.{Res, ok, bind}
-use Rattle.jer.specs.Read.{read, readWhole}
-use Rattle.jer.specs.Calls.{goodText, tree_of}
+use Rattle.jer.specs.Read.{read, read_whole}
+use Rattle.jer.specs.Calls.{good_text, tree_of}
 use Rattle.jer.specs.Sane.{Sane}
 use Rattle.spelled.specs.Leaves.{IsFlags}
 use Rattle.quick.specs.declared.Got.{Got}
@@ -22,17 +22,17 @@ use Rattle.quick.specs.Stood.{Spaces, Stood}
 use Rattle.quick.specs.Taken.{Given, Taken, Walked, Whole}
 use Rattle.quick.proofs.ListLaws.{Item, item-padded}
 
-parsed : (s : List ℕ) (j : Json) → length s ≤ 65536 → Text 32 j s → goodText s ≡ ok j
-unfolding goodText tree_of parse
-parsed s j l x = rw (le-leb (length s) 65536 l, goodText, takes-text 32 j s x)
+parsed : (s : List ℕ) (j : Json) → length s ≤ 65536 → Text 32 j s → good_text s ≡ ok j
+unfolding good_text tree_of parse
+parsed s j l x = rw (le-leb (length s) 65536 l, good_text, takes_text 32 j s x)
 
 item-text : (t : Table) (s : List ℕ) (b : ℕ) (v : Val) → (k : Item t s 32 0 0 b v) → b ≡ length s → Text 32 k.tree s
 item-text t s b v k h =
     let e : s ≡ k.bytes = k.text ∙ rw (h, drop_of_length-le s (le_refl (length s))) (append-nil k.bytes) in
     rw (← e) at k.value
 
-text-read : (t : Table) (s : List ℕ) (p q b : ℕ) (v : Val) → length s ≤ 65536 → Spaces s 0 p → Stood t s 32 0 p q v → Spaces s q b → b ≡ length s → bind (goodText s) (λ j. readWhole t j) ≡ ok v
-unfolding bind readWhole
+text-read : (t : Table) (s : List ℕ) (p q b : ℕ) (v : Val) → length s ≤ 65536 → Spaces s 0 p → Stood t s 32 0 p q v → Spaces s q b → b ≡ length s → bind (good_text s) (λ j. read_whole t j) ≡ ok v
+unfolding bind read_whole
 text-read t s p q b v l x k y h =
     let i = item-padded t s 32 0 0 p q b v x k y in
     rw (parsed s i.tree l (item-text t s b v i h), bind) i.reads

@@ -10,9 +10,9 @@ use lib.Count.{ones}
 use lib.Dec.{eqb}
 use lib.ListN.{length, get_or, set, length-set}
 use lib.Seq.{get_or-set_same, get_or-set_other}
-use Rattle.jer.specs.Table.{Table, is_type, countOf, mayMiss}
-use Rattle.jer.specs.Value.{Leaf, Val, vLeaf}
-use Rattle.jer.specs.Rows.{leafPool, rows_of, poolOf}
+use Rattle.jer.specs.Table.{Table, is_type, count_of, may_miss}
+use Rattle.jer.specs.Value.{Leaf, Val, v_leaf}
+use Rattle.jer.specs.Rows.{leaf_pool, rows_of, pool_of}
 use Rattle.jer.specs.Sane.{Sane}
 use Rattle.tokens.specs.Places.{byte_at}
 use Rattle.tokens.proofs.PlaceLaws.{inside}
@@ -22,9 +22,9 @@ use Rattle.quick.specs.declared.bare.Words as declared-leaf
 use Rattle.spelled.specs.Stretch.{Stretch, Within}
 use Rattle.spelled.specs.Names.{Distinct}
 use Rattle.quick.specs.Stood.{Spaces, Stood}
-use Rattle.quick.specs.Tape.{headed, Alike, Words, Header, Stands, aLeaf}
+use Rattle.quick.specs.Tape.{headed, Alike, Words, Header, Stands, a_leaf}
 use Rattle.quick.specs.Taken.{Headed, Shut, Given, LeafTaken, Taken, Walked}
-use Rattle.quick.proofs.TapeLaws.{alike-part}
+use Rattle.quick.proofs.TapeLaws.{alike_part}
 
 pub alike_same : (z : List ℕ) (j k : ℕ) → Alike z z j k
 alike_same z j k = record { same = λ i h l. refl }
@@ -64,32 +64,32 @@ module _ (z : List ℕ) (j a b : ℕ) where
   pair-before = alike_then z (set z j a) _ 0 j (alike_set z j a 0 j (λ n l m e. omega arith)) (alike_set (set z j a) (j + 1) b 0 j (λ n l m e. omega arith))
 
   module _ (l : j + 2 ≤ length z) where
-    pair-0 : get_or (set (set z j a) (j + 1) b) j 0 ≡ a
-    pair-0 = get_or-set_other (set z j a) (j + 1) j b 0 (λ e. omega arith) ∙ get_or-set_same z j a 0 (omega arith)
+    pair_0 : get_or (set (set z j a) (j + 1) b) j 0 ≡ a
+    pair_0 = get_or-set_other (set z j a) (j + 1) j b 0 (λ e. omega arith) ∙ get_or-set_same z j a 0 (omega arith)
 
-    pair-1 : get_or (set (set z j a) (j + 1) b) (j + 1) 0 ≡ b
-    pair-1 = get_or-set_same (set z j a) (j + 1) b 0 (omega (arith, length-set z j a))
+    pair_1 : get_or (set (set z j a) (j + 1) b) (j + 1) 0 ≡ b
+    pair_1 = get_or-set_same (set z j a) (j + 1) b 0 (omega (arith, length-set z j a))
 
     pair_inside : j + 2 ≤ length (set (set z j a) (j + 1) b)
     pair_inside = omega (arith, length-set z j a, length-set (set z j a) (j + 1) b)
 
-leaf-rows : (l : Leaf) (t : Table) (r : ℕ) → length (rows_of (vLeaf l) t r 0) ≡ 1
+leaf-rows : (l : Leaf) (t : Table) (r : ℕ) → length (rows_of (v_leaf l) t r 0) ≡ 1
 unfolding rows_of
 leaf-rows l t r = refl
 
-leaf-pool : (l : Leaf) (n : ℕ) → n ≡ length (leafPool l) → n ≡ length (poolOf (vLeaf l))
-unfolding poolOf
+leaf-pool : (l : Leaf) (n : ℕ) → n ≡ length (leaf_pool l) → n ≡ length (pool_of (v_leaf l))
+unfolding pool_of
 leaf-pool l n h = h
 
-pub leaf-noted : (t : Table) (s z : List ℕ) (r p j : ℕ) (w : declared-leaf.Words) (g : Got) → j + 2 ≤ length z → LeafTaken t s r p w → g.next ≡ w.next → g.tape ≡ j + 2 → g.rows ≡ 1 → g.pool ≡ w.pool
+pub leaf_noted : (t : Table) (s z : List ℕ) (r p j : ℕ) (w : declared-leaf.Words) (g : Got) → j + 2 ≤ length z → LeafTaken t s r p w → g.next ≡ w.next → g.tape ≡ j + 2 → g.rows ≡ 1 → g.pool ≡ w.pool
     → (d : ℕ) → Walked t s z (set (set z j w.a) (j + 1) w.b) d r p j g
-leaf-noted t s z r p j w g l k e f h i d =
+leaf_noted t s z r p j w g l k e f h i d =
     record {
       kept = pair-before z j w.a w.b;
       taken = λ _. record {
-        value = vLeaf k.leaf;
+        value = v_leaf k.leaf;
         stood = rw e (k.stood d);
-        stands = aLeaf {r = r} {j = j} {l = k.leaf} (rw (pair-0 z j w.a w.b l, pair-1 z j w.a w.b l) k.words) f;
+        stands = a_leaf {r = r} {j = j} {l = k.leaf} (rw (pair_0 z j w.a w.b l, pair_1 z j w.a w.b l) k.words) f;
         rows = h ∙ sym (leaf-rows k.leaf t r);
         pool = i ∙ leaf-pool k.leaf w.pool k.pool;
         ahead = omega (arith, k.ahead);
@@ -119,26 +119,26 @@ module _ (z : List ℕ) (j a b c : ℕ) where
   headed-length = length-set (set (set z j a) (j + 1) b) (j + 2) c ∙ length-set (set z j a) (j + 1) b ∙ length-set z j a
 
   module _ (l : j + 3 ≤ length z) where
-    headed-0 : get_or (headed z j a b c) j 0 ≡ a
-    headed-0 =
+    headed_0 : get_or (headed z j a b c) j 0 ≡ a
+    headed_0 =
         get_or-set_other (set (set z j a) (j + 1) b) (j + 2) j c 0 (λ e. omega arith)
         ∙ get_or-set_other (set z j a) (j + 1) j b 0 (λ e. omega arith)
         ∙ get_or-set_same z j a 0 (omega arith)
 
-    headed-1 : get_or (headed z j a b c) (j + 1) 0 ≡ b
-    headed-1 =
+    headed_1 : get_or (headed z j a b c) (j + 1) 0 ≡ b
+    headed_1 =
         get_or-set_other (set (set z j a) (j + 1) b) (j + 2) (j + 1) c 0 (λ e. omega arith)
         ∙ get_or-set_same (set z j a) (j + 1) b 0 (omega (arith, length-set z j a))
 
-    headed-2 : get_or (headed z j a b c) (j + 2) 0 ≡ c
-    headed-2 = get_or-set_same (set (set z j a) (j + 1) b) (j + 2) c 0 (omega (arith, length-set z j a, length-set (set z j a) (j + 1) b))
+    headed_2 : get_or (headed z j a b c) (j + 2) 0 ≡ c
+    headed_2 = get_or-set_same (set (set z j a) (j + 1) b) (j + 2) c 0 (omega (arith, length-set z j a, length-set (set z j a) (j + 1) b))
 
 pub header : (z : List ℕ) (j a n k : ℕ) → j + 3 ≤ length z → Header (headed z j a (n + 1) k) j a n k
-header z j a n k l = record { number = headed-0 z j a (n + 1) k l; rows = headed-1 z j a (n + 1) k l ∙ add-one n; end = headed-2 z j a (n + 1) k l }
+header z j a n k l = record { number = headed_0 z j a (n + 1) k l; rows = headed_1 z j a (n + 1) k l ∙ add-one n; end = headed_2 z j a (n + 1) k l }
 
 -- a bracket closed: its header stands before its parts, which y has
 pub bracket-closed : (t : Table) (s z y w : List ℕ) (d r p j a n m end next : ℕ) (v : Val) (g : Got) → Alike z y 0 j → j + 3 ≤ length y → w ≡ headed y j a (n + 1) end → Headed n m end next g
-    → Stood t s d r p next v → Stands s (headed y j a (n + 1) end) t r v j end → suc n ≡ length (rows_of v t r 0) → m ≡ length (poolOf v)
+    → Stood t s d r p next v → Stands s (headed y j a (n + 1) end) t r v j end → suc n ≡ length (rows_of v t r 0) → m ≡ length (pool_of v)
     → p < next → next ≤ length s → j + n + 1 < end → end ≤ length y → p + m ≤ next → Walked t s z w d r p j g
 bracket-closed t s z y w d r p j a n m end next v g f l e h k st rs ps ah pl wo ins fe =
     record {
@@ -160,7 +160,7 @@ bracket-closed t s z y w d r p j a n m end next v g f l e h k st rs ps ah pl wo 
 pub headed-kept : (z x : List ℕ) (j a b c : ℕ) → x ≡ headed z j a b c → Alike z x 0 j
 headed-kept z x j a b c e = rw e (headed-before z j a b c)
 
-pub shut-here : {t : Table} {r : ℕ} {z x : List ℕ} {j met has n pool end next : ℕ} {g : Got} (a w c : ℕ) → ((i : ℕ) → i < countOf t r → bit_of met i ≡ false → mayMiss t r i ≡ true) → a ≡ ones has → c ≡ countOf t r → w ≡ c - a
+pub shut-here : {t : Table} {r : ℕ} {z x : List ℕ} {j met has n pool end next : ℕ} {g : Got} (a w c : ℕ) → ((i : ℕ) → i < count_of t r → bit_of met i ≡ false → may_miss t r i ≡ true) → a ≡ ones has → c ≡ count_of t r → w ≡ c - a
     → x ≡ headed z j a (n + w + 1) end → Headed (n + w) pool end next g → Shut t r z x j met has n pool end next g
 shut-here a w c f e h i k l = record { complete = f; tape = rw (← e, ← h, ← i) k; answer = rw (← e, ← h, ← i) l }
 
@@ -170,8 +170,8 @@ pub record Cleared (z y : List ℕ) (from k : ℕ) : Type 0 where
   pub kept : Alike z y 0 from
   pub none : (i : ℕ) → i < k → get_or y (from + i) 0 ≡ 0
 
-pub cleared-none : (z : List ℕ) (from : ℕ) → Cleared z z from 0
-cleared-none z from = record { kept = alike_same z 0 from; none = λ i l. absurd (omega arith) }
+pub cleared_none : (z : List ℕ) (from : ℕ) → Cleared z z from 0
+cleared_none z from = record { kept = alike_same z 0 from; none = λ i l. absurd (omega arith) }
 
 pub cleared_at : {z y : List ℕ} {from k n : ℕ} → Cleared z y from k → n ≤ k → Alike z y 0 from × ((i : ℕ) → i < n → get_or y (from + i) 0 ≡ 0)
 cleared_at c l = (c.kept, λ i h. c.none i (omega arith))
@@ -189,8 +189,8 @@ cleared_more z y from k w e c l =
 
 -- ---- what a part is given
 
-pub given-part : {t : Table} {s z y f : List ℕ} {r p j e at end : ℕ} → Given t s z f r p j → length y ≡ length z → is_type t e ≡ true → at ≤ length s → end ≤ length y → Given t s y f e at end
-given-part g k ty a b =
+pub given_part : {t : Table} {s z y f : List ℕ} {r p j e at end : ℕ} → Given t s z f r p j → length y ≡ length z → is_type t e ≡ true → at ≤ length s → end ≤ length y → Given t s y f e at end
+given_part g k ty a b =
     record { sane = g.sane; typed = ty; short = g.short; room = omega (arith, g.room); here = omega (arith, g.short); start = omega (arith, g.room); flags = g.flags }
 
 pub walked_from : {t : Table} {s a z x : List ℕ} {d r p j : ℕ} {g : Got} → Alike a z 0 j → Walked t s z x d r p j g → Walked t s a x d r p j g
@@ -198,15 +198,15 @@ walked_from {a = a} {z = z} {x = x} {j = j} f k = record { kept = alike_then a z
 
 -- the same type further on
 pub given-on : {t : Table} {s z y f : List ℕ} {r p j at end : ℕ} → Given t s z f r p j → length y ≡ length z → at ≤ length s → end ≤ length y → Given t s y f r at end
-given-on g k a b = given-part g k g.typed a b
+given-on g k a b = given_part g k g.typed a b
 
-pub walked-if : {t : Table} {s z x : List ℕ} {d r p j : ℕ} {g : Got} → Alike z x 0 j → (0 < g.next → Walked t s z x d r p j g) → Walked t s z x d r p j g
-walked-if f k = record { kept = f; taken = λ h. (k h).taken h }
+pub walked_if : {t : Table} {s z x : List ℕ} {d r p j : ℕ} {g : Got} → Alike z x 0 j → (0 < g.next → Walked t s z x d r p j g) → Walked t s z x d r p j g
+walked_if f k = record { kept = f; taken = λ h. (k h).taken h }
 
 -- another type further on, on the same tape
 pub given-at : {t : Table} {s z f : List ℕ} {r p j e m at end : ℕ} → Given t s z f r p j → is_type t e ≡ true → m ≡ e → at ≤ length s → end ≤ length z → Given t s z f m at end
-given-at g ty em a b = given-part g refl (rw em ty) a b
+given-at g ty em a b = given_part g refl (rw em ty) a b
 
 -- its members' names differ
-pub given-distinct : {t : Table} {s z f : List ℕ} {r p j : ℕ} → Given t s z f r p j → Distinct t r
-given-distinct {r = r} g i j l m = g.sane.differ r i j g.typed l m
+pub given_distinct : {t : Table} {s z f : List ℕ} {r p j : ℕ} → Given t s z f r p j → Distinct t r
+given_distinct {r = r} g i j l m = g.sane.differ r i j g.typed l m

@@ -3,7 +3,7 @@ use Rattle.std.specs.Prelude.{ℕ, ◌+◌, ◌*◌, ◌≤◌, ◌<◌, ◌≡�
 use Rattle.std.proofs.lemmas.List.Edits.{sets}
 use Rattle.jer.specs.Table.{Table, table, kind_of}
 use Rattle.jer.specs.Value.{Val, Vals, Parts}
-use Rattle.jer.specs.Rows.{numbers, rows_of, itemRows, partRows, poolOf, itemPool, partPool}
+use Rattle.jer.specs.Rows.{numbers, rows_of, item_rows, part_rows, pool_of, item_pool, part_pool}
 use Rattle.quick.specs.Tape.{Stands, Listed, Linked}
 
 -- a text and a tape within the sizes
@@ -23,7 +23,7 @@ pub record Noted (types s z rows pool : List ℕ) (r j i o : ℕ) : Type 0 where
   pub end : ℕ
   pub stands : Stands s z (table types names) r value j end
   pub inside : end ≤ length z
-  pub room : Room rows pool i o (length (rows_of value (table types names) r 0)) (length (poolOf value))
+  pub room : Room rows pool i o (length (rows_of value (table types names) r 0)) (length (pool_of value))
 
 -- and items from j up to end
 pub record NotedItems (types s z rows pool : List ℕ) (r j end i o : ℕ) : Type 0 where
@@ -31,7 +31,7 @@ pub record NotedItems (types s z rows pool : List ℕ) (r j end i o : ℕ) : Typ
   pub items : Vals
   pub listed : Listed s z (table types names) r items j end
   pub inside : end ≤ length z
-  pub room : Room rows pool i o (length (itemRows items (table types names) r 0)) (length (itemPool items))
+  pub room : Room rows pool i o (length (item_rows items (table types names) r 0)) (length (item_pool items))
 
 -- and the members of the type at r, whose links stand from b on
 pub record NotedParts (types s z rows pool : List ℕ) (r b i o : ℕ) : Type 0 where
@@ -40,7 +40,7 @@ pub record NotedParts (types s z rows pool : List ℕ) (r b i o : ℕ) : Type 0 
   pub end : ℕ
   pub linked : Linked s z (table types names) r b end 0 parts
   pub inside : end ≤ length z
-  pub room : Room rows pool i o (length (partRows parts (table types names) r 0 0)) (length (partPool parts))
+  pub room : Room rows pool i o (length (part_rows parts (table types names) r 0 0)) (length (part_pool parts))
 
 -- stored from the slot i and the offset o on: these rows and these bytes
 abbrev pub Stores : List ℕ → List ℕ → List ℕ → List ℕ → ℕ → ℕ → ℕ → List ℕ → List ℕ → Type 0
@@ -49,15 +49,15 @@ Stores rows₀ rows₁ pool₀ pool₁ i o next ns bytes = (rows₁ ≡ sets row
 -- whatever value of the type at r stands from j on, it is stored
 abbrev pub Emits : List ℕ → List ℕ → List ℕ → ℕ → ℕ → ℕ → ℕ → List ℕ → List ℕ → List ℕ → List ℕ → ℕ → Type 0
 Emits types s z r j i o rows₀ rows₁ pool₀ pool₁ next =
-    (ns : List ℕ) (v : Val) (k : ℕ) → Stands s z (table types ns) r v j k → Stores rows₀ rows₁ pool₀ pool₁ i o next (numbers (rows_of v (table types ns) r o)) (poolOf v)
+    (ns : List ℕ) (v : Val) (k : ℕ) → Stands s z (table types ns) r v j k → Stores rows₀ rows₁ pool₀ pool₁ i o next (numbers (rows_of v (table types ns) r o)) (pool_of v)
 
 abbrev pub Pours : List ℕ → List ℕ → List ℕ → ℕ → ℕ → ℕ → ℕ → ℕ → List ℕ → List ℕ → List ℕ → List ℕ → ℕ → Type 0
 Pours types s z r j end i o rows₀ rows₁ pool₀ pool₁ next =
-    (ns : List ℕ) (vs : Vals) → Listed s z (table types ns) r vs j end → Stores rows₀ rows₁ pool₀ pool₁ i o next (numbers (itemRows vs (table types ns) r o)) (itemPool vs)
+    (ns : List ℕ) (vs : Vals) → Listed s z (table types ns) r vs j end → Stores rows₀ rows₁ pool₀ pool₁ i o next (numbers (item_rows vs (table types ns) r o)) (item_pool vs)
 
 abbrev pub EmitsParts : List ℕ → List ℕ → List ℕ → ℕ → ℕ → ℕ → ℕ → List ℕ → List ℕ → List ℕ → List ℕ → ℕ → Type 0
 EmitsParts types s z r b i o rows₀ rows₁ pool₀ pool₁ next =
-    (ns : List ℕ) (ps : Parts) (end : ℕ) → Linked s z (table types ns) r b end 0 ps → Stores rows₀ rows₁ pool₀ pool₁ i o next (numbers (partRows ps (table types ns) r 0 o)) (partPool ps)
+    (ns : List ℕ) (ps : Parts) (end : ℕ) → Linked s z (table types ns) r b end 0 ps → Stores rows₀ rows₁ pool₀ pool₁ i o next (numbers (part_rows ps (table types ns) r 0 o)) (part_pool ps)
 
 -- whatever value of the type at r stands from j on, it ends at `end` and has n rows
 abbrev pub Passes : List ℕ → List ℕ → ℕ → ℕ → ℕ → ℕ → Type 0

@@ -1,7 +1,7 @@
 -- What the call does, by what it answers.
 use Rattle.std.specs.Prelude.{◌≡◌, List, ℕ}
 use Rattle.jer.specs.Table.{Table}
-use Rattle.jer.specs.Contracts.{ReadCall}
+use Rattle.jer.specs.CallClauses.{ReadCall}
 use Rattle.quick.specs.declared.read.Reply.{Reply}
 use Rattle.quick.specs.declared.read.Reply.TheVariants.{Said, Other}
 

@@ -1,8 +1,8 @@
 -- What stands at a place of the text, by the grammar and `read` alone, nothing by places.
 use Rattle.std.specs.Prelude.{ℕ, ◌≡◌, List, ◌++◌, [], ◌∷◌, drop}
-use Rattle.json.specs.Bytes.{past}
-use Rattle.json.specs.Tree.{Json}
-use Rattle.json.specs.Grammar.{Space, Value, Quoted}
+use Rattle.json_text.specs.Bytes.{past}
+use Rattle.json_text.specs.Tree.{Json}
+use Rattle.json_text.specs.Grammar.{Space, Value, Quoted}
 use Rattle.jer.specs.Table.{Table}
 use Rattle.jer.specs.Value.{Val}
 use Rattle.jer.specs.Answer.{ok}

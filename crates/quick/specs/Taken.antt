@@ -2,15 +2,15 @@
 use Rattle.std.specs.Prelude.{ℕ, ◌+◌, ◌-◌, ◌≤◌, ◌<◌, ◌≡◌, Bool, true, false, ◌&&◌, List, length, get_or, set}
 use Rattle.std.proofs.Math.Option.{none, some}
 use Rattle.std.specs.Int.Count.{ones}
-use Rattle.json.specs.Tree.{Json}
-use Rattle.jer.specs.Table.{Table, table, OCTET-STRING, kind_of, is_type, extensible, position, countOf, type_at, mayMiss}
-use Rattle.jer.specs.Value.{Leaf, Val, vLeaf}
+use Rattle.json_text.specs.Tree.{Json}
+use Rattle.jer.specs.Table.{Table, table, OCTET-STRING, kind_of, is_type, extensible, position, count_of, type_at, may_miss}
+use Rattle.jer.specs.Value.{Leaf, Val, v_leaf}
 use Rattle.jer.specs.Answer.{ok, bind}
-use Rattle.jer.specs.Read.{read, readWhole, null?, nullAbsent}
-use Rattle.jer.specs.Calls.{goodText}
-use Rattle.jer.specs.Rows.{leafPool, rows_of, poolOf}
+use Rattle.jer.specs.Read.{read, read_whole, null?, null_absent}
+use Rattle.jer.specs.Calls.{good_text}
+use Rattle.jer.specs.Rows.{leaf_pool, rows_of, pool_of}
 use Rattle.jer.specs.Sane.{Sane}
-use Rattle.places.specs.ByPlaces.{bit_of, withBit}
+use Rattle.places.specs.ByPlaces.{bit_of, with_bit}
 use Rattle.quick.specs.declared.Got.{Got}
 use Rattle.quick.specs.declared.bare.Words as declared-leaf
 use Rattle.quick.specs.declared.name.Name as declared-name
@@ -32,9 +32,9 @@ pub record Given (t : Table) (s z f : List ℕ) (row place top : ℕ) : Type 0 w
 -- a leaf was taken: it stands at p, and its words are the two of the answer
 pub record LeafTaken (t : Table) (s : List ℕ) (r p : ℕ) (g : declared-leaf.Words) : Type 0 where
   pub leaf : Leaf
-  pub stood : (d : ℕ) → Stood t s d r p g.next (vLeaf leaf)
+  pub stood : (d : ℕ) → Stood t s d r p g.next (v_leaf leaf)
   pub words : Words s t r leaf g.a g.b
-  pub pool : g.pool ≡ length (leafPool leaf)
+  pub pool : g.pool ≡ length (leaf_pool leaf)
   pub ahead : p < g.next
   pub placed : g.next ≤ length s
   pub few : p + g.pool ≤ g.next
@@ -54,7 +54,7 @@ pub record Taken (t : Table) (s z : List ℕ) (d r p j : ℕ) (g : Got) : Type 0
   pub stood : Stood t s d r p g.next value
   pub stands : Stands s z t r value j g.tape
   pub rows : g.rows ≡ length (rows_of value t r 0)
-  pub pool : g.pool ≡ length (poolOf value)
+  pub pool : g.pool ≡ length (pool_of value)
   pub ahead : p < g.next
   pub placed : g.next ≤ length s
   pub words : j + g.rows < g.tape
@@ -72,26 +72,26 @@ Headed n pool end next g = (g.next ≡ next) × (g.tape ≡ end) × (g.rows ≡ 
 
 -- every member that was not met may be missing
 abbrev pub Complete : Table → ℕ → ℕ → Type 0
-Complete t r met = (i : ℕ) → i < countOf t r → bit_of met i ≡ false → mayMiss t r i ≡ true
+Complete t r met = (i : ℕ) → i < count_of t r → bit_of met i ≡ false → may_miss t r i ≡ true
 
 -- what closing a SEQUENCE is given: no more members present than there are, and their rows can be counted
 abbrev pub Shuts : Table → ℕ → ℕ → ℕ → Type 0
-Shuts t r present n = (countOf t r ≤ 64) × (ones present ≤ countOf t r) × (n + countOf t r ≤ 1048576)
+Shuts t r present n = (count_of t r ≤ 64) × (ones present ≤ count_of t r) × (n + count_of t r ≤ 1048576)
 
 -- a SEQUENCE is closed: of its members every one that was not met may be missing; its header counts those present, and a row for each other one
 pub record Shut (t : Table) (r : ℕ) (z₀ z₁ : List ℕ) (j met present n pool end next : ℕ) (g : Got) : Type 0 where
   pub complete : Complete t r met
-  pub tape : z₁ ≡ headed z₀ j (ones present) (n + (countOf t r - ones present) + 1) end
-  pub answer : Headed (n + (countOf t r - ones present)) pool end next g
+  pub tape : z₁ ≡ headed z₀ j (ones present) (n + (count_of t r - ones present) + 1) end
+  pub answer : Headed (n + (count_of t r - ones present)) pool end next g
 
 -- the whole text was taken: it is JSON, it reads as the value by the table's row 0, and the tape stands for it
 pub record Whole (t : Table) (s z : List ℕ) (g : Got) : Type 0 where
   pub value : Val
-  pub reads : bind (goodText s) (λ j. readWhole t j) ≡ ok value
+  pub reads : bind (good_text s) (λ j. read_whole t j) ≡ ok value
   pub stands : Stands s z t 0 value 0 g.tape
   pub inside : g.tape ≤ length z
   pub rows : g.rows ≡ length (rows_of value t 0 0)
-  pub pool : g.pool ≡ length (poolOf value)
+  pub pool : g.pool ≡ length (pool_of value)
   pub words : g.rows ≤ length z
   pub few : g.pool ≤ length s
 
@@ -101,8 +101,8 @@ pub record Whole (t : Table) (s z : List ℕ) (g : Got) : Type 0 where
 pub record NameTaken (t : Table) (s : List ℕ) (r p : ℕ) (g : declared-name.Name) : Type 0 where
   pub name : List ℕ
   pub stood : NameAt s p g.next name
-  pub known : g.position < countOf t r → position t r name ≡ some g.position
-  pub unknown : countOf t r ≤ g.position → position t r name ≡ none
+  pub known : g.position < count_of t r → position t r name ≡ some g.position
+  pub unknown : count_of t r ≤ g.position → position t r name ≡ none
   pub ahead : p < g.next
   pub placed : g.next ≤ length s
 
@@ -116,11 +116,11 @@ pub record MemberAt (s : List ℕ) (d p q : ℕ) (name : List ℕ) (tree : Json)
 
 -- one member: a value noted from `end` on, to which its link leads; a null that means its absence; or an unknown one, passed over
 pub data Met (t : Table) (s z₀ z₁ : List ℕ) (d r p top end met present : ℕ) (g : declared-step.Step) : Type 0 where
-  valued : {i : ℕ} {name : List ℕ} {tree : Json} {v : Val} {z : List ℕ} → MemberAt s d p g.next name tree → position t r name ≡ some i → bit_of met i ≡ false → (null? tree && nullAbsent t r i) ≡ false
+  valued : {i : ℕ} {name : List ℕ} {tree : Json} {v : Val} {z : List ℕ} → MemberAt s d p g.next name tree → position t r name ≡ some i → bit_of met i ≡ false → (null? tree && null_absent t r i) ≡ false
       → read tree t (type_at t r i) ≡ ok v → Alike z₀ z 0 end → Stands s z t (type_at t r i) v end g.tape → z₁ ≡ set z (top + 3 + i) end → g.rows ≡ length (rows_of v t (type_at t r i) 0)
-      → g.pool ≡ length (poolOf v) → g.met ≡ withBit met i → g.present ≡ withBit present i → Met t s z₀ z₁ d r p top end met present g
-  nulled : {i : ℕ} {name : List ℕ} {tree : Json} → MemberAt s d p g.next name tree → position t r name ≡ some i → bit_of met i ≡ false → (null? tree && nullAbsent t r i) ≡ true
-      → z₁ ≡ z₀ → g.tape ≡ end → g.rows ≡ 0 → g.pool ≡ 0 → g.met ≡ withBit met i → g.present ≡ present → Met t s z₀ z₁ d r p top end met present g
+      → g.pool ≡ length (pool_of v) → g.met ≡ with_bit met i → g.present ≡ with_bit present i → Met t s z₀ z₁ d r p top end met present g
+  nulled : {i : ℕ} {name : List ℕ} {tree : Json} → MemberAt s d p g.next name tree → position t r name ≡ some i → bit_of met i ≡ false → (null? tree && null_absent t r i) ≡ true
+      → z₁ ≡ z₀ → g.tape ≡ end → g.rows ≡ 0 → g.pool ≡ 0 → g.met ≡ with_bit met i → g.present ≡ present → Met t s z₀ z₁ d r p top end met present g
   passed : {name : List ℕ} {tree : Json} → MemberAt s d p g.next name tree → position t r name ≡ none → extensible t r ≡ true
       → z₁ ≡ z₀ → g.tape ≡ end → g.rows ≡ 0 → g.pool ≡ 0 → g.met ≡ met → g.present ≡ present → Met t s z₀ z₁ d r p top end met present g
 
@@ -137,12 +137,12 @@ pub record Stepped (t : Table) (s z₀ z₁ : List ℕ) (d r p top end met prese
 
 -- the element for the member at k: a value noted from `end` on, to which its link leads; a null that means its absence; or a surplus one, passed over
 pub data Element (t : Table) (s z₀ z₁ : List ℕ) (d r p top end k met present : ℕ) (g : declared-step.Step) : Type 0 where
-  there : {tree : Json} {v : Val} {z : List ℕ} → TreeAt s d p g.next tree → k < countOf t r → (null? tree && mayMiss t r k) ≡ false → read tree t (type_at t r k) ≡ ok v → Alike z₀ z 0 end
-      → Stands s z t (type_at t r k) v end g.tape → z₁ ≡ set z (top + 3 + k) end → g.rows ≡ length (rows_of v t (type_at t r k) 0) → g.pool ≡ length (poolOf v) → g.met ≡ withBit met k → g.present ≡ withBit present k
+  there : {tree : Json} {v : Val} {z : List ℕ} → TreeAt s d p g.next tree → k < count_of t r → (null? tree && may_miss t r k) ≡ false → read tree t (type_at t r k) ≡ ok v → Alike z₀ z 0 end
+      → Stands s z t (type_at t r k) v end g.tape → z₁ ≡ set z (top + 3 + k) end → g.rows ≡ length (rows_of v t (type_at t r k) 0) → g.pool ≡ length (pool_of v) → g.met ≡ with_bit met k → g.present ≡ with_bit present k
       → Element t s z₀ z₁ d r p top end k met present g
-  nothing : {tree : Json} → TreeAt s d p g.next tree → k < countOf t r → (null? tree && mayMiss t r k) ≡ true → z₁ ≡ z₀ → g.tape ≡ end → g.rows ≡ 0 → g.pool ≡ 0 → g.met ≡ withBit met k → g.present ≡ present
+  nothing : {tree : Json} → TreeAt s d p g.next tree → k < count_of t r → (null? tree && may_miss t r k) ≡ true → z₁ ≡ z₀ → g.tape ≡ end → g.rows ≡ 0 → g.pool ≡ 0 → g.met ≡ with_bit met k → g.present ≡ present
       → Element t s z₀ z₁ d r p top end k met present g
-  surplus : {tree : Json} → TreeAt s d p g.next tree → countOf t r ≤ k → extensible t r ≡ true → z₁ ≡ z₀ → g.tape ≡ end → g.rows ≡ 0 → g.pool ≡ 0 → g.met ≡ met → g.present ≡ present
+  surplus : {tree : Json} → TreeAt s d p g.next tree → count_of t r ≤ k → extensible t r ≡ true → z₁ ≡ z₀ → g.tape ≡ end → g.rows ≡ 0 → g.pool ≡ 0 → g.met ≡ met → g.present ≡ present
       → Element t s z₀ z₁ d r p top end k met present g
 
 -- what reading an element does

@@ -1,7 +1,7 @@
 // Members of a sequence: those that are null for their absence, and those that may be missing.
 ghost use Rattle.std.specs.Prelude.{◌≡◌, true, false, ◌&&◌, List, ℕ, ◌≤◌, ◌<◌, eqb};
-ghost use Rattle.jer.specs.Table.{countOf, mayMiss, table};
-ghost use Rattle.jer.specs.Read.{nullAbsent};
+ghost use Rattle.jer.specs.Table.{count_of, may_miss, table};
+ghost use Rattle.jer.specs.Read.{null_absent};
 ghost use Rattle.tokens.specs.Places.{byte_at};
 ghost use Rattle.places.specs.ByPlaces.{bit_of};
 ghost use Rattle.quick.specs.Taken.{Complete};
@@ -13,7 +13,7 @@ use types::token::null_taken;
 
 // Null stands for the absent member.
 fn null_absent(types: &[u32], row: usize, k: u32) -> bool
-    ensures { (ns : List ℕ) → result ≡ nullAbsent (table types.now ns) row k }
+    ensures { (ns : List ℕ) → result ≡ null_absent (table types.now ns) row k }
 {
     if !member_at(types, row, k).optional() {
         return false;
@@ -23,7 +23,7 @@ fn null_absent(types: &[u32], row: usize, k: u32) -> bool
 
 // So does the value at the place, of the member at k of an object.
 pub fn absent_at(types: &[u32], s: &[u8], row: usize, k: u32, place: usize) -> bool
-    ensures { (ns : List ℕ) → result ≡ (eqb (byte_at s.now place) 0x6E && nullAbsent (table types.now ns) row k) }
+    ensures { (ns : List ℕ) → result ≡ (eqb (byte_at s.now place) 0x6E && null_absent (table types.now ns) row k) }
 {
     if byte_at(s, place) != 0x6E {
         return false;
@@ -33,7 +33,7 @@ pub fn absent_at(types: &[u32], s: &[u8], row: usize, k: u32, place: usize) -> b
 
 // The element at the place is null, for the absence of the member at k of an ARRAY.
 pub fn missing_at(types: &[u32], s: &[u8], row: usize, k: u32, place: usize) -> bool
-    ensures { (ns : List ℕ) → result ≡ (eqb (byte_at s.now place) 0x6E && mayMiss (table types.now ns) row k) }
+    ensures { (ns : List ℕ) → result ≡ (eqb (byte_at s.now place) 0x6E && may_miss (table types.now ns) row k) }
 {
     if byte_at(s, place) != 0x6E {
         return false;
@@ -44,7 +44,7 @@ pub fn missing_at(types: &[u32], s: &[u8], row: usize, k: u32, place: usize) -> 
 // The member at k was met, or may be missing.
 fn lacks(types: &[u32], row: usize, met: u64, k: u32) -> bool
     requires { k < 64 }
-    ensures { (ns : List ℕ) → result ≡ false → bit_of met k ≡ false → mayMiss (table types.now ns) row k ≡ true }
+    ensures { (ns : List ℕ) → result ≡ false → bit_of met k ≡ false → may_miss (table types.now ns) row k ≡ true }
 {
     if bit(met, k) {
         return false;
@@ -54,7 +54,7 @@ fn lacks(types: &[u32], row: usize, met: u64, k: u32) -> bool
 
 // Every member that was not met may be missing.
 pub fn complete(types: &[u32], row: usize, met: u64) -> bool
-    requires { (ns : List ℕ) → countOf (table types.now ns) row ≤ 64 }
+    requires { (ns : List ℕ) → count_of (table types.now ns) row ≤ 64 }
     ensures { result ≡ true → (ns : List ℕ) → Complete (table types.now ns) row met }
 {
     let count = count_of(types, row);

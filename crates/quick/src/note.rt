@@ -1,7 +1,7 @@
 // Words noted on the tape.
 ghost use Rattle.std.specs.Prelude.{◌≡◌, List, ℕ, ◌+◌, ◌-◌, ◌≤◌, ◌<◌, length, get_or};
 ghost use Rattle.std.specs.Int.Count.{ones};
-ghost use Rattle.jer.specs.Table.{countOf, table};
+ghost use Rattle.jer.specs.Table.{count_of, table};
 ghost use Rattle.quick.specs.Tape.{Alike, headed};
 ghost use Rattle.quick.specs.Taken.{Headed, Given, Walked, Shuts, Shut};
 

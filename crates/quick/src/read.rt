@@ -4,7 +4,7 @@ ghost use Rattle.jer.specs.declared.Judged.TheVariants as judged;
 ghost use Rattle.jer.specs.declared.Limit.TheVariants.{LentRoom};
 ghost use Rattle.jer.specs.declared.Reading.TheVariants as reading;
 ghost use Rattle.jer.specs.declared.Refusal.TheVariants.{Amounts};
-ghost use Rattle.jer.specs.Contracts.{TableCall};
+ghost use Rattle.jer.specs.CallClauses.{TableCall};
 ghost use Rattle.jer.specs.Table.{table};
 ghost use Rattle.quick.specs.Replied.{Replied};
 

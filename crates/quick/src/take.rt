@@ -31,7 +31,7 @@ pub fn take(
         0,
         space(s, 0),
         0,
-        json::BRACKETS,
+        json_text::BRACKETS,
     );
     if g.next == 0 {
         return other();

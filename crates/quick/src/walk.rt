@@ -1,6 +1,6 @@
 // The walk over the text, which notes the value on the tape. `depth` brackets may be open in a value.
 ghost use Rattle.std.specs.Prelude.{◌≡◌, ◌+◌, ◌-◌, ◌≤◌, ◌<◌, length, true, false};
-ghost use Rattle.jer.specs.Table.{kind_of, isArray, isUnwrapped, countOf, SEQUENCE, SEQUENCE-OF, CHOICE, table};
+ghost use Rattle.jer.specs.Table.{kind_of, is_array, is_unwrapped, count_of, SEQUENCE, SEQUENCE-OF, CHOICE, table};
 ghost use Rattle.quick.specs.Tape.{Alike};
 ghost use Rattle.quick.specs.Taken.{Given, Walked, Stepped, Came};
 
@@ -59,7 +59,7 @@ fn picked(
     depth: u32,
 ) -> Got
     requires given { Given (table types.now names.now) s.now tape.old flags.now row place top }
-    requires row_value { isUnwrapped (table types.now names.now) row ≡ true }
+    requires row_value { is_unwrapped (table types.now names.now) row ≡ true }
     ensures { Walked (table types.now names.now) s.now tape.old tape.new depth row place top result }
 {
     if tape.len() < top + 3 {
@@ -101,7 +101,7 @@ fn plain(
     depth: u32,
 ) -> Got
     requires given { Given (table types.now names.now) s.now tape.old flags.now row place top }
-    requires row_value { isUnwrapped (table types.now names.now) row ≡ false }
+    requires row_value { is_unwrapped (table types.now names.now) row ≡ false }
     ensures { Walked (table types.now names.now) s.now tape.old tape.new depth row place top result }
 {
     if kind_of(types, row) < Row::SEQUENCE {
@@ -125,7 +125,7 @@ fn bracket(
     depth: u32,
 ) -> Got
     requires given { Given (table types.now names.now) s.now tape.old flags.now row place top }
-    requires row_value { isUnwrapped (table types.now names.now) row ≡ false }
+    requires row_value { is_unwrapped (table types.now names.now) row ≡ false }
     ensures { Walked (table types.now names.now) s.now tape.old tape.new depth row place top result }
 {
     if depth == 0 {
@@ -268,7 +268,7 @@ fn object(
     depth: u32,
 ) -> Got
     requires given { Given (table types.now names.now) s.now tape.old flags.now row place top }
-    requires row_value { (kind_of (table types.now names.now) row ≡ SEQUENCE) × (isArray (table types.now names.now) row ≡ false) }
+    requires row_value { (kind_of (table types.now names.now) row ≡ SEQUENCE) × (is_array (table types.now names.now) row ≡ false) }
     ensures { Walked (table types.now names.now) s.now tape.old tape.new (depth + 1) row place top result }
 {
     if byte_at(s, place) != 0x7B {
@@ -344,7 +344,7 @@ fn member(
     depth: u32,
 ) -> Step
     requires given { Given (table types.now names.now) s.now tape.old flags.now row place end }
-    requires row_bound { (top + 3 + countOf (table types.now names.now) row ≤ end) × (end ≤ length tape.old) }
+    requires row_bound { (top + 3 + count_of (table types.now names.now) row ≤ end) × (end ≤ length tape.old) }
     ensures alike { Alike tape.old tape.new 0 (top + 3) }
     ensures stepped { 0 < result.next → Stepped (table types.now names.now) s.now tape.old tape.new depth row place top end met present result }
 {
@@ -408,7 +408,7 @@ fn choice(
     depth: u32,
 ) -> Got
     requires given { Given (table types.now names.now) s.now tape.old flags.now row place top }
-    requires top_in_bounds { (top + 3 ≤ length tape.old) × (kind_of (table types.now names.now) row ≡ CHOICE) × (isUnwrapped (table types.now names.now) row ≡ false) }
+    requires top_in_bounds { (top + 3 ≤ length tape.old) × (kind_of (table types.now names.now) row ≡ CHOICE) × (is_unwrapped (table types.now names.now) row ≡ false) }
     ensures { Walked (table types.now names.now) s.now tape.old tape.new (depth + 1) row place top result }
 {
     if byte_at(s, place) != 0x7B {
@@ -460,7 +460,7 @@ fn array(
     depth: u32,
 ) -> Got
     requires given { Given (table types.now names.now) s.now tape.old flags.now row place top }
-    requires row_value { (kind_of (table types.now names.now) row ≡ SEQUENCE) × (isArray (table types.now names.now) row ≡ true) }
+    requires row_value { (kind_of (table types.now names.now) row ≡ SEQUENCE) × (is_array (table types.now names.now) row ≡ true) }
     ensures { Walked (table types.now names.now) s.now tape.old tape.new (depth + 1) row place top result }
 {
     if byte_at(s, place) != 0x5B {
@@ -536,7 +536,7 @@ fn element(
     depth: u32,
 ) -> Step
     requires given { Given (table types.now names.now) s.now tape.old flags.now row place end }
-    requires row_bound { (top + 3 + countOf (table types.now names.now) row ≤ end) × (end ≤ length tape.old) }
+    requires row_bound { (top + 3 + count_of (table types.now names.now) row ≤ end) × (end ≤ length tape.old) }
     ensures alike { Alike tape.old tape.new 0 (top + 3) }
     ensures came { 0 < result.next → Came (table types.now names.now) s.now tape.old tape.new depth row place top end k met present result }
 {

@@ -15,18 +15,18 @@ use Rattle.jer.specs.declared.Reading.TheVariants as reading
 use Rattle.jer.specs.Table.{Table}
 use Rattle.jer.specs.Value.{Val}
 use Rattle.jer.specs.Answer.{Res, ok, no, bind, Values}
-use Rattle.jer.specs.Rows.{rows_of, poolOf, numbers}
-use Rattle.jer.specs.Calls.{goodTable, tableJudged, readText, readAnswer, rowsAfter, poolAfter, roomy, over, rowNumbers}
+use Rattle.jer.specs.Rows.{rows_of, pool_of, numbers}
+use Rattle.jer.specs.Calls.{good_table, table_judged, read_text, read_answer, rows_after, pool_after, roomy, over, row_numbers}
 use Rattle.leaf.proofs.StoreLaws.{numbers-length}
 use Rattle.jer.specs.declared.Refusal.{Refusal}
 use Rattle.jer.specs.declared.Judged.TheVariants as judged
 use Rattle.jer.specs.declared.Readings.TheVariants as readings
 use Rattle.jer.specs.declared.Reported.{Reported}
-use Rattle.jer.specs.Reports.{reportedOf}
+use Rattle.jer.specs.Reports.{reported_of}
 use Rattle.slices.specs.Lent.{Lent, before, after}
-use Rattle.jer.specs.Contracts.{ReadCall}
-use Rattle.jer.specs.Each.{Each, each, textFrom, valuesIn, rowsUsed, poolUsed, told, ahead, readOne, alone, readEach, eachRead, eachAnswer, eachLeft, EachCall}
-use Rattle.reading.specs.Run.{ReadFrom, toldOf}
+use Rattle.jer.specs.CallClauses.{ReadCall}
+use Rattle.jer.specs.Each.{Each, each, text_from, values_in, rows_used, pool_used, told, ahead, read_one, alone, read_each, each_read, each_answer, each_left, EachCall}
+use Rattle.reading.specs.Run.{ReadFrom, told_of}
 use Rattle.reading.proofs.ReadLaws.{table-refused, table-ok}
 
 abbrev glued : ℕ → List ℕ → List ℕ → List ℕ → Each → Each
@@ -68,15 +68,15 @@ one_more k a b c ra pa line z =
     rw (e, append_assoc a ra z.rows, append_assoc b pa z.pool, append_assoc c line z.tells)
 
 module _ (t : Table) (x : Res Val) (r : Reading) (n m : ℕ) (rows pool tells : List ℕ) (rest : ℕ → ℕ → List ℕ → List ℕ → List ℕ → Each) where
-  no_room : eqb (valuesIn r).number 14 ≡ true → readOne t x r n m rows pool tells rest ≡ each 1 rows pool (told (valuesIn r) n m ++ drop 5 tells)
-  unfolding readOne
-  no_room h = rw (h, readOne)
+  no_room : eqb (values_in r).number 14 ≡ true → read_one t x r n m rows pool tells rest ≡ each 1 rows pool (told (values_in r) n m ++ drop 5 tells)
+  unfolding read_one
+  no_room h = rw (h, read_one)
 
-  has_room : eqb (valuesIn r).number 14 ≡ false → readOne t x r n m rows pool tells rest
-      ≡ ahead (take (rowsUsed r * 4) (rowsAfter t rows (length pool) x)) (take (poolUsed r) (poolAfter t (length rows) pool x)) (told (valuesIn r) (n + rowsUsed r) (m + poolUsed r))
-      (rest (n + rowsUsed r) (m + poolUsed r) (drop (rowsUsed r * 4) (rowsAfter t rows (length pool) x)) (drop (poolUsed r) (poolAfter t (length rows) pool x)) (drop 5 tells))
-  unfolding readOne
-  has_room h = rw (h, readOne)
+  has_room : eqb (values_in r).number 14 ≡ false → read_one t x r n m rows pool tells rest
+      ≡ ahead (take (rows_used r * 4) (rows_after t rows (length pool) x)) (take (pool_used r) (pool_after t (length rows) pool x)) (told (values_in r) (n + rows_used r) (m + pool_used r))
+      (rest (n + rows_used r) (m + pool_used r) (drop (rows_used r * 4) (rows_after t rows (length pool) x)) (drop (pool_used r) (pool_after t (length rows) pool x)) (drop 5 tells))
+  unfolding read_one
+  has_room h = rw (h, read_one)
 
 -- ---- what an answer takes up is there
 
@@ -88,32 +88,32 @@ both : (a b : Bool) → (a && b) ≡ true → (a ≡ true) × (b ≡ true)
 both true b e = (refl, e)
 both false b e = absurd (false≢true e)
 
-room-rows : (t : Table) (v : Val) (n m : ℕ) → roomy t v n m ≡ true → length (rowNumbers t v) ≤ n
+room-rows : (t : Table) (v : Val) (n m : ℕ) → roomy t v n m ≡ true → length (row_numbers t v) ≤ n
 unfolding roomy
-room-rows t v n m e = leb-true (length (rowNumbers t v)) n (both (leb (length (rowNumbers t v)) n) (leb (length (poolOf v)) m) e).0
+room-rows t v n m e = leb-true (length (row_numbers t v)) n (both (leb (length (row_numbers t v)) n) (leb (length (pool_of v)) m) e).0
 
-room-pool : (t : Table) (v : Val) (n m : ℕ) → roomy t v n m ≡ true → length (poolOf v) ≤ m
+room-pool : (t : Table) (v : Val) (n m : ℕ) → roomy t v n m ≡ true → length (pool_of v) ≤ m
 unfolding roomy
-room-pool t v n m e = leb-true (length (poolOf v)) m (both (leb (length (rowNumbers t v)) n) (leb (length (poolOf v)) m) e).1
+room-pool t v n m e = leb-true (length (pool_of v)) m (both (leb (length (row_numbers t v)) n) (leb (length (pool_of v)) m) e).1
 
 module _ (t : Table) (rows pool : List ℕ) where
-  rows-there : (x : Res Val) → rowsUsed (readAnswer t (length rows) (length pool) x) * 4 ≤ length (rowsAfter t rows (length pool) x)
-  unfolding rowsUsed readAnswer rowsAfter rowNumbers
+  rows-there : (x : Res Val) → rows_used (read_answer t (length rows) (length pool) x) * 4 ≤ length (rows_after t rows (length pool) x)
+  unfolding rows_used read_answer rows_after row_numbers
   rows-there (no e) = omega arith
   rows-there (ok v) = go (roomy t v (length rows) (length pool)) refl
     where
-      go : (b : Bool) → roomy t v (length rows) (length pool) ≡ b → rowsUsed (readAnswer t (length rows) (length pool) (ok v)) * 4 ≤ length (rowsAfter t rows (length pool) (ok v))
-      go true e = rw (e, readAnswer, rowsAfter) (omega (arith, over-long (numbers (rows_of v t 0 0)) rows, numbers-length (rows_of v t 0 0)))
-      go false e = rw (e, readAnswer, rowsAfter) (omega arith)
+      go : (b : Bool) → roomy t v (length rows) (length pool) ≡ b → rows_used (read_answer t (length rows) (length pool) (ok v)) * 4 ≤ length (rows_after t rows (length pool) (ok v))
+      go true e = rw (e, read_answer, rows_after) (omega (arith, over-long (numbers (rows_of v t 0 0)) rows, numbers-length (rows_of v t 0 0)))
+      go false e = rw (e, read_answer, rows_after) (omega arith)
 
-  pool-there : (x : Res Val) → poolUsed (readAnswer t (length rows) (length pool) x) ≤ length (poolAfter t (length rows) pool x)
-  unfolding poolUsed readAnswer poolAfter
+  pool-there : (x : Res Val) → pool_used (read_answer t (length rows) (length pool) x) ≤ length (pool_after t (length rows) pool x)
+  unfolding pool_used read_answer pool_after
   pool-there (no e) = omega arith
   pool-there (ok v) = go (roomy t v (length rows) (length pool)) refl
     where
-      go : (b : Bool) → roomy t v (length rows) (length pool) ≡ b → poolUsed (readAnswer t (length rows) (length pool) (ok v)) ≤ length (poolAfter t (length rows) pool (ok v))
-      go true e = rw (e, readAnswer, poolAfter) (over-long (poolOf v) pool)
-      go false e = rw (e, readAnswer, poolAfter) (omega arith)
+      go : (b : Bool) → roomy t v (length rows) (length pool) ≡ b → pool_used (read_answer t (length rows) (length pool) (ok v)) ≤ length (pool_after t (length rows) pool (ok v))
+      go true e = rw (e, read_answer, pool_after) (over-long (pool_of v) pool)
+      go false e = rw (e, read_answer, pool_after) (omega arith)
 
   -- the buffers keep their lengths
   length-kept : (xs l : List ℕ) → length xs ≤ length l → length (over xs l) ≡ length l
@@ -121,41 +121,41 @@ module _ (t : Table) (rows pool : List ℕ) where
   length-kept xs l h = length-append xs (drop (length xs) l) ∙ omega (arith, length-drop (length xs) l)
 
   -- an answer that is not a success leaves the buffers
-  rows-kept : (x : Res Val) → eqb (valuesIn (readAnswer t (length rows) (length pool) x)).number 14 ≡ true → rowsAfter t rows (length pool) x ≡ rows
-  unfolding valuesIn readAnswer rowsAfter
+  rows-kept : (x : Res Val) → eqb (values_in (read_answer t (length rows) (length pool) x)).number 14 ≡ true → rows_after t rows (length pool) x ≡ rows
+  unfolding values_in read_answer rows_after
   rows-kept (no e) h = refl
   rows-kept (ok v) h = go (roomy t v (length rows) (length pool)) refl h
     where
-      go : (b : Bool) → roomy t v (length rows) (length pool) ≡ b → eqb (valuesIn (readAnswer t (length rows) (length pool) (ok v))).number 14 ≡ true → rowsAfter t rows (length pool) (ok v) ≡ rows
-      go true e h = absurd (false≢true (rw (e, readAnswer) at h))
-      go false e h = rw (e, rowsAfter)
+      go : (b : Bool) → roomy t v (length rows) (length pool) ≡ b → eqb (values_in (read_answer t (length rows) (length pool) (ok v))).number 14 ≡ true → rows_after t rows (length pool) (ok v) ≡ rows
+      go true e h = absurd (false≢true (rw (e, read_answer) at h))
+      go false e h = rw (e, rows_after)
 
-  pool-kept : (x : Res Val) → eqb (valuesIn (readAnswer t (length rows) (length pool) x)).number 14 ≡ true → poolAfter t (length rows) pool x ≡ pool
-  unfolding valuesIn readAnswer poolAfter
+  pool-kept : (x : Res Val) → eqb (values_in (read_answer t (length rows) (length pool) x)).number 14 ≡ true → pool_after t (length rows) pool x ≡ pool
+  unfolding values_in read_answer pool_after
   pool-kept (no e) h = refl
   pool-kept (ok v) h = go (roomy t v (length rows) (length pool)) refl h
     where
-      go : (b : Bool) → roomy t v (length rows) (length pool) ≡ b → eqb (valuesIn (readAnswer t (length rows) (length pool) (ok v))).number 14 ≡ true → poolAfter t (length rows) pool (ok v) ≡ pool
-      go true e h = absurd (false≢true (rw (e, readAnswer) at h))
-      go false e h = rw (e, poolAfter)
+      go : (b : Bool) → roomy t v (length rows) (length pool) ≡ b → eqb (values_in (read_answer t (length rows) (length pool) (ok v))).number 14 ≡ true → pool_after t (length rows) pool (ok v) ≡ pool
+      go true e h = absurd (false≢true (rw (e, read_answer) at h))
+      go false e h = rw (e, pool_after)
 
-length-rows : (t : Table) (rows : List ℕ) (m : ℕ) (x : Res Val) → length (rowsAfter t rows m x) ≡ length rows
-unfolding rowsAfter
+length-rows : (t : Table) (rows : List ℕ) (m : ℕ) (x : Res Val) → length (rows_after t rows m x) ≡ length rows
+unfolding rows_after
 length-rows t rows m (no e) = refl
 length-rows t rows m (ok v) = go (roomy t v (length rows) m) refl
   where
-    go : (b : Bool) → roomy t v (length rows) m ≡ b → length (rowsAfter t rows m (ok v)) ≡ length rows
-    go true e = rw (e, rowsAfter) (length-kept t rows rows (rowNumbers t v) rows (room-rows t v (length rows) m e))
-    go false e = rw (e, rowsAfter)
+    go : (b : Bool) → roomy t v (length rows) m ≡ b → length (rows_after t rows m (ok v)) ≡ length rows
+    go true e = rw (e, rows_after) (length-kept t rows rows (row_numbers t v) rows (room-rows t v (length rows) m e))
+    go false e = rw (e, rows_after)
 
-length-pool : (t : Table) (n : ℕ) (pool : List ℕ) (x : Res Val) → length (poolAfter t n pool x) ≡ length pool
-unfolding poolAfter
+length-pool : (t : Table) (n : ℕ) (pool : List ℕ) (x : Res Val) → length (pool_after t n pool x) ≡ length pool
+unfolding pool_after
 length-pool t n pool (no e) = refl
 length-pool t n pool (ok v) = go (roomy t v n (length pool)) refl
   where
-    go : (b : Bool) → roomy t v n (length pool) ≡ b → length (poolAfter t n pool (ok v)) ≡ length pool
-    go true e = rw (e, poolAfter) (length-kept t pool pool (poolOf v) pool (room-pool t v n (length pool) e))
-    go false e = rw (e, poolAfter)
+    go : (b : Bool) → roomy t v n (length pool) ≡ b → length (pool_after t n pool (ok v)) ≡ length pool
+    go true e = rw (e, pool_after) (length-kept t pool pool (pool_of v) pool (room-pool t v n (length pool) e))
+    go false e = rw (e, pool_after)
 
 -- ---- the loop
 
@@ -163,26 +163,26 @@ module _ (t : Table) (texts ends : List ℕ) where
   -- with k texts done, whatever the rest gives completes what was asked
   pub record Sofar (rows₀ pool₀ tells₀ : List ℕ) (k from n m : ℕ) (rows pool tells : List ℕ) : Type 0 where
     pub few : k ≤ length ends
-    pub rowsIn : n * 4 ≤ length rows
-    pub poolIn : m ≤ length pool
-    pub toldIn : k * 5 ≤ length tells
-    pub whole : glued k (take (n * 4) rows) (take m pool) (take (k * 5) tells) (readEach t texts from (drop k ends) n m (drop (n * 4) rows) (drop m pool) (drop (k * 5) tells))
-        ≡ readEach t texts 0 ends 0 0 rows₀ pool₀ tells₀
+    pub rows_in : n * 4 ≤ length rows
+    pub pool_in : m ≤ length pool
+    pub told_in : k * 5 ≤ length tells
+    pub whole : glued k (take (n * 4) rows) (take m pool) (take (k * 5) tells) (read_each t texts from (drop k ends) n m (drop (n * 4) rows) (drop m pool) (drop (k * 5) tells))
+        ≡ read_each t texts 0 ends 0 0 rows₀ pool₀ tells₀
 
   pub sofar-start : (rows pool tells : List ℕ) → Sofar rows pool tells 0 0 0 0 rows pool tells
-  sofar-start rows pool tells = record { few = omega arith; rowsIn = omega arith; poolIn = omega arith; toldIn = omega arith; whole = let e : 0 + (readEach t texts 0 ends 0 0 rows pool tells).count ≡ (readEach t texts 0 ends 0 0 rows pool tells).count = omega arith in rw e }
+  sofar-start rows pool tells = record { few = omega arith; rows_in = omega arith; pool_in = omega arith; told_in = omega arith; whole = let e : 0 + (read_each t texts 0 ends 0 0 rows pool tells).count ≡ (read_each t texts 0 ends 0 0 rows pool tells).count = omega arith in rw e }
 
   module _ {rows₀ pool₀ tells₀ rows pool tells : List ℕ} {k from n m : ℕ} (f : Sofar rows₀ pool₀ tells₀ k from n m rows pool tells) where
     -- nothing more is read
-    ends-here : readEach t texts from (drop k ends) n m (drop (n * 4) rows) (drop m pool) (drop (k * 5) tells) ≡ each 0 (drop (n * 4) rows) (drop m pool) (drop (k * 5) tells)
-        → each k rows pool tells ≡ readEach t texts 0 ends 0 0 rows₀ pool₀ tells₀
+    ends-here : read_each t texts from (drop k ends) n m (drop (n * 4) rows) (drop m pool) (drop (k * 5) tells) ≡ each 0 (drop (n * 4) rows) (drop m pool) (drop (k * 5) tells)
+        → each k rows pool tells ≡ read_each t texts 0 ends 0 0 rows₀ pool₀ tells₀
     ends-here e =
         sym (ap (λ (z : Each). glued k (take (n * 4) rows) (take m pool) (take (k * 5) tells) z) e
         ∙ rw (add-zero k, take-append-drop (n * 4) rows, take-append-drop m pool, take-append-drop (k * 5) tells))
         ∙ f.whole
 
-    pub sofar-all : length ends ≤ k → each k rows pool tells ≡ readEach t texts 0 ends 0 0 rows₀ pool₀ tells₀
-    unfolding readEach
+    pub sofar-all : length ends ≤ k → each k rows pool tells ≡ read_each t texts 0 ends 0 0 rows₀ pool₀ tells₀
+    unfolding read_each
     sofar-all l = ends-here (rw (drop_of_length-le ends l))
 
     module _ (l : k < length ends) where
@@ -193,16 +193,16 @@ module _ (t : Table) (texts ends : List ℕ) where
       unfolding next
       next-is = drop-cons ends k 0 l
 
-      pub sofar-untold : length tells / 5 ≤ k → each k rows pool tells ≡ readEach t texts 0 ends 0 0 rows₀ pool₀ tells₀
-      unfolding readEach next
-      sofar-untold h = ends-here (rw next-is (rw (lt-leb 5 (length (drop (k * 5) tells)) (omega (arith, length-drop (k * 5) tells)), readEach)))
+      pub sofar_untold : length tells / 5 ≤ k → each k rows pool tells ≡ read_each t texts 0 ends 0 0 rows₀ pool₀ tells₀
+      unfolding read_each next
+      sofar_untold h = ends-here (rw next-is (rw (lt-leb 5 (length (drop (k * 5) tells)) (omega (arith, length-drop (k * 5) tells)), read_each)))
 
       module _ (room : k < length tells / 5) where
         abbrev pub s : List ℕ
-        s = textFrom texts from (get_or ends k 0)
+        s = text_from texts from (get_or ends k 0)
 
         abbrev pub x : Res Val
-        x = readText t s
+        x = read_text t s
 
         abbrev pub ro : List ℕ
         ro = drop (n * 4) rows
@@ -214,39 +214,39 @@ module _ (t : Table) (texts ends : List ℕ) where
         r = alone t s ro po
 
         -- what comes of the text
-        one-is : readEach t texts from (drop k ends) n m ro po (drop (k * 5) tells)
-            ≡ readOne t x r n m ro po (drop (k * 5) tells) (λ n' m' rows' pool' tells'. readEach t texts (get_or ends k 0) (drop (suc k) ends) n' m' rows' pool' tells')
-        unfolding readEach next
-        one-is = rw next-is (rw (le-leb 5 (length (drop (k * 5) tells)) (omega (arith, length-drop (k * 5) tells)), readEach))
+        one-is : read_each t texts from (drop k ends) n m ro po (drop (k * 5) tells)
+            ≡ read_one t x r n m ro po (drop (k * 5) tells) (λ n' m' rows' pool' tells'. read_each t texts (get_or ends k 0) (drop (suc k) ends) n' m' rows' pool' tells')
+        unfolding read_each next
+        one-is = rw next-is (rw (le-leb 5 (length (drop (k * 5) tells)) (omega (arith, length-drop (k * 5) tells)), read_each))
 
         enough : k * 5 + 5 ≤ length tells
         enough = omega arith
 
         -- it finds no room
-        pub sofar-last : eqb (valuesIn r).number 14 ≡ true → each (k + 1) rows pool (sets tells (k * 5) (told (valuesIn r) n m)) ≡ readEach t texts 0 ends 0 0 rows₀ pool₀ tells₀
+        pub sofar-last : eqb (values_in r).number 14 ≡ true → each (k + 1) rows pool (sets tells (k * 5) (told (values_in r) n m)) ≡ read_each t texts 0 ends 0 0 rows₀ pool₀ tells₀
         unfolding told
         sofar-last h =
-            let line = told (valuesIn r) n m in
+            let line = told (values_in r) n m in
             last-is k (n * 4) m (k * 5) rows pool tells line _ (told_is tells line k refl enough)
             ∙ ap (λ (z : Each). glued k (take (n * 4) rows) (take m pool) (take (k * 5) tells) z) (sym (one-is ∙ no_room t x r n m ro po (drop (k * 5) tells) _ h))
             ∙ f.whole
 
         -- it is answered, and there may be more
-        pub sofar-next : eqb (valuesIn r).number 14 ≡ false → (rows' pool' : List ℕ) → rows' ≡ take (n * 4) rows ++ rowsAfter t ro (length po) x → pool' ≡ take m pool ++ poolAfter t (length ro) po x
-            → Sofar rows₀ pool₀ tells₀ (k + 1) (get_or ends k 0) (n + rowsUsed r) (m + poolUsed r) rows' pool' (sets tells (k * 5) (told (valuesIn r) (n + rowsUsed r) (m + poolUsed r)))
+        pub sofar-next : eqb (values_in r).number 14 ≡ false → (rows' pool' : List ℕ) → rows' ≡ take (n * 4) rows ++ rows_after t ro (length po) x → pool' ≡ take m pool ++ pool_after t (length ro) po x
+            → Sofar rows₀ pool₀ tells₀ (k + 1) (get_or ends k 0) (n + rows_used r) (m + pool_used r) rows' pool' (sets tells (k * 5) (told (values_in r) (n + rows_used r) (m + pool_used r)))
         unfolding told
         sofar-next h rows' pool' p q =
-            let line = told (valuesIn r) (n + rowsUsed r) (m + poolUsed r) in
-            let e : (n + rowsUsed r) * 4 ≡ n * 4 + rowsUsed r * 4 = omega arith in
+            let line = told (values_in r) (n + rows_used r) (m + pool_used r) in
+            let e : (n + rows_used r) * 4 ≡ n * 4 + rows_used r * 4 = omega arith in
             let g : k + 1 ≡ suc k = omega arith in
-            let a = cut (take (n * 4) rows) _ rows' (n * 4) (rowsUsed r * 4) (length-take-le (n * 4) rows f.rowsIn) p in
-            let b = cut (take m pool) _ pool' m (poolUsed r) (length-take-le m pool f.poolIn) q in
+            let a = cut (take (n * 4) rows) _ rows' (n * 4) (rows_used r * 4) (length-take-le (n * 4) rows f.rows_in) p in
+            let b = cut (take m pool) _ pool' m (pool_used r) (length-take-le m pool f.pool_in) q in
             let c = ends_at (take (k * 5) tells ++ line) (drop 5 (drop (k * 5) tells)) (sets tells (k * 5) line) (suc k * 5) (told-length tells line k refl enough) (told_is tells line k refl enough) in
             record {
               few = omega arith;
-              rowsIn = omega (arith, ap length p, length-append (take (n * 4) rows) (rowsAfter t ro (length po) x), length-take-le (n * 4) rows f.rowsIn, rows-there t ro po x);
-              poolIn = omega (arith, ap length q, length-append (take m pool) (poolAfter t (length ro) po x), length-take-le m pool f.poolIn, pool-there t ro po x);
-              toldIn = omega (arith, length-sets tells (k * 5) line);
+              rows_in = omega (arith, ap length p, length-append (take (n * 4) rows) (rows_after t ro (length po) x), length-take-le (n * 4) rows f.rows_in, rows-there t ro po x);
+              pool_in = omega (arith, ap length q, length-append (take m pool) (pool_after t (length ro) po x), length-take-le m pool f.pool_in, pool-there t ro po x);
+              told_in = omega (arith, length-sets tells (k * 5) line);
               whole =
                   rw (e, g, a.0, a.1, b.0, b.1, c.0, c.1)
                   (one_more k (take (n * 4) rows) (take m pool) (take (k * 5) tells) _ _ line _
@@ -266,8 +266,8 @@ five l i a b c d e e₁ e₂ e₃ e₄ e₅ =
     let f₄ : i + 4 ≡ suc (suc (suc (suc i))) = omega arith in
     rw (e₅, e₄, e₃, e₂, e₁, f₄, f₃, f₂, f₁)
 
-pub text-none : (texts : List ℕ) (from end : ℕ) → end < from → take 0 (drop from texts) ≡ textFrom texts from end
-unfolding textFrom
+pub text-none : (texts : List ℕ) (from end : ℕ) → end < from → take 0 (drop from texts) ≡ text_from texts from end
+unfolding text_from
 text-none texts from end h = let e : end - from ≡ 0 = omega arith in rw e
 
 -- ---- a part lent from a place on
@@ -276,105 +276,105 @@ module _ (l : List ℕ) (a : ℕ) where
   pub from_is : take (length l - a) (drop a l) ≡ drop a l
   from_is = take_all (length l - a) (drop a l) (omega (arith, length-drop a l))
 
-  pub put-from : (e : List ℕ) → a ≤ length l → put_mid a (length l - a) l e ≡ take a l ++ e
-  put-from e h = ap (λ (z : List ℕ). take a l ++ (e ++ z)) (drop_of_length-le (drop a l) {i = length l - a} (omega (arith, length-drop a l))) ∙ ap (λ (z : List ℕ). take a l ++ z) (append-nil e)
+  pub put_from : (e : List ℕ) → a ≤ length l → put_mid a (length l - a) l e ≡ take a l ++ e
+  put_from e h = ap (λ (z : List ℕ). take a l ++ (e ++ z)) (drop_of_length-le (drop a l) {i = length l - a} (omega (arith, length-drop a l))) ∙ ap (λ (z : List ℕ). take a l ++ z) (append-nil e)
 
 module _ (t : Table) (s rows pool : List ℕ) (a m : ℕ) {r : Reading} {rows' pool' : List ℕ} (h : a ≤ length rows) (k : m ≤ length pool)
     (c : ReadCall t s (take (length rows - a) (drop a rows)) (take (length pool - m) (drop m pool)) r rows' pool') where
   pub one_answer : r ≡ alone t s (drop a rows) (drop m pool)
   one_answer = rw (from_is rows a, from_is pool m) at c.answer
 
-  pub one-few : (a + rowsUsed r * 4 ≤ length rows) × (m + poolUsed r ≤ length pool)
+  pub one-few : (a + rows_used r * 4 ≤ length rows) × (m + pool_used r ≤ length pool)
   one-few =
-      let x = readText t s in
+      let x = read_text t s in
       let e = rows-there t (drop a rows) (drop m pool) x in
       let f = pool-there t (drop a rows) (drop m pool) x in
       rw one_answer
       (omega (arith, e, length-rows t (drop a rows) (length (drop m pool)) x, length-drop a rows), omega (arith, f, length-pool t (length (drop a rows)) (drop m pool) x, length-drop m pool))
 
-  pub one-rows : put_mid a (length rows - a) rows rows' ≡ take a rows ++ rowsAfter t (drop a rows) (length (drop m pool)) (readText t s)
-  one-rows = put-from rows a rows' h ∙ ap (λ (z : List ℕ). take a rows ++ z) (rw (from_is rows a, from_is pool m) at c.rowsLeft)
+  pub one-rows : put_mid a (length rows - a) rows rows' ≡ take a rows ++ rows_after t (drop a rows) (length (drop m pool)) (read_text t s)
+  one-rows = put_from rows a rows' h ∙ ap (λ (z : List ℕ). take a rows ++ z) (rw (from_is rows a, from_is pool m) at c.rows_left)
 
-  pub one-pool : put_mid m (length pool - m) pool pool' ≡ take m pool ++ poolAfter t (length (drop a rows)) (drop m pool) (readText t s)
-  one-pool = put-from pool m pool' k ∙ ap (λ (z : List ℕ). take m pool ++ z) (rw (from_is rows a, from_is pool m) at c.poolLeft)
+  pub one-pool : put_mid m (length pool - m) pool pool' ≡ take m pool ++ pool_after t (length (drop a rows)) (drop m pool) (read_text t s)
+  one-pool = put_from pool m pool' k ∙ ap (λ (z : List ℕ). take m pool ++ z) (rw (from_is rows a, from_is pool m) at c.pool_left)
 
 -- what the call does, of the lent rows and pool whose parts these are
 pub read-from : (t : Table) (s : List ℕ) (n m : ℕ) {r : Reading} (rows pool : Lent) {rows' pool' : List ℕ} → n * 4 ≤ length (before rows) → m ≤ length (before pool)
     → ReadCall t s (take (length (before rows) - n * 4) (drop (n * 4) (before rows))) (take (length (before pool) - m) (drop m (before pool))) r rows' pool'
     → after rows ≡ put_mid (n * 4) (length (before rows) - n * 4) (before rows) rows' → after pool ≡ put_mid m (length (before pool) - m) (before pool) pool'
-    → n + rowsUsed r < 2 ^ 62 → m + poolUsed r < 2 ^ 64 → ReadFrom t s n m r rows pool
+    → n + rows_used r < 2 ^ 62 → m + pool_used r < 2 ^ 64 → ReadFrom t s n m r rows pool
 read-from t s n m rows pool h k c e f x y = record {
   answer = one_answer t s (before rows) (before pool) (n * 4) m h k c;
-  rowsLeft = e ∙ one-rows t s (before rows) (before pool) (n * 4) m h k c;
-  poolLeft = f ∙ one-pool t s (before rows) (before pool) (n * 4) m h k c;
-  rowsFit = x;
-  poolFit = y;
+  rows_left = e ∙ one-rows t s (before rows) (before pool) (n * 4) m h k c;
+  pool_left = f ∙ one-pool t s (before rows) (before pool) (n * 4) m h k c;
+  rows_fit = x;
+  pool_fit = y;
 }
 
 -- ---- a turn of the loop
 
-no-used : (r : Reading) → eqb (valuesIn r).number 14 ≡ true → (rowsUsed r ≡ 0) × (poolUsed r ≡ 0)
-unfolding valuesIn rowsUsed poolUsed
+no-used : (r : Reading) → eqb (values_in r).number 14 ≡ true → (rows_used r ≡ 0) × (pool_used r ≡ 0)
+unfolding values_in rows_used pool_used
 no-used (reading.Read n m) h = absurd (false≢true h)
 no-used (reading.Refused e) h = (refl, refl)
 
 module _ (t : Table) (texts ends : List ℕ) {rows₀ pool₀ tells₀ tells : List ℕ} {k from n m : ℕ} (rows pool : Lent) (f : Sofar t texts ends rows₀ pool₀ tells₀ k from n m (before rows) (before pool) tells)
-    (l : k < length ends) (room : k < length tells / 5) {s : List ℕ} {end : ℕ} (d : end ≡ get_or ends k 0) (e : s ≡ textFrom texts from end) {r : Reading} (o : ReadFrom t s n m r rows pool)
-    {v : Reported} (w : v ≡ reportedOf (valuesIn r)) {n' m' : ℕ} (g : n' ≡ n + rowsUsed r) (h : m' ≡ m + poolUsed r) {tells' : List ℕ} (z : tells' ≡ sets tells (k * 5) (toldOf v n' m')) where
-  s-is : s ≡ textFrom texts from (get_or ends k 0)
-  s-is = e ∙ ap (textFrom texts from) d
+    (l : k < length ends) (room : k < length tells / 5) {s : List ℕ} {end : ℕ} (d : end ≡ get_or ends k 0) (e : s ≡ text_from texts from end) {r : Reading} (o : ReadFrom t s n m r rows pool)
+    {v : Reported} (w : v ≡ reported_of (values_in r)) {n' m' : ℕ} (g : n' ≡ n + rows_used r) (h : m' ≡ m + pool_used r) {tells' : List ℕ} (z : tells' ≡ sets tells (k * 5) (told_of v n' m')) where
+  s-is : s ≡ text_from texts from (get_or ends k 0)
+  s-is = e ∙ ap (text_from texts from) d
 
-  r-is : r ≡ alone t (textFrom texts from (get_or ends k 0)) (drop (n * 4) (before rows)) (drop m (before pool))
+  r-is : r ≡ alone t (text_from texts from (get_or ends k 0)) (drop (n * 4) (before rows)) (drop m (before pool))
   r-is = o.answer ∙ ap (λ (u : List ℕ). alone t u (drop (n * 4) (before rows)) (drop m (before pool))) s-is
 
-  rows_is : after rows ≡ take (n * 4) (before rows) ++ rowsAfter t (drop (n * 4) (before rows)) (length (drop m (before pool))) (readText t (textFrom texts from (get_or ends k 0)))
-  rows_is = o.rowsLeft ∙ ap (λ (u : List ℕ). take (n * 4) (before rows) ++ rowsAfter t (drop (n * 4) (before rows)) (length (drop m (before pool))) (readText t u)) s-is
+  rows_is : after rows ≡ take (n * 4) (before rows) ++ rows_after t (drop (n * 4) (before rows)) (length (drop m (before pool))) (read_text t (text_from texts from (get_or ends k 0)))
+  rows_is = o.rows_left ∙ ap (λ (u : List ℕ). take (n * 4) (before rows) ++ rows_after t (drop (n * 4) (before rows)) (length (drop m (before pool))) (read_text t u)) s-is
 
-  pool-is : after pool ≡ take m (before pool) ++ poolAfter t (length (drop (n * 4) (before rows))) (drop m (before pool)) (readText t (textFrom texts from (get_or ends k 0)))
-  pool-is = o.poolLeft ∙ ap (λ (u : List ℕ). take m (before pool) ++ poolAfter t (length (drop (n * 4) (before rows))) (drop m (before pool)) (readText t u)) s-is
+  pool-is : after pool ≡ take m (before pool) ++ pool_after t (length (drop (n * 4) (before rows))) (drop m (before pool)) (read_text t (text_from texts from (get_or ends k 0)))
+  pool-is = o.pool_left ∙ ap (λ (u : List ℕ). take m (before pool) ++ pool_after t (length (drop (n * 4) (before rows))) (drop m (before pool)) (read_text t u)) s-is
 
-  tells_is : (q : Reading) → r ≡ q → tells' ≡ sets tells (k * 5) (told (valuesIn q) (n + rowsUsed q) (m + poolUsed q))
+  tells_is : (q : Reading) → r ≡ q → tells' ≡ sets tells (k * 5) (told (values_in q) (n + rows_used q) (m + pool_used q))
   unfolding told
   tells_is q y = z ∙ rw (w, g, h, y)
 
-  told-number : (b : Bool) → eqb v.number 14 ≡ b → eqb (valuesIn (alone t (textFrom texts from (get_or ends k 0)) (drop (n * 4) (before rows)) (drop m (before pool)))).number 14 ≡ b
-  told-number b y = ap (λ (q : Reading). eqb (valuesIn q).number 14) (sym r-is) ∙ ap (λ (q : Reported). eqb q.number 14) (sym w) ∙ y
+  told-number : (b : Bool) → eqb v.number 14 ≡ b → eqb (values_in (alone t (text_from texts from (get_or ends k 0)) (drop (n * 4) (before rows)) (drop m (before pool)))).number 14 ≡ b
+  told-number b y = ap (λ (q : Reading). eqb (values_in q).number 14) (sym r-is) ∙ ap (λ (q : Reported). eqb q.number 14) (sym w) ∙ y
 
-  pub turn_last : v.number ≡ 14 → each (k + 1) (after rows) (after pool) tells' ≡ readEach t texts 0 ends 0 0 rows₀ pool₀ tells₀
+  pub turn_last : v.number ≡ 14 → each (k + 1) (after rows) (after pool) tells' ≡ read_each t texts 0 ends 0 0 rows₀ pool₀ tells₀
   turn_last y =
-      let q = alone t (textFrom texts from (get_or ends k 0)) (drop (n * 4) (before rows)) (drop m (before pool)) in
+      let q = alone t (text_from texts from (get_or ends k 0)) (drop (n * 4) (before rows)) (drop m (before pool)) in
       let c = told-number true (eq-eqb v.number 14 y) in
       let u = no-used q c in
-      let a = rows_is ∙ ap (λ (x : List ℕ). take (n * 4) (before rows) ++ x) (rows-kept t (drop (n * 4) (before rows)) (drop m (before pool)) (readText t (textFrom texts from (get_or ends k 0))) c) ∙ take-append-drop (n * 4) (before rows) in
-      let b = pool-is ∙ ap (λ (x : List ℕ). take m (before pool) ++ x) (pool-kept t (drop (n * 4) (before rows)) (drop m (before pool)) (readText t (textFrom texts from (get_or ends k 0))) c) ∙ take-append-drop m (before pool) in
-      let j : tells' ≡ sets tells (k * 5) (told (valuesIn q) n m) = tells_is q r-is ∙ rw (u.0, u.1, add-zero n, add-zero m) in
+      let a = rows_is ∙ ap (λ (x : List ℕ). take (n * 4) (before rows) ++ x) (rows-kept t (drop (n * 4) (before rows)) (drop m (before pool)) (read_text t (text_from texts from (get_or ends k 0))) c) ∙ take-append-drop (n * 4) (before rows) in
+      let b = pool-is ∙ ap (λ (x : List ℕ). take m (before pool) ++ x) (pool-kept t (drop (n * 4) (before rows)) (drop m (before pool)) (read_text t (text_from texts from (get_or ends k 0))) c) ∙ take-append-drop m (before pool) in
+      let j : tells' ≡ sets tells (k * 5) (told (values_in q) n m) = tells_is q r-is ∙ rw (u.0, u.1, add-zero n, add-zero m) in
       rw (a, b, j) (sofar-last t texts ends f l room c)
 
   pub turn-next : (v.number ≡ 14 → ⊥) → Sofar t texts ends rows₀ pool₀ tells₀ (k + 1) end n' m' (after rows) (after pool) tells'
   turn-next y =
-      let q = alone t (textFrom texts from (get_or ends k 0)) (drop (n * 4) (before rows)) (drop m (before pool)) in
+      let q = alone t (text_from texts from (get_or ends k 0)) (drop (n * 4) (before rows)) (drop m (before pool)) in
       let c = told-number false (ne_eqb v.number 14 y) in
-      let i : n' ≡ n + rowsUsed q = g ∙ ap (λ (p : Reading). n + rowsUsed p) r-is in
-      let j : m' ≡ m + poolUsed q = h ∙ ap (λ (p : Reading). m + poolUsed p) r-is in
+      let i : n' ≡ n + rows_used q = g ∙ ap (λ (p : Reading). n + rows_used p) r-is in
+      let j : m' ≡ m + pool_used q = h ∙ ap (λ (p : Reading). m + pool_used p) r-is in
       rw (d, i, j, tells_is q r-is) (sofar-next t texts ends f l room c (after rows) (after pool) rows_is pool-is)
 
 -- ---- the call
 
 module _ (t : Table) (texts ends rows pool tells : List ℕ) where
-  pub each-bad : {e : Refusal} → judged.Refused e ≡ tableJudged t → EachCall t texts ends rows pool tells (readings.Refused e) rows pool tells
-  unfolding tableJudged eachRead eachAnswer eachLeft bind
+  pub each-bad : {e : Refusal} → judged.Refused e ≡ table_judged t → EachCall t texts ends rows pool tells (readings.Refused e) rows pool tells
+  unfolding table_judged each_read each_answer each_left bind
   each-bad h =
-      let g = table-refused t (goodTable t) h in
-      record { answer = rw g; rowsLeft = rw g; poolLeft = rw g; tellsLeft = rw g }
+      let g = table-refused t (good_table t) h in
+      record { answer = rw g; rows_left = rw g; pool_left = rw g; tells_left = rw g }
 
-  pub each-good : {n : ℕ} {rows' pool' tells' : List ℕ} → judged.Good ≡ tableJudged t → each n rows' pool' tells' ≡ readEach t texts 0 ends 0 0 rows pool tells
+  pub each-good : {n : ℕ} {rows' pool' tells' : List ℕ} → judged.Good ≡ table_judged t → each n rows' pool' tells' ≡ read_each t texts 0 ends 0 0 rows pool tells
       → EachCall t texts ends rows pool tells (readings.Answered n) rows' pool' tells'
-  unfolding eachRead eachAnswer eachLeft bind
+  unfolding each_read each_answer each_left bind
   each-good h e =
       let g = table-ok t h in
       record {
         answer = rw g (ap (λ (z : Each). readings.Answered z.count) e);
-        rowsLeft = rw g (ap (λ (z : Each). z.rows) e);
-        poolLeft = rw g (ap (λ (z : Each). z.pool) e);
-        tellsLeft = rw g (ap (λ (z : Each). z.tells) e);
+        rows_left = rw g (ap (λ (z : Each). z.rows) e);
+        pool_left = rw g (ap (λ (z : Each). z.pool) e);
+        tells_left = rw g (ap (λ (z : Each). z.tells) e);
       }

@@ -3,12 +3,12 @@
 ghost use Rattle.std.specs.Prelude.{◌≡◌, ◌*◌, ◌^◌, ◌≤◌, length, set};
 ghost use Rattle.std.proofs.lemmas.List.Edits.{sets};
 ghost use Rattle.jer.specs.declared.Judged.TheVariants as judged;
-ghost use Rattle.jer.specs.Reports.{reportedOf};
-ghost use Rattle.jer.specs.Contracts.{TableCall};
+ghost use Rattle.jer.specs.Reports.{reported_of};
+ghost use Rattle.jer.specs.CallClauses.{TableCall};
 ghost use Rattle.jer.specs.Table.{table};
-ghost use Rattle.jer.specs.Each.{textFrom, valuesIn, rowsUsed, poolUsed, EachCall};
-ghost use Rattle.slices.specs.Lent.{tableIn, before, after};
-ghost use Rattle.reading.specs.Run.{Ran, ReadFrom, toldOf};
+ghost use Rattle.jer.specs.Each.{text_from, values_in, rows_used, pool_used, EachCall};
+ghost use Rattle.slices.specs.Lent.{table_in, before, after};
+ghost use Rattle.reading.specs.Run.{Ran, ReadFrom, told_of};
 
 use crate::read_good;
 use jer::{Judged, Reading, Readings, Reported, report};
@@ -22,7 +22,7 @@ const NO_ROOM: u32 = 14;
 
 // The text from a place up to its end.
 fn text_from(texts: &[u8], from: usize, end: usize) -> &[u8]
-    ensures { result.now ≡ textFrom texts.now from end }
+    ensures { result.now ≡ text_from texts.now from end }
 {
     if end < from {
         return part(texts, from, 0);
@@ -32,7 +32,7 @@ fn text_from(texts: &[u8], from: usize, end: usize) -> &[u8]
 
 // An answer by its number and amounts.
 fn values_in(r: Reading) -> Reported
-    ensures { result ≡ reportedOf (valuesIn r) }
+    ensures { result ≡ reported_of (values_in r) }
 {
     match r {
         Reading::Refused(e) => report(e),
@@ -46,7 +46,7 @@ fn values_in(r: Reading) -> Reported
 
 // The rows that an answer takes up.
 fn rows_used(r: Reading) -> usize
-    ensures { result ≡ rowsUsed r }
+    ensures { result ≡ rows_used r }
 {
     match r {
         Reading::Refused(_) => 0,
@@ -56,7 +56,7 @@ fn rows_used(r: Reading) -> usize
 
 // Its pool bytes.
 fn pool_used(r: Reading) -> usize
-    ensures { result ≡ poolUsed r }
+    ensures { result ≡ pool_used r }
 {
     match r {
         Reading::Refused(_) => 0,
@@ -76,7 +76,7 @@ fn put(tells: &mut [u64], at: usize, n: u64)
 // Tells of the text k.
 fn tell(tells: &mut [u64], k: usize, v: Reported, rows: usize, pool: usize)
     requires { k ≤ 2 ^ 60 }
-    ensures { (tells.new ≡ sets tells.old (k * 5) (toldOf v rows pool)) × (k ≤ 2 ^ 60) }
+    ensures { (tells.new ≡ sets tells.old (k * 5) (told_of v rows pool)) × (k ≤ 2 ^ 60) }
 {
     let at = k * TOLD;
     put(tells, at, v.number as u64);
@@ -97,7 +97,7 @@ fn one(
     m: usize,
 ) -> Reading
     requires { TableCall (table types.now names.now) judged.Good × (n * 4 ≤ length rows.old) × (m ≤ length pool.old) }
-    ensures { ReadFrom (tableIn types names) (before s) n m result rows pool }
+    ensures { ReadFrom (table_in types names) (before s) n m result rows pool }
 {
     let first = n * 4;
     read_good(types, names, s, &mut rows[first..], &mut pool[m..])
@@ -114,7 +114,7 @@ fn each(
     tells: &mut [u64],
 ) -> usize
     requires { TableCall (table types.now names.now) judged.Good }
-    ensures { Ran (tableIn types names) (before texts) (before ends) rows pool tells result }
+    ensures { Ran (table_in types names) (before texts) (before ends) rows pool tells result }
 {
     let mut k: usize = 0;
     let mut from: usize = 0;

@@ -6,7 +6,7 @@ ghost use Rattle.jer.specs.declared.Judged.TheVariants as judged;
 ghost use Rattle.jer.specs.declared.Limit.TheVariants.{LentRoom};
 ghost use Rattle.jer.specs.declared.Reading.TheVariants as reading;
 ghost use Rattle.jer.specs.declared.Refusal.TheVariants.{Amounts};
-ghost use Rattle.jer.specs.Contracts.{TableCall, TextCall, ReadCall};
+ghost use Rattle.jer.specs.CallClauses.{TableCall, TextCall, ReadCall};
 ghost use Rattle.jer.specs.Table.{table};
 
 use held::outermost;
@@ -65,7 +65,7 @@ fn measured(types: &[u32], names: &[u8], s: &[u8], rows: &mut [u32], pool: &mut 
         p,
         0,
         0,
-        json::BRACKETS,
+        json_text::BRACKETS,
     ) {
         Step::Refused(e) => Reading::Refused(e),
         Step::Read(_, n, m) => {
@@ -75,7 +75,7 @@ fn measured(types: &[u32], names: &[u8], s: &[u8], rows: &mut [u32], pool: &mut 
             if pool.len() < m {
                 return needed(n, m);
             }
-            value(types, names, s, rows, pool, 0, p, 0, 0, json::BRACKETS);
+            value(types, names, s, rows, pool, 0, p, 0, 0, json_text::BRACKETS);
             Reading::Read { rows: n, pool: m }
         }
     }

@@ -10,12 +10,12 @@ use Rattle.jer.specs.declared.Cause.TheVariants.{UnknownName, RepeatedName}
 use Rattle.jer.specs.declared.Refusal.TheVariants.{AtByte}
 use Rattle.jer.specs.Table.{Table, extensible, position}
 use Rattle.tokens.specs.Strings.{denoted}
-use Rattle.tokens.specs.Skip.{pastValue}
+use Rattle.tokens.specs.Skip.{past_value}
 use Rattle.places.specs.declared.Follows.{Follows}
 use Rattle.places.specs.declared.Follows.TheVariants.{Part, Shut}
 use Rattle.places.specs.declared.Ended.TheVariants.{Closed, Stopped}
 use Rattle.places.specs.declared.Scanned.{Scanned}
-use Rattle.places.specs.ByPlaces.{followsAt, afterPart, firstPart, bit_of, withBit, valuePlace, scanned, scanAt, noPlaces}
+use Rattle.places.specs.ByPlaces.{follows_at, after_part, first_part, bit_of, with_bit, value_place, scanned, scan_at, no_places}
 use Rattle.scan.proofs.WithinLaws.{value-onward}
 use Rattle.scan.proofs.PartLaws.{first-inside, after-inside}
 use Rattle.scan.proofs.NameLaws.{place-ahead}
@@ -32,11 +32,11 @@ Enough s k (Shut q) = Unit {0}
 
 -- what follows the value of the name at q
 abbrev pub beyond : ℕ → List ℕ → ℕ → Follows
-beyond d s q = afterPart s (pastValue d s (valuePlace s q))
+beyond d s q = after_part s (past_value d s (value_place s q))
 
 module _ (d : ℕ) (s : List ℕ) (q : ℕ) where
   beyond-inside : (n : ℕ) → beyond d s q ≡ Part n → (q < n) × (n ≤ length s)
-  beyond-inside n e = omega (arith, after-inside s (pastValue d s (valuePlace s q)) n e, value-onward s (valuePlace s q) d, place-ahead s q)
+  beyond-inside n e = omega (arith, after-inside s (past_value d s (value_place s q)) n e, value-onward s (value_place s q) d, place-ahead s q)
 
   -- with one name less
   beyond-enough : (k : ℕ) → length s ≤ k + q → (f : Follows) → f ≡ beyond d s q → Enough s k f
@@ -53,49 +53,49 @@ module _ (d : ℕ) (t : Table) (s : List ℕ) (r : ℕ) where
   pub record Loop (X : Scanned) (f : Follows) (met : ℕ) (places : List ℕ) : Type 0 where
     pub k : ℕ
     pub enough : Enough s k f
-    pub inv : scanAt d t s r k f met places ≡ X
+    pub inv : scan_at d t s r k f met places ≡ X
 
   -- and from the name at q on
   pub record Turn (X : Scanned) (q met : ℕ) (places : List ℕ) : Type 0 where
     pub k : ℕ
     pub within : q ≤ length s
     pub enough : length s ≤ k + q
-    pub inv : scanAt d t s r (suc k) (Part q) met places ≡ X
+    pub inv : scan_at d t s r (suc k) (Part q) met places ≡ X
 
-  pub loop-start : (c p : ℕ) (f : Follows) → p < length s → f ≡ firstPart s c p → Loop (scanAt d t s r (length s) (firstPart s c p) 0 noPlaces) f 0 noPlaces
-  loop-start c p (Part q) l e = record { k = length s; enough = omega (arith, first-inside s c p q l (sym e)); inv = rw e }
-  loop-start c p (Shut q) l e = record { k = length s; enough = tt; inv = rw e }
+  pub loop_start : (c p : ℕ) (f : Follows) → p < length s → f ≡ first_part s c p → Loop (scan_at d t s r (length s) (first_part s c p) 0 no_places) f 0 no_places
+  loop_start c p (Part q) l e = record { k = length s; enough = omega (arith, first-inside s c p q l (sym e)); inv = rw e }
+  loop_start c p (Shut q) l e = record { k = length s; enough = tt; inv = rw e }
 
   module _ {X : Scanned} {f : Follows} {met : ℕ} {places : List ℕ} (w : Loop X f met places) where
-    pub loop-shut : {q : ℕ} → f ≡ Shut q → scanned (Closed q) met places ≡ X
-    unfolding scanAt followsAt
-    loop-shut {q} e = go w.k (rw e at w.inv)
+    pub loop_shut : {q : ℕ} → f ≡ Shut q → scanned (Closed q) met places ≡ X
+    unfolding scan_at follows_at
+    loop_shut {q} e = go w.k (rw e at w.inv)
       where
-        go : (k : ℕ) → scanAt d t s r k (Shut q) met places ≡ X → scanned (Closed q) met places ≡ X
+        go : (k : ℕ) → scan_at d t s r k (Shut q) met places ≡ X → scanned (Closed q) met places ≡ X
         go zero h = h
         go (suc k) h = h
 
-    pub loop-turn : {q : ℕ} → f ≡ Part q → Turn X q met places
-    loop-turn {q} e = go w.k (subst (λ (g : Follows). Enough s w.k g) e w.enough) (rw e at w.inv)
+    pub loop_turn : {q : ℕ} → f ≡ Part q → Turn X q met places
+    loop_turn {q} e = go w.k (subst (λ (g : Follows). Enough s w.k g) e w.enough) (rw e at w.inv)
       where
-        go : (k : ℕ) → Enough s k (Part q) → scanAt d t s r k (Part q) met places ≡ X → Turn X q met places
+        go : (k : ℕ) → Enough s k (Part q) → scan_at d t s r k (Part q) met places ≡ X → Turn X q met places
         go zero h i = absurd (omega arith)
         go (suc k) h i = record { k = k; within = h.0; enough = omega arith; inv = i }
 
   module _ {X : Scanned} {q met : ℕ} {places : List ℕ} (w : Turn X q met places) where
     pub turn-unknown : position t r (denoted s (q + 1)) ≡ none → extensible t r ≡ false → scanned (Stopped (AtByte UnknownName q)) met places ≡ X
-    unfolding scanAt
-    turn-unknown e x = rw x at (rw (e, scanAt) at w.inv)
+    unfolding scan_at
+    turn-unknown e x = rw x at (rw (e, scan_at) at w.inv)
 
-    pub turn-repeated : {i : ℕ} → position t r (denoted s (q + 1)) ≡ some i → bit_of met i ≡ true → scanned (Stopped (AtByte RepeatedName q)) met places ≡ X
-    unfolding scanAt
-    turn-repeated e x = rw x at (rw (e, scanAt) at w.inv)
+    pub turn_repeated : {i : ℕ} → position t r (denoted s (q + 1)) ≡ some i → bit_of met i ≡ true → scanned (Stopped (AtByte RepeatedName q)) met places ≡ X
+    unfolding scan_at
+    turn_repeated e x = rw x at (rw (e, scan_at) at w.inv)
 
     module _ {f : Follows} (n : f ≡ beyond d s q) where
       pub turn-skipped : position t r (denoted s (q + 1)) ≡ none → extensible t r ≡ true → Loop X f met places
-      unfolding scanAt
-      turn-skipped e x = record { k = w.k; enough = beyond-enough d s q w.k w.enough f n; inv = rw n (rw x at (rw (e, scanAt) at w.inv)) }
+      unfolding scan_at
+      turn-skipped e x = record { k = w.k; enough = beyond-enough d s q w.k w.enough f n; inv = rw n (rw x at (rw (e, scan_at) at w.inv)) }
 
-      pub turn-known : {i k v m : ℕ} → position t r (denoted s (q + 1)) ≡ some i → bit_of met i ≡ false → m ≡ withBit met i → k ≡ i → v ≡ valuePlace s q → Loop X f m (set places k v)
-      unfolding scanAt
-      turn-known e x a b c = record { k = w.k; enough = beyond-enough d s q w.k w.enough f n; inv = rw (n, a, b, c) (rw x at (rw (e, scanAt) at w.inv)) }
+      pub turn-known : {i k v m : ℕ} → position t r (denoted s (q + 1)) ≡ some i → bit_of met i ≡ false → m ≡ with_bit met i → k ≡ i → v ≡ value_place s q → Loop X f m (set places k v)
+      unfolding scan_at
+      turn-known e x a b c = record { k = w.k; enough = beyond-enough d s q w.k w.enough f n; inv = rw (n, a, b, c) (rw x at (rw (e, scan_at) at w.inv)) }

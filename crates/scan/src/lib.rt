@@ -5,8 +5,8 @@ pub mod names; // names.rt: the position of a name, and the value after it
 pub mod parts; // parts.rt: what stands at a place, and what follows a part of a bracket
 
 ghost use Rattle.std.specs.Prelude.{◌≡◌, ◌≤◌, ◌<◌, length};
-ghost use Rattle.jer.specs.Table.{countOf, table};
-ghost use Rattle.places.specs.ByPlaces.{firstPart, scanAt, noPlaces};
+ghost use Rattle.jer.specs.Table.{count_of, table};
+ghost use Rattle.places.specs.ByPlaces.{first_part, scan_at, no_places};
 
 use jer::{Cause, Refusal};
 use met::{bit, with};
@@ -19,8 +19,8 @@ use types::token::Found;
 
 // The names, in text order, of the object whose opening bracket stands at p and in whose values `depth` brackets may be open.
 pub fn scan(types: &[u32], names: &[u8], s: &[u8], row: usize, p: usize, depth: u32) -> Scanned
-    requires { (length s.now ≤ 65536) × (p < length s.now) × (countOf (table types.now names.now) row ≤ 64) }
-    ensures { result ≡ scanAt depth (table types.now names.now) s.now row (length s.now) (firstPart s.now 0x7D p) 0 noPlaces }
+    requires { (length s.now ≤ 65536) × (p < length s.now) × (count_of (table types.now names.now) row ≤ 64) }
+    ensures { result ≡ scan_at depth (table types.now names.now) s.now row (length s.now) (first_part s.now 0x7D p) 0 no_places }
 {
     let extensible = Row::at(types, row).extensible();
     let mut places = [0u32; 64];

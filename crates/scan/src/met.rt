@@ -2,7 +2,7 @@
 // 01, Reading: "One 64-bit number records which members were met, and its ones are counted against the members known."
 ghost use Rattle.std.specs.Prelude.{◌≡◌, ◌<◌};
 ghost use Rattle.std.specs.Int.Count.{ones};
-ghost use Rattle.places.specs.ByPlaces.{bit_of, withBit};
+ghost use Rattle.places.specs.ByPlaces.{bit_of, with_bit};
 
 pub fn bit(met: u64, k: u32) -> bool
     requires { k < 64 }
@@ -13,7 +13,7 @@ pub fn bit(met: u64, k: u32) -> bool
 
 pub fn with(met: u64, k: u32) -> u64
     requires { k < 64 }
-    ensures { result ≡ withBit met k }
+    ensures { result ≡ with_bit met k }
 {
     met | (1 << k)
 }

@@ -1,10 +1,10 @@
 // The name of a member at a place: its position in the type, and where its value stands.
 ghost use Rattle.std.specs.Prelude.{◌≡◌, ◌+◌, ◌<◌, ◌≤◌, length};
-ghost use Rattle.jer.specs.Table.{nameIn, sameBytes, position, table};
-ghost use Rattle.types.specs.Rows.{foundOf};
+ghost use Rattle.jer.specs.Table.{name_in, same_bytes, position, table};
+ghost use Rattle.types.specs.Rows.{found_of};
 ghost use Rattle.tokens.specs.declared.strings.Piece.TheVariants.{Bare};
 ghost use Rattle.tokens.specs.Strings.{piece_at, denoted};
-ghost use Rattle.places.specs.ByPlaces.{valuePlace};
+ghost use Rattle.places.specs.ByPlaces.{value_place};
 
 use tokens::cursor::Cursor;
 use tokens::strings::{first_differs, plain_first, same, string_end};
@@ -14,7 +14,7 @@ use types::token::Found;
 // The value of the member whose name stands at q.
 pub fn value_place(s: &[u8], q: usize) -> usize
     requires { (length s.now ≤ 65536) × (q ≤ 65536) }
-    ensures { (result ≡ valuePlace s.now q) × (result ≤ 65538) }
+    ensures { (result ≡ value_place s.now q) × (result ≤ 65538) }
 {
     let name = Cursor {
         at: string_end(s, q + 1),
@@ -26,7 +26,7 @@ pub fn value_place(s: &[u8], q: usize) -> usize
 // Whether the name in the member's row m is the string at p, whose plain first byte is b, or 256 for none: it is compared first.
 fn has_name(types: &[u32], names: &[u8], s: &[u8], m: usize, p: usize, b: u32) -> bool
     requires { (length s.now ≤ 65536) × (b < 256 → Bare b ≡ piece_at s.now p) }
-    ensures { result ≡ sameBytes (nameIn (table types.now names.now) m) (denoted s.now p) }
+    ensures { result ≡ same_bytes (name_in (table types.now names.now) m) (denoted s.now p) }
 {
     let start = name_start(types, m);
     if first_differs(names, start, b) {
@@ -38,7 +38,7 @@ fn has_name(types: &[u32], names: &[u8], s: &[u8], m: usize, p: usize, b: u32) -
 // The position, in the type at `row`, of the member whose name stands at q.
 pub fn position(types: &[u32], names: &[u8], s: &[u8], row: usize, q: usize) -> Found
     requires { (length s.now ≤ 65536) × (q ≤ 65536) }
-    ensures { result ≡ foundOf (position (table types.now names.now) row (denoted s.now (q + 1))) }
+    ensures { result ≡ found_of (position (table types.now names.now) row (denoted s.now (q + 1))) }
 {
     let first = first_of(types, row);
     let count = count_of(types, row);

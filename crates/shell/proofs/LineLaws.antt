@@ -8,10 +8,10 @@ use lib.ListN.{length, take, drop}
 use lib.Seq.{sets, sets-eq, take_at, drop-drop}
 use Rattle.jer.specs.Octets.{also}
 use Rattle.jer.specs.Answer.{values}
-use Rattle.jer.specs.Programs.{lineFrom, line_at, numbersIn, refusalLine, withLine}
-use Rattle.lines.specs.Taken.{numbersLine, taken_of, after}
+use Rattle.jer.specs.Programs.{line_from, line_at, numbers_in, refusal_line, with_line}
+use Rattle.lines.specs.Taken.{numbers_line, taken_of, after}
 use Rattle.lines.specs.declared.taken.Taken.TheVariants as taken
-use Rattle.lines.proofs.TakenLaws.{line-rest, octets-few, numbers-few}
+use Rattle.lines.proofs.TakenLaws.{line_rest, octets-few, numbers-few}
 
 -- ---- what taking a line answered
 
@@ -26,7 +26,7 @@ module _ (s : List ℕ) (at : ℕ) where
     pub xs : List ℕ
     pub is : o ≡ some xs
     pub count : length xs ≡ n
-    pub next : p ≡ at + length (lineFrom (drop at s)).bytes + 1
+    pub next : p ≡ at + length (line_from (drop at s)).bytes + 1
 
   given : (o : Option (List ℕ)) {n p : ℕ} → taken.Line n p ≡ taken_of s at o → Given o n p
   unfolding taken_of
@@ -34,11 +34,11 @@ module _ (s : List ℕ) (at : ℕ) where
   given (some xs) e = record { xs = xs; is = refl; count = cc; next = cc }
 
   module _ {o : Option (List ℕ)} {n p : ℕ} (g : Given o n p) where
-    given-rest : drop p s ≡ (lineFrom (drop at s)).rest
+    given-rest : drop p s ≡ (line_from (drop at s)).rest
     given-rest =
-        let k = length (lineFrom (drop at s)).bytes in
+        let k = length (line_from (drop at s)).bytes in
         let e : p ≡ at + suc k = omega (arith, g.next) in
-        ap (λ (j : ℕ). drop j s) e ∙ sym (drop-drop (suc k) at s) ∙ line-rest (drop at s)
+        ap (λ (j : ℕ). drop j s) e ∙ sym (drop-drop (suc k) at s) ∙ line_rest (drop at s)
 
     given-first : (out : List ℕ) {m : List ℕ} → m ≡ after out o → length g.xs ≤ length out → take n m ≡ g.xs
     unfolding after
@@ -50,46 +50,46 @@ module _ (s : List ℕ) (at : ℕ) where
 -- ---- what is printed for it
 
 module _ (i n : ℕ) (l : List ℕ) (f : List ℕ → List ℕ → List ℕ) where
-  with-bad : line_at n l ≡ none → refusalLine (values 15 i 0) ≡ withLine i n l f
-  unfolding withLine
-  with-bad e = rw (e, withLine)
+  with_bad : line_at n l ≡ none → refusal_line (values 15 i 0) ≡ with_line i n l f
+  unfolding with_line
+  with_bad e = rw (e, with_line)
 
-  with-good : {os : List ℕ} → line_at n l ≡ some os → f os (lineFrom l).rest ≡ withLine i n l f
-  unfolding withLine
-  with-good e = rw (e, withLine)
+  with_good : {os : List ℕ} → line_at n l ≡ some os → f os (line_from l).rest ≡ with_line i n l f
+  unfolding with_line
+  with_good e = rw (e, with_line)
 
 module _ (i : ℕ) (s : List ℕ) (at : ℕ) (f : List ℕ → List ℕ → List ℕ) where
-  pub octets-refused : taken.Bad ≡ taken_of s at (line_at 1 (drop at s)) → refusalLine (values 15 i 0) ≡ withLine i 1 (drop at s) f
-  octets-refused e = with-bad i 1 (drop at s) f (is_none s at (line_at 1 (drop at s)) e)
+  pub octets-refused : taken.Bad ≡ taken_of s at (line_at 1 (drop at s)) → refusal_line (values 15 i 0) ≡ with_line i 1 (drop at s) f
+  octets-refused e = with_bad i 1 (drop at s) f (is_none s at (line_at 1 (drop at s)) e)
 
   pub octets-given : (out : List ℕ) {m : List ℕ} {n p : ℕ} → 8192 ≤ length out → taken.Line n p ≡ taken_of s at (line_at 1 (drop at s)) → m ≡ after out (line_at 1 (drop at s))
-      → f (take n m) (drop p s) ≡ withLine i 1 (drop at s) f
+      → f (take n m) (drop p s) ≡ with_line i 1 (drop at s) f
   octets-given out h e k =
       let g = given s at (line_at 1 (drop at s)) e in
-      rw (given-first s at g out k (omega (arith, octets-few 1 (drop at s) g.is)), given-rest s at g) (with-good i 1 (drop at s) f g.is)
+      rw (given-first s at g out k (omega (arith, octets-few 1 (drop at s) g.is)), given-rest s at g) (with_good i 1 (drop at s) f g.is)
 
   -- numbers of eight digits
   abbrev counted : List ℕ → List ℕ → List ℕ
-  counted os rest = f (numbersIn os) rest
+  counted os rest = f (numbers_in os) rest
 
-  numbers_of : (o : Option (List ℕ)) (xs : List ℕ) → also o (λ os. some (numbersIn os)) ≡ some xs → (os : List ℕ) × (o ≡ some os) × (numbersIn os ≡ xs)
+  numbers_of : (o : Option (List ℕ)) (xs : List ℕ) → also o (λ os. some (numbers_in os)) ≡ some xs → (os : List ℕ) × (o ≡ some os) × (numbers_in os ≡ xs)
   unfolding also
   numbers_of none xs e = absurd (let z : ◌≡◌ {A = ℕ} 0 1 = cc in omega arith)
   numbers_of (some os) xs e = (os, refl, cc)
 
-  none_of : (o : Option (List ℕ)) → also o (λ os. some (numbersIn os)) ≡ none → o ≡ none
+  none_of : (o : Option (List ℕ)) → also o (λ os. some (numbers_in os)) ≡ none → o ≡ none
   unfolding also
   none_of none e = refl
   none_of (some os) e = absurd (let z : ◌≡◌ {A = ℕ} 0 1 = cc in omega arith)
 
-  pub numbers-refused : taken.Bad ≡ taken_of s at (numbersLine (drop at s)) → refusalLine (values 15 i 0) ≡ withLine i 4 (drop at s) (λ os rest. f (numbersIn os) rest)
-  unfolding numbersLine
-  numbers-refused e = with-bad i 4 (drop at s) counted (none_of (line_at 4 (drop at s)) (is_none s at (numbersLine (drop at s)) e))
+  pub numbers-refused : taken.Bad ≡ taken_of s at (numbers_line (drop at s)) → refusal_line (values 15 i 0) ≡ with_line i 4 (drop at s) (λ os rest. f (numbers_in os) rest)
+  unfolding numbers_line
+  numbers-refused e = with_bad i 4 (drop at s) counted (none_of (line_at 4 (drop at s)) (is_none s at (numbers_line (drop at s)) e))
 
-  pub numbers-given : (out : List ℕ) {m : List ℕ} {n p : ℕ} → 2048 ≤ length out → taken.Line n p ≡ taken_of s at (numbersLine (drop at s)) → m ≡ after out (numbersLine (drop at s))
-      → f (take n m) (drop p s) ≡ withLine i 4 (drop at s) (λ os rest. f (numbersIn os) rest)
-  unfolding numbersLine
+  pub numbers-given : (out : List ℕ) {m : List ℕ} {n p : ℕ} → 2048 ≤ length out → taken.Line n p ≡ taken_of s at (numbers_line (drop at s)) → m ≡ after out (numbers_line (drop at s))
+      → f (take n m) (drop p s) ≡ with_line i 4 (drop at s) (λ os rest. f (numbers_in os) rest)
+  unfolding numbers_line
   numbers-given out h e k =
-      let g = given s at (numbersLine (drop at s)) e in
+      let g = given s at (numbers_line (drop at s)) e in
       let w = numbers_of (line_at 4 (drop at s)) g.xs g.is in
-      rw (given-first s at g out k (omega (arith, numbers-few (drop at s) g.is)), given-rest s at g, ← w.2) (with-good i 4 (drop at s) counted w.1)
+      rw (given-first s at g out k (omega (arith, numbers-few (drop at s) g.is)), given-rest s at g, ← w.2) (with_good i 4 (drop at s) counted w.1)

@@ -1,6 +1,6 @@
 // `jerread`, line by line: type table, names, text.
 ghost use Rattle.std.specs.Prelude.{drop};
-ghost use Rattle.jer.specs.Programs.{readShown, readThird, readSecond, jerread};
+ghost use Rattle.jer.specs.Programs.{read_shown, read_third, read_second, jerread};
 ghost use Rattle.lines.specs.Shown.{Shows};
 
 use lines::shown::{put_bad_line, put_reading};
@@ -9,7 +9,7 @@ use slices::part;
 
 // What is printed of a text. 4,096 rows and 16,384 pool bytes are lent.
 fn show(types: &[u32], names: &[u8], text: &[u8], out: &mut [u8]) -> usize
-    ensures { Shows (readShown types.now names.now text.now) 0 out.old result out.new }
+    ensures { Shows (read_shown types.now names.now text.now) 0 out.old result out.new }
 {
     let mut rows = [0u32; 16384];
     let mut pool = [0u8; 16384];
@@ -19,7 +19,7 @@ fn show(types: &[u32], names: &[u8], text: &[u8], out: &mut [u8]) -> usize
 
 // From the third line on, which begins at p.
 fn third(types: &[u32], names: &[u8], s: &[u8], p: usize, out: &mut [u8]) -> usize
-    ensures { Shows (readThird types.now names.now (drop p s.now)) 0 out.old result out.new }
+    ensures { Shows (read_third types.now names.now (drop p s.now)) 0 out.old result out.new }
 {
     let mut text = [0u8; 8192];
     let Taken::Line(n, _) = octets_line(s, p, &mut text) else {
@@ -30,7 +30,7 @@ fn third(types: &[u32], names: &[u8], s: &[u8], p: usize, out: &mut [u8]) -> usi
 
 // From the second line on, which begins at p.
 fn second(types: &[u32], s: &[u8], p: usize, out: &mut [u8]) -> usize
-    ensures { Shows (readSecond types.now (drop p s.now)) 0 out.old result out.new }
+    ensures { Shows (read_second types.now (drop p s.now)) 0 out.old result out.new }
 {
     let mut names = [0u8; 8192];
     let Taken::Line(n, q) = octets_line(s, p, &mut names) else {

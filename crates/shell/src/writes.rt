@@ -1,6 +1,6 @@
 // `jerwrite`, line by line: type table, names, value rows, pool.
 ghost use Rattle.std.specs.Prelude.{drop};
-ghost use Rattle.jer.specs.Programs.{writeShown, writeFourth, writeThird, writeSecond, jerwrite};
+ghost use Rattle.jer.specs.Programs.{write_shown, write_fourth, write_third, write_second, jerwrite};
 ghost use Rattle.lines.specs.Shown.{Shows};
 
 use lines::shown::{put_bad_line, put_writing};
@@ -9,7 +9,7 @@ use slices::part;
 
 // What is printed of a value table. 65,536 bytes of text are lent.
 fn show(types: &[u32], names: &[u8], values: &[u32], pool: &[u8], out: &mut [u8]) -> usize
-    ensures { Shows (writeShown types.now names.now values.now pool.now) 0 out.old result out.new }
+    ensures { Shows (write_shown types.now names.now values.now pool.now) 0 out.old result out.new }
 {
     let mut text = [0u8; 65536];
     let w = writing::write(types, names, values, pool, &mut text);
@@ -18,7 +18,7 @@ fn show(types: &[u32], names: &[u8], values: &[u32], pool: &[u8], out: &mut [u8]
 
 // From the fourth line on, which begins at p.
 fn fourth(types: &[u32], names: &[u8], values: &[u32], s: &[u8], p: usize, out: &mut [u8]) -> usize
-    ensures { Shows (writeFourth types.now names.now values.now (drop p s.now)) 0 out.old result out.new }
+    ensures { Shows (write_fourth types.now names.now values.now (drop p s.now)) 0 out.old result out.new }
 {
     let mut pool = [0u8; 8192];
     let Taken::Line(n, _) = octets_line(s, p, &mut pool) else {
@@ -29,7 +29,7 @@ fn fourth(types: &[u32], names: &[u8], values: &[u32], s: &[u8], p: usize, out: 
 
 // From the third line on, which begins at p.
 fn third(types: &[u32], names: &[u8], s: &[u8], p: usize, out: &mut [u8]) -> usize
-    ensures { Shows (writeThird types.now names.now (drop p s.now)) 0 out.old result out.new }
+    ensures { Shows (write_third types.now names.now (drop p s.now)) 0 out.old result out.new }
 {
     let mut values = [0u32; 2048];
     let Taken::Line(n, q) = numbers_line(s, p, &mut values) else {
@@ -40,7 +40,7 @@ fn third(types: &[u32], names: &[u8], s: &[u8], p: usize, out: &mut [u8]) -> usi
 
 // From the second line on, which begins at p.
 fn second(types: &[u32], s: &[u8], p: usize, out: &mut [u8]) -> usize
-    ensures { Shows (writeSecond types.now (drop p s.now)) 0 out.old result out.new }
+    ensures { Shows (write_second types.now (drop p s.now)) 0 out.old result out.new }
 {
     let mut names = [0u8; 8192];
     let Taken::Line(n, q) = octets_line(s, p, &mut names) else {

@@ -21,19 +21,19 @@ byte_past s p h = get_or-eq_default s 256 {n = p} h
 -- ---- a part
 
 module _ (s : List ℕ) (at n : ℕ) where
-  pub part-past : length s ≤ at → [] ≡ take n (drop at s)
-  part-past h = rw (drop_of_length-le s h) (sym (take-nil n))
+  pub part_past : length s ≤ at → [] ≡ take n (drop at s)
+  part_past h = rw (drop_of_length-le s h) (sym (take-nil n))
 
   pub part_none : length s ≤ at → take (length s - length s) (drop (length s) s) ≡ take n (drop at s)
   part_none h = rw (drop-length s, drop_of_length-le s h, take-nil (length s - length s), take-nil n)
 
-  pub part-rest : length s - at ≤ n → take (length s - at) (drop at s) ≡ take n (drop at s)
-  part-rest h =
+  pub part_rest : length s - at ≤ n → take (length s - at) (drop at s) ≡ take n (drop at s)
+  part_rest h =
       take_all (length s - at) (drop at s) (omega (arith, length-drop at s))
       ∙ sym (take_all n (drop at s) (omega (arith, length-drop at s)))
 
-  pub part-whole : take (at + n - at) (drop at s) ≡ take n (drop at s)
-  part-whole = let g : at + n - at ≡ n = omega arith in rw g
+  pub part_whole : take (at + n - at) (drop at s) ≡ take n (drop at s)
+  part_whole = let g : at + n - at ≡ n = omega arith in rw g
 
 -- ---- runs of stores
 
@@ -43,6 +43,6 @@ sets-one l i x j h = rw (drop-cons x j 0 h, add-one j, add-suc i j)
 pub sets-done : (l : List ℕ) (i : ℕ) (x : List ℕ) (j : ℕ) → length x ≤ j → l ≡ sets l (i + j) (drop j x)
 sets-done l i x j h = rw (drop_of_length-le x h)
 
-pub sets-append : (l : List ℕ) (i : ℕ) (xs ys : List ℕ) → sets l i (xs ++ ys) ≡ sets (sets l i xs) (i + length xs) ys
-sets-append l i [] ys = ap (λ (k : ℕ). sets l k ys) (sym (add-zero i))
-sets-append l i (x ∷ xs) ys = sets-append (set l i x) (suc i) xs ys ∙ ap (λ (k : ℕ). sets (sets (set l i x) (suc i) xs) k ys) (let e : suc i + length xs ≡ i + suc (length xs) = omega arith in e)
+pub sets_append : (l : List ℕ) (i : ℕ) (xs ys : List ℕ) → sets l i (xs ++ ys) ≡ sets (sets l i xs) (i + length xs) ys
+sets_append l i [] ys = ap (λ (k : ℕ). sets l k ys) (sym (add-zero i))
+sets_append l i (x ∷ xs) ys = sets_append (set l i x) (suc i) xs ys ∙ ap (λ (k : ℕ). sets (sets (set l i x) (suc i) xs) k ys) (let e : suc i + length xs ≡ i + suc (length xs) = omega arith in e)

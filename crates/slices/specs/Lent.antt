@@ -14,5 +14,5 @@ abbrev pub after : Lent → List ℕ
 after x = x.exit.now
 
 -- the type table whose rows and names are lent
-abbrev pub tableIn : Lent → Lent → Table
-tableIn types names = table (before types) (before names)
+abbrev pub table_in : Lent → Lent → Table
+table_in types names = table (before types) (before names)

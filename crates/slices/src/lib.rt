@@ -1,7 +1,7 @@
 // Slices, said once for all crates: the byte at a place, a part of one, and stores that past the end do nothing; the value of a hexadecimal digit.
 ghost use Rattle.std.specs.Prelude.{◌≡◌, ◌+◌, ◌≤◌, length, get_or, take, drop, set};
 ghost use Rattle.std.proofs.lemmas.List.Edits.{sets};
-ghost use Rattle.slices.specs.Digit.{digitOf};
+ghost use Rattle.slices.specs.Digit.{digit_of};
 
 // The byte at a place, or 256 past the end.
 pub fn byte_at(s: &[u8], p: usize) -> u32
@@ -59,7 +59,7 @@ pub fn put_number(s: &mut [u32], at: usize, n: u32)
 
 // A hexadecimal digit's value, 16 for any other byte.
 pub fn digit(b: u32) -> u32
-    ensures { (result ≡ digitOf b) × (result ≤ 16) }
+    ensures { (result ≡ digit_of b) × (result ≤ 16) }
 {
     match b {
         0x30..=0x39 => b - 0x30,

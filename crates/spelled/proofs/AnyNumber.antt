@@ -5,16 +5,16 @@ use mathlib.Core.List.{List, [], ◌∷◌, ◌++◌, append-nil, append_assoc}
 use mathlib.Core.Bool.{true, false}
 use native.Mathlib.Omega.{arith}
 use lib.ListN.{length, get_or}
-use Rattle.json.specs.Tree.{Json, jint, jreal}
-use Rattle.json.specs.Grammar as grammar
-use Rattle.json.specs.Grammar.{Digits, lastDigit, moreDigits, Onward, stop, onward, nought, from, Power, Value}
+use Rattle.json_text.specs.Tree.{Json, jint, jreal}
+use Rattle.json_text.specs.Grammar as grammar
+use Rattle.json_text.specs.Grammar.{Digits, last_digit, more_digits, Onward, stop, onward, nought, from, Power, Value}
 use Rattle.tokens.specs.Places.{byte_at}
 use Rattle.tokens.proofs.PlaceLaws.{byte_inside}
 use Rattle.tokens.proofs.TiePlace.{past-length}
 use Rattle.spelled.specs.Stretch.{Stretch, Passed, ValueAt}
-use Rattle.spelled.specs.Number.{SomeOnward, SomeWhole, SomeSigned, Dotted, noDot, dot, Raised, bare, plus, minus, Powered, noPower, some}
-use Rattle.spelled.proofs.StretchLaws.{Exactly, stretch-none, stretch-as, stretch-join, stretch-more, byte-here, passed}
-use Rattle.spelled.proofs.NumberLaws.{onward-snoc}
+use Rattle.spelled.specs.Number.{SomeOnward, SomeWhole, SomeSigned, Dotted, no_dot, dot, Raised, bare, plus, minus, Powered, no_power, some}
+use Rattle.spelled.proofs.StretchLaws.{Exactly, stretch-none, stretch_as, stretch_join, stretch-more, byte_here, passed}
+use Rattle.spelled.proofs.NumberLaws.{onward_snoc}
 
 -- ---- digits
 
@@ -23,12 +23,12 @@ digits-none s p m = stretch-none (SomeOnward m) s p (record { number = m; onward
 
 pub digits_more : (s : List ℕ) (p q m : ℕ) → Stretch (SomeOnward m) s p q → q < length s → 0x30 ≤ get_or s q 0 → get_or s q 0 ≤ 0x39 → Stretch (SomeOnward m) s p (q + 1)
 digits_more s p q m k l g h =
-    stretch-more (SomeOnward m) (SomeOnward m) s p q (get_or s q 0) (λ xs o. record { number = o.number * 10 + (get_or s q 0 - 0x30); onward = onward-snoc o.onward (g, h) }) k l refl (omega arith)
+    stretch-more (SomeOnward m) (SomeOnward m) s p q (get_or s q 0) (λ xs o. record { number = o.number * 10 + (get_or s q 0 - 0x30); onward = onward_snoc o.onward (g, h) }) k l refl (omega arith)
 
 onward-digits : {m n : ℕ} {bs : List ℕ} → Onward m n bs → 0 < length bs → Digits bs
 onward-digits stop l = absurd (omega arith)
-onward-digits (onward h stop) l = lastDigit h
-onward-digits (onward h (onward g o)) l = moreDigits h (onward-digits (onward g o) (omega arith))
+onward-digits (onward h stop) l = last_digit h
+onward-digits (onward h (onward g o)) l = more_digits h (onward-digits (onward g o) (omega arith))
 
 pub digits-some : (s : List ℕ) (p q : ℕ) → Stretch (SomeOnward 0) s p q → p ≤ q → (q ≡ p → ⊥) → Passed Digits s p q
 digits-some s p q k l n =
@@ -43,63 +43,63 @@ module _ (s : List ℕ) (p : ℕ) (l : p < length s) where
   pub some-nought : get_or s p 0 ≡ 0x30 → Passed SomeWhole s p (p + 1)
   some-nought h =
       passed SomeWhole s p (p + 1)
-      (stretch-as (Exactly (0x30 ∷ [])) SomeWhole s p (p + 1) (λ xs e. rw e (record { number = 0; whole = nought })) (byte-here s p 0x30 (sym (byte_inside s p l) ∙ h) (omega arith))) (omega arith)
+      (stretch_as (Exactly (0x30 ∷ [])) SomeWhole s p (p + 1) (λ xs e. rw e (record { number = 0; whole = nought })) (byte_here s p 0x30 (sym (byte_inside s p l) ∙ h) (omega arith))) (omega arith)
 
   pub some-from : (q : ℕ) → 0x31 ≤ get_or s p 0 → get_or s p 0 ≤ 0x39 → ((m : ℕ) → Stretch (SomeOnward m) s (p + 1) q) → p + 1 ≤ q → Passed SomeWhole s p q
   some-from q g h k w =
       let b = get_or s p 0 in
       passed SomeWhole s p q
-      (stretch-join (Exactly (b ∷ [])) (SomeOnward (b - 0x30)) SomeWhole s p (p + 1) q (λ xs ys e o. rw e (record { number = o.number; whole = from (g, h) o.onward }))
-      (byte-here s p b (sym (byte_inside s p l)) (omega arith)) (k (b - 0x30))) (omega arith)
+      (stretch_join (Exactly (b ∷ [])) (SomeOnward (b - 0x30)) SomeWhole s p (p + 1) q (λ xs ys e o. rw e (record { number = o.number; whole = from (g, h) o.onward }))
+      (byte_here s p b (sym (byte_inside s p l)) (omega arith)) (k (b - 0x30))) (omega arith)
 
 pub signed-bare : (s : List ℕ) (p q : ℕ) → Passed SomeWhole s p q → Passed SomeSigned s p q
 signed-bare s p q k =
-    passed SomeSigned s p q (stretch-as SomeWhole SomeSigned s p q (λ xs w. record { minus = false; number = w.number; signed = grammar.bare w.whole }) k.stretch) k.ahead
+    passed SomeSigned s p q (stretch_as SomeWhole SomeSigned s p q (λ xs w. record { minus = false; number = w.number; signed = grammar.bare w.whole }) k.stretch) k.ahead
 
 -- a byte before the rest
-pub byte-before : (R T : List ℕ → Type 0) (s : List ℕ) (p q b c : ℕ) → ((xs : List ℕ) → R xs → T (c ∷ xs)) → b ≡ byte_at s p → b ≡ c → c < 256 → Passed R s (p + 1) q → Passed T s p q
-byte-before R T s p q b c f e g l k =
-    passed T s p q (stretch-join (Exactly (c ∷ [])) R T s p (p + 1) q (λ xs ys h w. rw h (f ys w)) (byte-here s p c (sym e ∙ g) l) k.stretch) (omega (arith, k.ahead))
+pub byte_before : (R T : List ℕ → Type 0) (s : List ℕ) (p q b c : ℕ) → ((xs : List ℕ) → R xs → T (c ∷ xs)) → b ≡ byte_at s p → b ≡ c → c < 256 → Passed R s (p + 1) q → Passed T s p q
+byte_before R T s p q b c f e g l k =
+    passed T s p q (stretch_join (Exactly (c ∷ [])) R T s p (p + 1) q (λ xs ys h w. rw h (f ys w)) (byte_here s p c (sym e ∙ g) l) k.stretch) (omega (arith, k.ahead))
 
 pub signed-minus : (s : List ℕ) (p q b : ℕ) → b ≡ byte_at s p → b ≡ 0x2D → Passed SomeWhole s (p + 1) q → Passed SomeSigned s p q
 signed-minus s p q b e g k =
-    byte-before SomeWhole SomeSigned s p q b 0x2D (λ xs w. record { minus = true; number = w.number; signed = grammar.minus w.whole }) e g (omega arith) k
+    byte_before SomeWhole SomeSigned s p q b 0x2D (λ xs w. record { minus = true; number = w.number; signed = grammar.minus w.whole }) e g (omega arith) k
 
 -- ---- fraction and exponent
 
-pub dotted-none : (s : List ℕ) (p : ℕ) → Stretch Dotted s p p
-dotted-none s p = stretch-none Dotted s p noDot
+pub dotted_none : (s : List ℕ) (p : ℕ) → Stretch Dotted s p p
+dotted_none s p = stretch-none Dotted s p no_dot
 
-pub dotted-some : (s : List ℕ) (p q b : ℕ) → b ≡ byte_at s p → b ≡ 0x2E → Passed Digits s (p + 1) q → Stretch Dotted s p q
-dotted-some s p q b e g k = (byte-before Digits Dotted s p q b 0x2E (λ xs d. dot d) e g (omega arith) k).stretch
+pub dotted_some : (s : List ℕ) (p q b : ℕ) → b ≡ byte_at s p → b ≡ 0x2E → Passed Digits s (p + 1) q → Stretch Dotted s p q
+dotted_some s p q b e g k = (byte_before Digits Dotted s p q b 0x2E (λ xs d. dot d) e g (omega arith) k).stretch
 
 pub raised-plus : (s : List ℕ) (p q b : ℕ) → b ≡ byte_at s p → b ≡ 0x2B → Passed Digits s (p + 1) q → Passed Raised s p q
-raised-plus s p q b e g k = byte-before Digits Raised s p q b 0x2B (λ xs d. plus d) e g (omega arith) k
+raised-plus s p q b e g k = byte_before Digits Raised s p q b 0x2B (λ xs d. plus d) e g (omega arith) k
 
 pub raised-minus : (s : List ℕ) (p q b : ℕ) → b ≡ byte_at s p → b ≡ 0x2D → Passed Digits s (p + 1) q → Passed Raised s p q
-raised-minus s p q b e g k = byte-before Digits Raised s p q b 0x2D (λ xs d. minus d) e g (omega arith) k
+raised-minus s p q b e g k = byte_before Digits Raised s p q b 0x2D (λ xs d. minus d) e g (omega arith) k
 
 pub raised-bare : (s : List ℕ) (p q : ℕ) → Passed Digits s p q → Passed Raised s p q
-raised-bare s p q k = passed Raised s p q (stretch-as Digits Raised s p q (λ xs d. bare d) k.stretch) k.ahead
+raised-bare s p q k = passed Raised s p q (stretch_as Digits Raised s p q (λ xs d. bare d) k.stretch) k.ahead
 
 pub power-none : (s : List ℕ) (p : ℕ) → Stretch Powered s p p
-power-none s p = stretch-none Powered s p noPower
+power-none s p = stretch-none Powered s p no_power
 
 small : {xs : List ℕ} → Raised xs → Power (0x65 ∷ xs)
 small (bare d) = grammar.small d
-small (plus d) = grammar.smallPlus d
-small (minus d) = grammar.smallMinus d
+small (plus d) = grammar.small_plus d
+small (minus d) = grammar.small_minus d
 
 large : {xs : List ℕ} → Raised xs → Power (0x45 ∷ xs)
 large (bare d) = grammar.large d
-large (plus d) = grammar.largePlus d
-large (minus d) = grammar.largeMinus d
+large (plus d) = grammar.large_plus d
+large (minus d) = grammar.large_minus d
 
 pub power_small : (s : List ℕ) (p q b : ℕ) → b ≡ byte_at s p → b ≡ 0x65 → Passed Raised s (p + 1) q → Stretch Powered s p q
-power_small s p q b e g k = (byte-before Raised Powered s p q b 0x65 (λ xs d. some (small d)) e g (omega arith) k).stretch
+power_small s p q b e g k = (byte_before Raised Powered s p q b 0x65 (λ xs d. some (small d)) e g (omega arith) k).stretch
 
 pub power-large : (s : List ℕ) (p q b : ℕ) → b ≡ byte_at s p → b ≡ 0x45 → Passed Raised s (p + 1) q → Stretch Powered s p q
-power-large s p q b e g k = (byte-before Raised Powered s p q b 0x45 (λ xs d. some (large d)) e g (omega arith) k).stretch
+power-large s p q b e g k = (byte_before Raised Powered s p q b 0x45 (λ xs d. some (large d)) e g (omega arith) k).stretch
 
 -- ---- the number
 
@@ -108,18 +108,18 @@ record Numeric (d p : ℕ) (bs : List ℕ) : Type 0 where
   value : Value d p tree bs
 
 numeric : {xs ys zs : List ℕ} (d p : ℕ) → SomeSigned xs → Dotted ys → Powered zs → Numeric d p ((xs ++ ys) ++ zs)
-numeric {xs} d p k noDot noPower = rw (append-nil, append-nil) (record { tree = jint p k.minus k.number; value = grammar.whole k.signed })
-numeric {xs} d p k noDot (some w) = rw append-nil (record { tree = jreal p; value = grammar.real k.signed (grammar.power w) refl })
-numeric {xs} d p k (dot h) noPower = rw append-nil (record { tree = jreal p; value = grammar.real k.signed (grammar.fraction h) refl })
+numeric {xs} d p k no_dot no_power = rw (append-nil, append-nil) (record { tree = jint p k.minus k.number; value = grammar.whole k.signed })
+numeric {xs} d p k no_dot (some w) = rw append-nil (record { tree = jreal p; value = grammar.real k.signed (grammar.power w) refl })
+numeric {xs} d p k (dot h) no_power = rw append-nil (record { tree = jreal p; value = grammar.real k.signed (grammar.fraction h) refl })
 numeric {xs} d p k (dot h) (some w) = rw append_assoc (record { tree = jreal p; value = grammar.real k.signed (grammar.both h w refl) refl })
 
 pub number-here : (s : List ℕ) (d p q f r : ℕ) → Passed SomeSigned s p q → Stretch Dotted s q f → Stretch Powered s f r → ValueAt d s p r
 number-here s d p q f r k x y =
-    let a : Stretch (λ bs. bs ≡ k.stretch.bytes ++ x.bytes) s p f = stretch-join (λ bs. bs ≡ k.stretch.bytes) (λ bs. bs ≡ x.bytes) (λ bs. bs ≡ k.stretch.bytes ++ x.bytes) s p q f (λ xs ys g h. rw (g, h))
+    let a : Stretch (λ bs. bs ≡ k.stretch.bytes ++ x.bytes) s p f = stretch_join (λ bs. bs ≡ k.stretch.bytes) (λ bs. bs ≡ x.bytes) (λ bs. bs ≡ k.stretch.bytes ++ x.bytes) s p q f (λ xs ys g h. rw (g, h))
     (record { bytes = k.stretch.bytes; holds = refl; text = k.stretch.text; end = k.stretch.end }) (record { bytes = x.bytes; holds = refl; text = x.text; end = x.end }) in
     let n = numeric d p k.stretch.holds x.holds y.holds in
     let st : Stretch (Value d p n.tree) s p r =
-    stretch-join (λ bs. bs ≡ k.stretch.bytes ++ x.bytes) (λ bs. bs ≡ y.bytes) (Value d p n.tree) s p f r (λ xs ys g h. rw (g, h) n.value) a
+    stretch_join (λ bs. bs ≡ k.stretch.bytes ++ x.bytes) (λ bs. bs ≡ y.bytes) (Value d p n.tree) s p f r (λ xs ys g h. rw (g, h) n.value) a
     (record { bytes = y.bytes; holds = refl; text = y.text; end = y.end }) in
     let i = past-length q x.bytes in
     let j = past-length f y.bytes in

@@ -7,15 +7,15 @@ use native.Mathlib.Omega.{arith}
 use borrow.Author.Tests.{leb-true, leb-false, lt-ltb, le-ltb}
 use lib.Dec.{leb}
 use lib.ListN.{length, get_or}
-use Rattle.json.specs.Bytes.{In}
-use Rattle.json.specs.Utf8.{encode, Wide, two, threeE0, threeE1, threeED, threeEE, fourF0, fourF1, fourF4}
-use Rattle.json.specs.Grammar as grammar
-use Rattle.json.specs.Grammar.{Hex, digit, upper, lower, four, Escape, paired, Char, escape, unit, pair}
+use Rattle.json_text.specs.Bytes.{In}
+use Rattle.json_text.specs.Utf8.{encode, Wide, two, three_e0, three_e1, three_eD, three_eE, four_f0, four_f1, four_f4}
+use Rattle.json_text.specs.Grammar as grammar
+use Rattle.json_text.specs.Grammar.{Hex, digit, upper, lower, four, Escape, paired, Char, escape, unit, pair}
 use Rattle.tokens.specs.Places.{byte_at}
 use Rattle.tokens.proofs.PlaceLaws.{byte_inside}
 use Rattle.spelled.specs.Stretch.{Stretch, Passed}
 use Rattle.spelled.specs.Leaves.{Letter, Coded, coded, CharAt}
-use Rattle.spelled.proofs.StretchLaws.{Exactly, Bytes, stretch-as, stretch-join, bytes-here, passed}
+use Rattle.spelled.proofs.StretchLaws.{Exactly, Bytes, stretch_as, stretch_join, bytes-here, passed}
 
 pub false-true : {A : Type 0} → false ≡ true → A
 false-true e = absurd (let z : ◌≡◌ {A = ℕ} 0 1 = cc in omega arith)
@@ -27,31 +27,31 @@ true-false e = let z : ◌≡◌ {A = ℕ} 0 1 = cc in omega arith
 
 module _ (a b c : ℕ) (i : In 0x80 0xBF b) (j : In 0x80 0xBF c) where
   pub three-low : a ≡ 0xE0 → 0xA0 ≤ b → Wide (a ∷ b ∷ c ∷ [])
-  three-low e h = rw e (threeE0 (h, i.1) j)
+  three-low e h = rw e (three_e0 (h, i.1) j)
 
   pub three-high : a ≡ 0xED → b ≤ 0x9F → Wide (a ∷ b ∷ c ∷ [])
-  three-high e h = rw e (threeED (i.0, h) j)
+  three-high e h = rw e (three_eD (i.0, h) j)
 
   pub three-other : 0xE0 ≤ a → a ≤ 0xEF → (a ≡ 0xE0 → ⊥) → (a ≡ 0xED → ⊥) → Wide (a ∷ b ∷ c ∷ [])
   three-other l h x y = go (leb a 0xEC) refl
     where
       go : (t : Bool) → leb a 0xEC ≡ t → Wide (a ∷ b ∷ c ∷ [])
-      go true e = threeE1 {a = a} (omega arith, leb-true a 0xEC e) i j
-      go false e = let g = leb-false a 0xEC e in threeEE {a = a} (omega arith, h) i j
+      go true e = three_e1 {a = a} (omega arith, leb-true a 0xEC e) i j
+      go false e = let g = leb-false a 0xEC e in three_eE {a = a} (omega arith, h) i j
 
   module _ (d : ℕ) (k : In 0x80 0xBF d) where
     pub four_low : a ≡ 0xF0 → 0x90 ≤ b → Wide (a ∷ b ∷ c ∷ d ∷ [])
-    four_low e h = rw e (fourF0 (h, i.1) j k)
+    four_low e h = rw e (four_f0 (h, i.1) j k)
 
     pub four-high : a ≡ 0xF4 → b ≤ 0x8F → Wide (a ∷ b ∷ c ∷ d ∷ [])
-    four-high e h = rw e (fourF4 (i.0, h) j k)
+    four-high e h = rw e (four_f4 (i.0, h) j k)
 
     pub four-other : 0xF0 ≤ a → (a ≡ 0xF0 → ⊥) → a < 0xF4 → Wide (a ∷ b ∷ c ∷ d ∷ [])
-    four-other l x h = fourF1 {a = a} (omega arith, omega arith) i j k
+    four-other l x h = four_f1 {a = a} (omega arith, omega arith) i j k
 
 pub wide-here : (s : List ℕ) (p x : ℕ) (xs : List ℕ) → byte_at s p ≡ x → x < 256 → Bytes s p 1 xs → Wide (x ∷ xs) → Passed Wide s p (p + suc (length xs))
 wide-here s p x xs e l h w =
-    passed Wide s p (p + suc (length xs)) (stretch-as (Exactly (x ∷ xs)) Wide s p (p + suc (length xs)) (λ ys i. rw i w) (bytes-here s p x xs e l h)) (omega arith)
+    passed Wide s p (p + suc (length xs)) (stretch_as (Exactly (x ∷ xs)) Wide s p (p + suc (length xs)) (λ ys i. rw i w) (bytes-here s p x xs e l h)) (omega arith)
 
 pub wide-two : (a b : ℕ) → 0xC2 ≤ a → a < 0xE0 → In 0x80 0xBF b → Wide (a ∷ b ∷ [])
 wide-two a b l h i = two (l, omega arith) i
@@ -69,7 +69,7 @@ unit-here s p i j k l n e f a b c d =
     let x : ℕ = ((i * 16 + j) * 16 + k) * 16 + l in
     let at : (q : ℕ) → q < length s → byte_at s q ≡ get_or s q 0 = λ q m. sym (byte_inside s q m) in
     passed (Coded x) s p (p + 6)
-    (stretch-as (Exactly (0x5C ∷ 0x75 ∷ get_or s (p + 2) 0 ∷ get_or s (p + 3) 0 ∷ get_or s (p + 4) 0 ∷ get_or s (p + 5) 0 ∷ [])) (Coded x) s p (p + 6) (λ ys g. rw g (coded (four a b c d refl)))
+    (stretch_as (Exactly (0x5C ∷ 0x75 ∷ get_or s (p + 2) 0 ∷ get_or s (p + 3) 0 ∷ get_or s (p + 4) 0 ∷ get_or s (p + 5) 0 ∷ [])) (Coded x) s p (p + 6) (λ ys g. rw g (coded (four a b c d refl)))
     (bytes-here s p 0x5C (0x75 ∷ get_or s (p + 2) 0 ∷ get_or s (p + 3) 0 ∷ get_or s (p + 4) 0 ∷ get_or s (p + 5) 0 ∷ []) (at p (omega arith) ∙ e) (omega arith)
     (at (p + 1) (omega arith) ∙ f, omega arith, (at (p + 2) (omega arith), hex-small a, (at (p + 3) (omega arith), hex-small b, (at (p + 4) (omega arith), hex-small c, (at (p + 5) (omega arith), hex-small d, tt)))))))
     (omega arith)
@@ -109,9 +109,9 @@ letter-small grammar.quote = omega arith
 letter-small grammar.backslash = omega arith
 letter-small grammar.slash = omega arith
 letter-small grammar.backspace = omega arith
-letter-small grammar.formFeed = omega arith
-letter-small grammar.lineFeed = omega arith
-letter-small grammar.carriageReturn = omega arith
+letter-small grammar.form_feed = omega arith
+letter-small grammar.line_feed = omega arith
+letter-small grammar.carriage_return = omega arith
 letter-small grammar.tabulation = omega arith
 
 pub letter-not : {b : ℕ} → Letter b → b ≡ 256 → ⊥
@@ -121,7 +121,7 @@ pub escape-letter : (s : List ℕ) (p b : ℕ) → byte_at s p ≡ 0x5C → b �
 escape-letter s p b e f k =
     let c = k.char in
     found s (c ∷ []) p (p + 2) 1
-    (stretch-as (Exactly (0x5C ∷ b ∷ [])) (Char (c ∷ [])) s p (p + 2) (λ ys g. rw g (escape k.escape)) (bytes-here s p 0x5C (b ∷ []) e (omega arith) (sym f, letter-small k.escape, tt)))
+    (stretch_as (Exactly (0x5C ∷ b ∷ [])) (Char (c ∷ [])) s p (p + 2) (λ ys g. rw g (escape k.escape)) (bytes-here s p 0x5C (b ∷ []) e (omega arith) (sym f, letter-small k.escape, tt)))
     refl (omega arith) (omega arith)
 
 unit-char : {x : ℕ} {bs : List ℕ} → (In 0xD800 0xDFFF x → ⊥) → Coded x bs → Char (encode x) bs
@@ -131,11 +131,11 @@ pair-char : {x y : ℕ} {xs ys : List ℕ} → In 0xD800 0xDBFF x → In 0xDC00 
 pair-char i j (coded f) (coded g) = pair f i g j refl refl
 
 pub escape-unit : (s : List ℕ) (p x n : ℕ) → Passed (Coded x) s p (p + 6) → (In 0xD800 0xDFFF x → ⊥) → n ≡ length (encode x) → 0 < n → n ≤ 3 → Found s p (p + 6) n
-escape-unit s p x n k h e l m = found s (encode x) p (p + 6) n (stretch-as (Coded x) (Char (encode x)) s p (p + 6) (λ ys i. unit-char h i) k.stretch) e (omega arith) l
+escape-unit s p x n k h e l m = found s (encode x) p (p + 6) n (stretch_as (Coded x) (Char (encode x)) s p (p + 6) (λ ys i. unit-char h i) k.stretch) e (omega arith) l
 
 pub escape-pair : (s : List ℕ) (p x y : ℕ) → Passed (Coded x) s p (p + 6) → In 0xD800 0xDBFF x → Passed (Coded y) s (p + 6) (p + 6 + 6) → In 0xDC00 0xDFFF y → Found s p (p + 12) 4
 escape-pair s p x y k i l j =
     let e : p + 6 + 6 ≡ p + 12 = omega arith in
     let m : Passed (Coded y) s (p + 6) (p + 12) = rw (← e) l in
     found s (encode (paired x y)) p (p + 12) 4
-    (stretch-join (Coded x) (Coded y) (Char (encode (paired x y))) s p (p + 6) (p + 12) (λ xs ys a b. pair-char i j a b) k.stretch m.stretch) (pair-four x y) (omega arith) (omega arith)
+    (stretch_join (Coded x) (Coded y) (Char (encode (paired x y))) s p (p + 6) (p + 12) (λ xs ys a b. pair-char i j a b) k.stretch m.stretch) (pair-four x y) (omega arith) (omega arith)

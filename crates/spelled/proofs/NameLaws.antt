@@ -9,28 +9,28 @@ use borrow.Author.Tests.{leb-true, leb-false}
 use lib.Dec.{leb}
 use lib.ListN.{length, get_or, take, drop, length-drop}
 use lib.Seq.{length-take-le}
-use Rattle.jer.specs.Table.{Table, table, field, first_of, countOf, memberRow, name_at, nameIn, sameBytes, position}
-use Rattle.types.proofs.RowLaws.{name_in}
-use Rattle.jer.proofs.ValidLaws.{sameBytes-eq, sameBytes-refl, position_some, position-none}
+use Rattle.jer.specs.Table.{Table, table, field, first_of, count_of, member_row, name_at, name_in, same_bytes, position}
+use Rattle.types.proofs.RowLaws.{name_in_lem}
+use Rattle.jer.proofs.ValidLaws.{same_bytes-eq, same_bytes-refl, position_some, position-none}
 use Rattle.spelled.specs.Names.{Unlike, Among, PositionIs, FoundAmong}
 
 true-not : {A : Type 0} → true ≡ false → A
 true-not e = absurd (let z : ◌≡◌ {A = ℕ} 0 1 = cc in omega arith)
 
 -- names of different lengths differ
-pub name-other : (s : List ℕ) (p n : ℕ) (x : List ℕ) → p + n ≤ length s → (length x ≡ n → ⊥) → false ≡ sameBytes x (take n (drop p s))
-name-other s p n x l d = go (sameBytes x (take n (drop p s))) refl
+pub name-other : (s : List ℕ) (p n : ℕ) (x : List ℕ) → p + n ≤ length s → (length x ≡ n → ⊥) → false ≡ same_bytes x (take n (drop p s))
+name-other s p n x l d = go (same_bytes x (take n (drop p s))) refl
   where
-    go : (b : Bool) → sameBytes x (take n (drop p s)) ≡ b → false ≡ b
+    go : (b : Bool) → same_bytes x (take n (drop p s)) ≡ b → false ≡ b
     go true e =
-        let f = ap (length {A = ℕ}) (sameBytes-eq x (take n (drop p s)) e) in
+        let f = ap (length {A = ℕ}) (same_bytes-eq x (take n (drop p s)) e) in
         absurd (d (f ∙ length-take-le n (drop p s) (omega (arith, length-drop p s))))
     go false e = refl
 
-pub name-same : (s : List ℕ) (p n : ℕ) (x y : List ℕ) {b : Bool} → b ≡ sameBytes x (take (length x) (drop p s)) → length x ≡ n → x ≡ y → b ≡ sameBytes y (take n (drop p s))
+pub name-same : (s : List ℕ) (p n : ℕ) (x y : List ℕ) {b : Bool} → b ≡ same_bytes x (take (length x) (drop p s)) → length x ≡ n → x ≡ y → b ≡ same_bytes y (take n (drop p s))
 name-same s p n x y e f g = rw (← g, ← f) e
 
-pub row-of : (t : Table) (first k : ℕ) (x : List ℕ) {w : ℕ} {b : Bool} → w ≡ k → b ≡ sameBytes (nameIn t (first + w)) x → b ≡ sameBytes (nameIn t (first + k)) x
+pub row-of : (t : Table) (first k : ℕ) (x : List ℕ) {w : ℕ} {b : Bool} → w ≡ k → b ≡ same_bytes (name_in t (first + w)) x → b ≡ same_bytes (name_in t (first + k)) x
 row-of t first k x e f = rw (← e) f
 
 -- the name in the row m has another length, where row and name end inside
@@ -38,49 +38,49 @@ pub name-unlike : (types names : List ℕ) (m n : ℕ) {start len : ℕ} → sta
 unfolding field
 name-unlike types names m n {start} {len} a b h d s p l =
     let e = length-take-le len (drop start names) (omega (arith, length-drop start names)) in
-    let f : take len (drop start names) ≡ nameIn (table types names) m = name_in types names m a b refl in
-    sym (name-other s p n (take len (drop start names)) l (λ g. d (sym e ∙ g)) ∙ ap (λ (y : List ℕ). sameBytes y (take n (drop p s))) f)
+    let f : take len (drop start names) ≡ name_in (table types names) m = name_in_lem types names m a b refl in
+    sym (name-other s p n (take len (drop start names)) l (λ g. d (sym e ∙ g)) ∙ ap (λ (y : List ℕ). same_bytes y (take n (drop p s))) f)
 
 -- ---- one member after another
 
-pub among_next : (t : Table) (first k : ℕ) (x : List ℕ) → ((i : ℕ) → i < k → sameBytes (nameIn t (first + i)) x ≡ false) → sameBytes (nameIn t (first + k)) x ≡ false
-    → (i : ℕ) → i < k + 1 → sameBytes (nameIn t (first + i)) x ≡ false
+pub among_next : (t : Table) (first k : ℕ) (x : List ℕ) → ((i : ℕ) → i < k → same_bytes (name_in t (first + i)) x ≡ false) → same_bytes (name_in t (first + k)) x ≡ false
+    → (i : ℕ) → i < k + 1 → same_bytes (name_in t (first + i)) x ≡ false
 among_next t first k x h e i l = go (leb k i) refl
   where
-    go : (b : Bool) → leb k i ≡ b → sameBytes (nameIn t (first + i)) x ≡ false
+    go : (b : Bool) → leb k i ≡ b → same_bytes (name_in t (first + i)) x ≡ false
     go true r = let u : i ≡ k = omega (arith, leb-true k i r) in rw u e
     go false r = h i (leb-false k i r)
 
 -- ---- the position
 
-name-at : (t : Table) (r i : ℕ) → name_at t r i ≡ nameIn t (first_of t r + i)
-unfolding name_at memberRow
+name-at : (t : Table) (r i : ℕ) → name_at t r i ≡ name_in t (first_of t r + i)
+unfolding name_at member_row
 name-at t r i = refl
 
 -- a member that has the name is the one, if names differ
-pub found_here : (t : Table) (first count k : ℕ) (x : List ℕ) → k < count → sameBytes (nameIn t (first + k)) x ≡ true → FoundAmong t first count x k
+pub found_here : (t : Table) (first count k : ℕ) (x : List ℕ) → k < count → same_bytes (name_in t (first + k)) x ≡ true → FoundAmong t first count x k
 found_here t first count k x l e r f c d = record { known = λ h. go (position t r x) refl; unknown = λ h. absurd (omega arith) }
   where
-    has : sameBytes (name_at t r k) x ≡ true
+    has : same_bytes (name_at t r k) x ≡ true
     has = rw (name-at t r k, ← f) e
 
     named : name_at t r k ≡ x
-    named = sameBytes-eq (name_at t r k) x has
+    named = same_bytes-eq (name_at t r k) x has
 
-    same : (j : ℕ) → name_at t r j ≡ x → sameBytes (name_at t r j) (name_at t r k) ≡ true
-    same j g = rw (g ∙ sym named) (sameBytes-refl (name_at t r k))
+    same : (j : ℕ) → name_at t r j ≡ x → same_bytes (name_at t r j) (name_at t r k) ≡ true
+    same j g = rw (g ∙ sym named) (same_bytes-refl (name_at t r k))
 
-    same' : (j : ℕ) → name_at t r j ≡ x → sameBytes (name_at t r k) (name_at t r j) ≡ true
-    same' j g = rw (g ∙ sym named) (sameBytes-refl (name_at t r k))
+    same' : (j : ℕ) → name_at t r j ≡ x → same_bytes (name_at t r k) (name_at t r j) ≡ true
+    same' j g = rw (g ∙ sym named) (same_bytes-refl (name_at t r k))
 
-    pick : (j : ℕ) → j < countOf t r → name_at t r j ≡ x → (a b : Bool) → leb j k ≡ a → leb k j ≡ b → j ≡ k
+    pick : (j : ℕ) → j < count_of t r → name_at t r j ≡ x → (a b : Bool) → leb j k ≡ a → leb k j ≡ b → j ≡ k
     pick j m g true true u v = omega (arith, leb-true j k u, leb-true k j v)
     pick j m g true false u v = true-not (sym (same j g) ∙ d j k (leb-false k j v) (omega arith))
     pick j m g false b u v = true-not (sym (same' j g) ∙ d k j (leb-false j k u) m)
 
     go : (o : Option ℕ) → position t r x ≡ o → o ≡ some k
     go none u = true-not (sym has ∙ position-none t r x u k (omega arith))
-    go (some j) u = let w = position_some t r x j u in ap some (pick j w.0 (sameBytes-eq (name_at t r j) x w.1) (leb j k) (leb k j) refl refl)
+    go (some j) u = let w = position_some t r x j u in ap some (pick j w.0 (same_bytes-eq (name_at t r j) x w.1) (leb j k) (leb k j) refl refl)
 
 -- so is the first that has it; with none the name is unknown
 pub found_among : (t : Table) (first count k : ℕ) (x : List ℕ) → k ≤ count → Among t first count x k → FoundAmong t first count x k

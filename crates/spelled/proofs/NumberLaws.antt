@@ -7,29 +7,29 @@ use native.Mathlib.Nat.{add-zero}
 use native.Mathlib.Omega.{arith}
 use borrow.Author.Tests.{lt-ltb, le-leb}
 use lib.ListN.{length, get_or}
-use Rattle.json.specs.Bytes.{In}
-use Rattle.json.specs.Grammar.{Onward, stop, onward, Whole, nought, from, Signed, bare, minus}
-use Rattle.jer.specs.Value.{vInt}
+use Rattle.json_text.specs.Bytes.{In}
+use Rattle.json_text.specs.Grammar.{Onward, stop, onward, Whole, nought, from, Signed, bare, minus}
+use Rattle.jer.specs.Value.{v_int}
 use Rattle.jer.specs.Answer.{ok}
-use Rattle.jer.specs.Read.{readInt}
+use Rattle.jer.specs.Read.{read_int}
 use Rattle.tokens.specs.Places.{byte_at}
 use Rattle.tokens.proofs.PlaceLaws.{byte_inside}
 use Rattle.spelled.specs.Stretch.{Stretch, Passed}
 use Rattle.spelled.specs.Leaves.{IntegerAt}
-use Rattle.spelled.proofs.StretchLaws.{Exactly, stretch-none, stretch-as, stretch-join, stretch-more, byte-here, passed}
+use Rattle.spelled.proofs.StretchLaws.{Exactly, stretch-none, stretch_as, stretch_join, stretch-more, byte_here, passed}
 
 -- ---- digits
 
-pub onward-snoc : {m n b : ℕ} {bs : List ℕ} → Onward m n bs → In 0x30 0x39 b → Onward m (n * 10 + (b - 0x30)) (bs ++ (b ∷ []))
-onward-snoc stop i = onward i stop
-onward-snoc (onward h o) i = onward h (onward-snoc o i)
+pub onward_snoc : {m n b : ℕ} {bs : List ℕ} → Onward m n bs → In 0x30 0x39 b → Onward m (n * 10 + (b - 0x30)) (bs ++ (b ∷ []))
+onward_snoc stop i = onward i stop
+onward_snoc (onward h o) i = onward h (onward_snoc o i)
 
-pub onto-none : (s : List ℕ) (p m : ℕ) → Stretch (Onward m m) s p p
-onto-none s p m = stretch-none (Onward m m) s p stop
+pub onto_none : (s : List ℕ) (p m : ℕ) → Stretch (Onward m m) s p p
+onto_none s p m = stretch-none (Onward m m) s p stop
 
-pub onto-more : (s : List ℕ) (p q m n b : ℕ) → Stretch (Onward m n) s p q → q < length s → b ≡ get_or s q 0 → 0x30 ≤ b → b ≤ 0x39 → Stretch (Onward m (n * 10 + (b - 0x30))) s p (q + 1)
-onto-more s p q m n b k l e g h =
-    stretch-more (Onward m n) (Onward m (n * 10 + (b - 0x30))) s p q b (λ xs o. onward-snoc o (g, h)) k l e (omega arith)
+pub onto_more : (s : List ℕ) (p q m n b : ℕ) → Stretch (Onward m n) s p q → q < length s → b ≡ get_or s q 0 → 0x30 ≤ b → b ≤ 0x39 → Stretch (Onward m (n * 10 + (b - 0x30))) s p (q + 1)
+onto_more s p q m n b k l e g h =
+    stretch-more (Onward m n) (Onward m (n * 10 + (b - 0x30))) s p q b (λ xs o. onward_snoc o (g, h)) k l e (omega arith)
 
 -- the digits that k bytes more than one may make
 unfoldable pub cap : ℕ → ℕ
@@ -61,82 +61,82 @@ cap-more k (suc j) = let e : k + suc j ≡ suc (k + j) = omega arith in rw e (gr
 cap-below : (k n : ℕ) → k ≤ n → cap k ≤ cap n
 cap-below k n h = let e : k + (n - k) ≡ n = omega arith in rw e at (cap-more k (n - k))
 
-cap-17 : cap 17 ≡ 1000000000000000000
+cap_17 : cap 17 ≡ 1000000000000000000
 unfolding cap
-cap-17 = refl
+cap_17 = refl
 
-cap-16 : cap 16 ≡ 100000000000000000
+cap_16 : cap 16 ≡ 100000000000000000
 unfolding cap
-cap-16 = refl
+cap_16 = refl
 
 pub few-small : (m p q : ℕ) → q ≤ p + 17 → Few m p q → m < 2 ^ 63
-few-small m p q h k = omega (arith, cap-below (q - p) 17 (omega arith), cap-17)
+few-small m p q h k = omega (arith, cap-below (q - p) 17 (omega arith), cap_17)
 
 pub few-room : (m p q : ℕ) → q < p + 17 → Few m p q → m < 100000000000000000
-few-room m p q h k = omega (arith, cap-below (q - p) 16 (omega arith), cap-16)
+few-room m p q h k = omega (arith, cap-below (q - p) 16 (omega arith), cap_16)
 
 -- ---- whole numbers
 
 module _ (s : List ℕ) (p : ℕ) (l : p < length s) where
   pub whole-nought : get_or s p 0 ≡ 0x30 → Passed (Whole 0) s p (p + 1)
   whole-nought h =
-      passed (Whole 0) s p (p + 1) (stretch-as (Exactly (0x30 ∷ [])) (Whole 0) s p (p + 1) (λ xs e. rw e nought) (byte-here s p 0x30 (sym (byte_inside s p l) ∙ h) (omega arith))) (omega arith)
+      passed (Whole 0) s p (p + 1) (stretch_as (Exactly (0x30 ∷ [])) (Whole 0) s p (p + 1) (λ xs e. rw e nought) (byte_here s p 0x30 (sym (byte_inside s p l) ∙ h) (omega arith))) (omega arith)
 
   pub whole_from : (q n : ℕ) → 0x31 ≤ get_or s p 0 → get_or s p 0 ≤ 0x39 → Stretch (Onward (get_or s p 0 - 0x30) n) s (p + 1) q → p + 1 ≤ q → Passed (Whole n) s p q
   whole_from q n g h k w =
       let b = get_or s p 0 in
       passed (Whole n) s p q
-      (stretch-join (Exactly (b ∷ [])) (Onward (b - 0x30) n) (Whole n) s p (p + 1) q (λ xs ys e o. rw e (from (g, h) o)) (byte-here s p b (sym (byte_inside s p l)) (omega arith)) k) (omega arith)
+      (stretch_join (Exactly (b ∷ [])) (Onward (b - 0x30) n) (Whole n) s p (p + 1) q (λ xs ys e o. rw e (from (g, h) o)) (byte_here s p b (sym (byte_inside s p l)) (omega arith)) k) (omega arith)
 
 -- ---- the number read
 
-read-bare : (p n : ℕ) → n < 2 ^ 63 → readInt p false n ≡ ok (vInt n)
-unfolding readInt
-read-bare p n l = rw (lt-ltb n (2 ^ 63) l, readInt)
+read-bare : (p n : ℕ) → n < 2 ^ 63 → read_int p false n ≡ ok (v_int n)
+unfolding read_int
+read-bare p n l = rw (lt-ltb n (2 ^ 63) l, read_int)
 
 abbrev negative : ℕ → ℕ
 negative zero = 0
 negative (suc n) = 2 ^ 64 - suc n
 
-read-negative : (p n : ℕ) → n < 2 ^ 63 → readInt p true n ≡ ok (vInt (negative n))
-unfolding readInt
+read-negative : (p n : ℕ) → n < 2 ^ 63 → read_int p true n ≡ ok (v_int (negative n))
+unfolding read_int
 read-negative p zero l = refl
-read-negative p (suc n) l = rw (le-leb (suc n) (2 ^ 63) (omega arith), readInt)
+read-negative p (suc n) l = rw (le-leb (suc n) (2 ^ 63) (omega arith), read_int)
 
 negative-some : (n x : ℕ) → (n ≡ 0 → ⊥) → n < 2 ^ 63 → x ≡ 18446744073709551615 - n + 1 → x ≡ negative n
 negative-some zero x h l f = absurd (h refl)
 negative-some (suc m) x h l f = omega arith
 
 module _ (s : List ℕ) (p q n : ℕ) (l : n < 2 ^ 63) where
-  pub integer-bare : Passed (Whole n) s p q → IntegerAt s p q (n % 2 ^ 32) (n / 2 ^ 32)
-  integer-bare k =
+  pub integer_bare : Passed (Whole n) s p q → IntegerAt s p q (n % 2 ^ 32) (n / 2 ^ 32)
+  integer_bare k =
       record {
         minus = false;
         magnitude = n;
         number = n;
-        passed = passed (Signed false n) s p q (stretch-as (Whole n) (Signed false n) s p q (λ xs w. bare w) k.stretch) k.ahead;
+        passed = passed (Signed false n) s p q (stretch_as (Whole n) (Signed false n) s p q (λ xs w. bare w) k.stretch) k.ahead;
         reads = read-bare p n l;
         lower = refl;
         upper = refl;
       }
 
   module _ (b : ℕ) (f : b ≡ byte_at s p) (g : b ≡ 0x2D) (k : Passed (Whole n) s (p + 1) q) where
-    integer-minus : (x : ℕ) → x ≡ negative n → IntegerAt s p q (x % 2 ^ 32) (x / 2 ^ 32)
-    integer-minus x i =
+    integer_minus : (x : ℕ) → x ≡ negative n → IntegerAt s p q (x % 2 ^ 32) (x / 2 ^ 32)
+    integer_minus x i =
         record {
           minus = true;
           magnitude = n;
           number = negative n;
           passed =
               passed (Signed true n) s p q
-              (stretch-join (Exactly (0x2D ∷ [])) (Whole n) (Signed true n) s p (p + 1) q (λ xs ys e w. rw e (minus w)) (byte-here s p 0x2D (sym f ∙ g) (omega arith)) k.stretch) (omega (arith, k.ahead));
+              (stretch_join (Exactly (0x2D ∷ [])) (Whole n) (Signed true n) s p (p + 1) q (λ xs ys e w. rw e (minus w)) (byte_here s p 0x2D (sym f ∙ g) (omega arith)) k.stretch) (omega (arith, k.ahead));
           reads = read-negative p n l;
           lower = ap (λ (y : ℕ). y % 2 ^ 32) i;
           upper = ap (λ (y : ℕ). y / 2 ^ 32) i;
         }
 
-    pub integer-negative : (n ≡ 0 → ⊥) → IntegerAt s p q ((18446744073709551615 - n + 1) % 2 ^ 32) ((18446744073709551615 - n + 1) / 2 ^ 32)
-    integer-negative w = integer-minus (18446744073709551615 - n + 1) (negative-some n (18446744073709551615 - n + 1) w l refl)
+    pub integer_negative : (n ≡ 0 → ⊥) → IntegerAt s p q ((18446744073709551615 - n + 1) % 2 ^ 32) ((18446744073709551615 - n + 1) / 2 ^ 32)
+    integer_negative w = integer_minus (18446744073709551615 - n + 1) (negative-some n (18446744073709551615 - n + 1) w l refl)
 
-    pub integer-nought : n ≡ 0 → IntegerAt s p q 0 0
-    integer-nought w = integer-minus 0 (sym (ap negative w))
+    pub integer_nought : n ≡ 0 → IntegerAt s p q 0 0
+    integer_nought w = integer_minus 0 (sym (ap negative w))

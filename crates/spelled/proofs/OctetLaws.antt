@@ -9,7 +9,7 @@ use borrow.Author.Tests.{leb-true, leb-false, ne_eqb}
 use lib.Dec.{leb}
 use lib.ListN.{length, get_or, take, drop, length-drop}
 use lib.Seq.{get_or-take, get_or-drop, length-take-le}
-use Rattle.jer.specs.Octets.{also, only_if, unhex, base64Value, lastGroup, fullGroup, unbase64}
+use Rattle.jer.specs.Octets.{also, only_if, unhex, base64_value, last_group, full_group, unbase64}
 use Rattle.spelled.specs.Octets.{OctetsAre, HexByte, Base64Byte, Group}
 
 -- ---- one more
@@ -50,18 +50,18 @@ hex-octets s p n l o h =
 -- ---- Base64
 
 -- so many octets of the last group
-pub group-one : (a b c d x y : ℕ) → base64Value a ≡ some x → base64Value b ≡ some y → c ≡ 0x3D → d ≡ 0x3D → y % 16 ≡ 0 → Group a b c d 1
-unfolding lastGroup also only_if
-group-one a b c d x y e f g h i = record { octets = (x * 4 + y / 16) ∷ []; decoded = rw (e, also, f, also, h, g, i); size = refl }
+pub group_one : (a b c d x y : ℕ) → base64_value a ≡ some x → base64_value b ≡ some y → c ≡ 0x3D → d ≡ 0x3D → y % 16 ≡ 0 → Group a b c d 1
+unfolding last_group also only_if
+group_one a b c d x y e f g h i = record { octets = (x * 4 + y / 16) ∷ []; decoded = rw (e, also, f, also, h, g, i); size = refl }
 
-pub group-two : (a b c d x y z : ℕ) → base64Value a ≡ some x → base64Value b ≡ some y → base64Value c ≡ some z → (c ≡ 0x3D → ⊥) → d ≡ 0x3D → z % 4 ≡ 0 → Group a b c d 2
-unfolding lastGroup also only_if
-group-two a b c d x y z e f g n h i =
+pub group_two : (a b c d x y z : ℕ) → base64_value a ≡ some x → base64_value b ≡ some y → base64_value c ≡ some z → (c ≡ 0x3D → ⊥) → d ≡ 0x3D → z % 4 ≡ 0 → Group a b c d 2
+unfolding last_group also only_if
+group_two a b c d x y z e f g n h i =
     record { octets = (x * 4 + y / 16) ∷ (y % 16 * 16 + z / 4) ∷ []; decoded = rw (e, also, f, also, h, ne_eqb c 0x3D n, g, also, i); size = refl }
 
-pub group-three : (a b c d x y z w : ℕ) → base64Value a ≡ some x → base64Value b ≡ some y → base64Value c ≡ some z → base64Value d ≡ some w → (d ≡ 0x3D → ⊥) → Group a b c d 3
-unfolding lastGroup also
-group-three a b c d x y z w e f g h n =
+pub group_three : (a b c d x y z w : ℕ) → base64_value a ≡ some x → base64_value b ≡ some y → base64_value c ≡ some z → base64_value d ≡ some w → (d ≡ 0x3D → ⊥) → Group a b c d 3
+unfolding last_group also
+group_three a b c d x y z w e f g h n =
     record { octets = (x * 4 + y / 16) ∷ (y % 16 * 16 + z / 4) ∷ (z % 4 * 64 + w) ∷ []; decoded = rw (e, also, f, also, ne_eqb d 0x3D n, g, also, h, also); size = refl }
 
 base64-last : (a b c d e : ℕ) → Group a b c d e → OctetsAre unbase64 (a ∷ b ∷ c ∷ d ∷ []) e
@@ -69,7 +69,7 @@ unfolding unbase64
 base64-last a b c d e k = record { octets = k.octets; decoded = k.decoded; size = k.size }
 
 base64-four : (a b c d f m : ℕ) (x : List ℕ) → Base64Byte a → Base64Byte b → Base64Byte c → Base64Byte d → OctetsAre unbase64 (f ∷ x) m → OctetsAre unbase64 (a ∷ b ∷ c ∷ d ∷ f ∷ x) (3 + m)
-unfolding unbase64 fullGroup also
+unfolding unbase64 full_group also
 base64-four a b c d f m x g h i j k =
     record {
       octets = (g.value * 4 + h.value / 16) ∷ (h.value % 16 * 16 + i.value / 4) ∷ (i.value % 4 * 64 + j.value) ∷ k.octets;
@@ -80,8 +80,8 @@ base64-four a b c d f m x g h i j k =
 shift : (a b c d : ℕ) (y : List ℕ) (i j : ℕ) → i ≡ suc (suc (suc (suc j))) → get_or y j 0 ≡ get_or (a ∷ b ∷ c ∷ d ∷ y) i 0
 shift a b c d y i j e = rw e
 
-group-as : {a b c d i j k l e : ℕ} → i ≡ a → j ≡ b → k ≡ c → l ≡ d → Group a b c d e → Group i j k l e
-group-as p q r u g = rw (p, q, r, u) g
+group_as : {a b c d i j k l e : ℕ} → i ≡ a → j ≡ b → k ≡ c → l ≡ d → Group a b c d e → Group i j k l e
+group_as p q r u g = rw (p, q, r, u) g
 
 -- c characters are digits, in m groups, and the last group follows
 record Digital (x : List ℕ) (m c e : ℕ) : Type 0 where
@@ -90,48 +90,48 @@ record Digital (x : List ℕ) (m c e : ℕ) : Type 0 where
   digits : (i : ℕ) → i < c → Base64Byte (get_or x i 0)
   last : Group (get_or x c 0) (get_or x (c + 1) 0) (get_or x (c + 2) 0) (get_or x (c + 3) 0) e
 
-digital-rest : (a b c d : ℕ) (x : List ℕ) (m n e : ℕ) → Digital (a ∷ b ∷ c ∷ d ∷ x) (suc m) n e → Digital x m (n - 4) e
-digital-rest a b c d x m n e k =
+digital_rest : (a b c d : ℕ) (x : List ℕ) (m n e : ℕ) → Digital (a ∷ b ∷ c ∷ d ∷ x) (suc m) n e → Digital x m (n - 4) e
+digital_rest a b c d x m n e k =
     let g = k.groups in
     let l = k.size in
     record {
       groups = omega arith;
       size = omega arith;
       digits = λ i h. k.digits (suc (suc (suc (suc i)))) (omega arith);
-      last = group-as (shift a b c d x n (n - 4) (omega arith)) (shift a b c d x (n + 1) (n - 4 + 1) (omega arith)) (shift a b c d x (n + 2) (n - 4 + 2) (omega arith)) (shift a b c d x (n + 3) (n - 4 + 3) (omega arith)) k.last;
+      last = group_as (shift a b c d x n (n - 4) (omega arith)) (shift a b c d x (n + 1) (n - 4 + 1) (omega arith)) (shift a b c d x (n + 2) (n - 4 + 2) (omega arith)) (shift a b c d x (n + 3) (n - 4 + 3) (omega arith)) k.last;
     }
 
-digital-end : (a b c d : ℕ) (x : List ℕ) (n e : ℕ) → Digital (a ∷ b ∷ c ∷ d ∷ x) 0 n e → OctetsAre unbase64 (a ∷ b ∷ c ∷ d ∷ x) e
-digital-end a b c d [] n e k =
+digital_end : (a b c d : ℕ) (x : List ℕ) (n e : ℕ) → Digital (a ∷ b ∷ c ∷ d ∷ x) 0 n e → OctetsAre unbase64 (a ∷ b ∷ c ∷ d ∷ x) e
+digital_end a b c d [] n e k =
     let z : 0 ≡ n = sym k.groups in
-    base64-last a b c d e (group-as (at n 0 z) (at (n + 1) 1 (ap (λ (y : ℕ). y + 1) z)) (at (n + 2) 2 (ap (λ (y : ℕ). y + 2) z)) (at (n + 3) 3 (ap (λ (y : ℕ). y + 3) z)) k.last)
+    base64-last a b c d e (group_as (at n 0 z) (at (n + 1) 1 (ap (λ (y : ℕ). y + 1) z)) (at (n + 2) 2 (ap (λ (y : ℕ). y + 2) z)) (at (n + 3) 3 (ap (λ (y : ℕ). y + 3) z)) k.last)
   where
     at : (i j : ℕ) → j ≡ i → get_or (a ∷ b ∷ c ∷ d ∷ []) j 0 ≡ get_or (a ∷ b ∷ c ∷ d ∷ []) i 0
     at i j e = ap (λ (y : ℕ). get_or (a ∷ b ∷ c ∷ d ∷ []) y 0) e
-digital-end a b c d (f ∷ x) n e k = absurd (omega (arith, k.groups, k.size))
+digital_end a b c d (f ∷ x) n e k = absurd (omega (arith, k.groups, k.size))
 
-digital-none : (x : List ℕ) (n e : ℕ) → Digital x 0 n e → OctetsAre unbase64 x e
-digital-none [] n e k = absurd (omega (arith, k.size))
-digital-none (a ∷ []) n e k = absurd (omega (arith, k.size))
-digital-none (a ∷ b ∷ []) n e k = absurd (omega (arith, k.size))
-digital-none (a ∷ b ∷ c ∷ []) n e k = absurd (omega (arith, k.size))
-digital-none (a ∷ b ∷ c ∷ d ∷ x) n e k = digital-end a b c d x n e k
+digital_none : (x : List ℕ) (n e : ℕ) → Digital x 0 n e → OctetsAre unbase64 x e
+digital_none [] n e k = absurd (omega (arith, k.size))
+digital_none (a ∷ []) n e k = absurd (omega (arith, k.size))
+digital_none (a ∷ b ∷ []) n e k = absurd (omega (arith, k.size))
+digital_none (a ∷ b ∷ c ∷ []) n e k = absurd (omega (arith, k.size))
+digital_none (a ∷ b ∷ c ∷ d ∷ x) n e k = digital_end a b c d x n e k
 
-digital-more : (m : ℕ) (x : List ℕ) (n e : ℕ) → ((y : List ℕ) → Digital y m (n - 4) e → OctetsAre unbase64 y (m + m + m + e)) → Digital x (suc m) n e → OctetsAre unbase64 x (3 + (m + m + m + e))
-digital-more m [] n e f k = absurd (omega (arith, k.size))
-digital-more m (a ∷ []) n e f k = absurd (omega (arith, k.size))
-digital-more m (a ∷ b ∷ []) n e f k = absurd (omega (arith, k.size))
-digital-more m (a ∷ b ∷ c ∷ []) n e f k = absurd (omega (arith, k.size))
-digital-more m (a ∷ b ∷ c ∷ d ∷ []) n e f k = absurd (omega (arith, k.groups, k.size))
-digital-more m (a ∷ b ∷ c ∷ d ∷ g ∷ x) n e f k =
+digital_more : (m : ℕ) (x : List ℕ) (n e : ℕ) → ((y : List ℕ) → Digital y m (n - 4) e → OctetsAre unbase64 y (m + m + m + e)) → Digital x (suc m) n e → OctetsAre unbase64 x (3 + (m + m + m + e))
+digital_more m [] n e f k = absurd (omega (arith, k.size))
+digital_more m (a ∷ []) n e f k = absurd (omega (arith, k.size))
+digital_more m (a ∷ b ∷ []) n e f k = absurd (omega (arith, k.size))
+digital_more m (a ∷ b ∷ c ∷ []) n e f k = absurd (omega (arith, k.size))
+digital_more m (a ∷ b ∷ c ∷ d ∷ []) n e f k = absurd (omega (arith, k.groups, k.size))
+digital_more m (a ∷ b ∷ c ∷ d ∷ g ∷ x) n e f k =
     let h : 4 ≤ n = omega (arith, k.groups) in
-    base64-four a b c d g (m + m + m + e) x (k.digits 0 (omega arith)) (k.digits 1 (omega arith)) (k.digits 2 (omega arith)) (k.digits 3 (omega arith)) (f (g ∷ x) (digital-rest a b c d (g ∷ x) m n e k))
+    base64-four a b c d g (m + m + m + e) x (k.digits 0 (omega arith)) (k.digits 1 (omega arith)) (k.digits 2 (omega arith)) (k.digits 3 (omega arith)) (f (g ∷ x) (digital_rest a b c d (g ∷ x) m n e k))
 
-digital-all : (m : ℕ) (x : List ℕ) (n e : ℕ) → Digital x m n e → OctetsAre unbase64 x (m + m + m + e)
-digital-all zero x n e k = let u : 0 + 0 + 0 + e ≡ e = omega arith in rw u (digital-none x n e k)
-digital-all (suc m) x n e k =
+digital_all : (m : ℕ) (x : List ℕ) (n e : ℕ) → Digital x m n e → OctetsAre unbase64 x (m + m + m + e)
+digital_all zero x n e k = let u : 0 + 0 + 0 + e ≡ e = omega arith in rw u (digital_none x n e k)
+digital_all (suc m) x n e k =
     let u : suc m + suc m + suc m + e ≡ 3 + (m + m + m + e) = omega arith in
-    rw u (digital-more m x n e (λ y h. digital-all m y (n - 4) e h) k)
+    rw u (digital_more m x n e (λ y h. digital_all m y (n - 4) e h) k)
 
 pub base64-none : (s : List ℕ) (p : ℕ) → OctetsAre unbase64 (take 0 (drop p s)) 0
 unfolding unbase64
@@ -141,7 +141,7 @@ pub base64-octets : (s : List ℕ) (p n e : ℕ) → p + n ≤ length s → (n �
     → Group (get_or s (p + (n - 4)) 0) (get_or s (p + (n - 4) + 1) 0) (get_or s (p + (n - 4) + 2) 0) (get_or s (p + (n - 4) + 3) 0) e → OctetsAre unbase64 (take n (drop p s)) ((n - 4) / 4 * 3 + e)
 base64-octets s p n e l o q h g =
     let x : List ℕ = take n (drop p s) in
-    let r = digital-all ((n - 4) / 4) x (n - 4) e (record { groups = omega (arith, o, q); size = omega (arith, part_length s p n l, o, q); digits = λ i w. there i w; last = group-as (at₀ (omega (arith, o, q))) (at 1 (omega (arith, o, q))) (at 2 (omega (arith, o, q))) (at 3 (omega (arith, o, q))) g }) in
+    let r = digital_all ((n - 4) / 4) x (n - 4) e (record { groups = omega (arith, o, q); size = omega (arith, part_length s p n l, o, q); digits = λ i w. there i w; last = group_as (at₀ (omega (arith, o, q))) (at 1 (omega (arith, o, q))) (at 2 (omega (arith, o, q))) (at 3 (omega (arith, o, q))) g }) in
     let u : (n - 4) / 4 * 3 + e ≡ (n - 4) / 4 + (n - 4) / 4 + (n - 4) / 4 + e = omega arith in
     rw u r
   where

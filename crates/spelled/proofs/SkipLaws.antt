@@ -4,24 +4,24 @@ use mathlib.Core.Path.{◌≡◌, refl, sym, ap, ◌∙◌}
 use mathlib.Core.List.{List, [], ◌∷◌, ◌++◌, append_assoc}
 use native.Mathlib.Numerals.{add-one}
 use native.Mathlib.Omega.{arith}
-use Rattle.json.specs.Bytes.{past}
-use Rattle.json.specs.Tree.{Json, jarr, jobj, jstr, Items, inil, icons, Members, mnil, mcons}
-use Rattle.json.specs.Grammar as grammar
-use Rattle.json.specs.Grammar.{Space, Quoted, Value, Padded, padded, Elements, lastElement, moreElements, Named, lastMember, moreMembers, name}
+use Rattle.json_text.specs.Bytes.{past}
+use Rattle.json_text.specs.Tree.{Json, jarr, jobj, jstr, Items, inil, icons, Members, mnil, mcons}
+use Rattle.json_text.specs.Grammar as grammar
+use Rattle.json_text.specs.Grammar.{Space, Quoted, Value, Padded, padded, Elements, last_element, more_elements, Named, last_member, more_members, name}
 use Rattle.tokens.specs.Places.{byte_at}
-use Rattle.tokens.proofs.TiePlace.{past-append, past-length}
+use Rattle.tokens.proofs.TiePlace.{past_append, past-length}
 use Rattle.spelled.specs.Stretch.{Stretch, Passed, ValueAt, NameAt}
-use Rattle.spelled.proofs.StretchLaws.{Exactly, stretch-as, stretch-join, byte-here, byte_next, passed}
+use Rattle.spelled.proofs.StretchLaws.{Exactly, stretch_as, stretch_join, byte_here, byte_next, passed}
 
-pub before-or-at : (s : List ℕ) (R : List ℕ → Type 0) (p q : ℕ) → Stretch R s p q → p ≤ q
-before-or-at s R p q k = omega (arith, past-length p k.bytes, k.end)
+pub before_or_at : (s : List ℕ) (R : List ℕ → Type 0) (p q : ℕ) → Stretch R s p q → p ≤ q
+before_or_at s R p q k = omega (arith, past-length p k.bytes, k.end)
 
 pub value_as : (s : List ℕ) (d p q : ℕ) (tree : Json) → Passed (Value d p tree) s p q → ValueAt d s p q
 value_as s d p q tree k = record { tree = tree; passed = k }
 
 pub value-string : (s chars : List ℕ) (d p q : ℕ) → Passed (Quoted chars) s p q → ValueAt d s p q
 value-string s chars d p q k =
-    record { tree = jstr p chars; passed = passed (Value d p (jstr p chars)) s p q (stretch-as (Quoted chars) (Value d p (jstr p chars)) s p q (λ xs w. grammar.string w) k.stretch) k.ahead }
+    record { tree = jstr p chars; passed = passed (Value d p (jstr p chars)) s p q (stretch_as (Quoted chars) (Value d p (jstr p chars)) s p q (λ xs w. grammar.string w) k.stretch) k.ahead }
 
 module _ (s : List ℕ) (d : ℕ) where
   -- a value with white space around it, from o up to c
@@ -39,7 +39,7 @@ module _ (s : List ℕ) (d : ℕ) where
               bytes = x.bytes ++ (k.bytes ++ y.bytes);
               holds = padded x.holds (sym x.end) k.holds y.holds refl;
               text = x.text ∙ rw (k.text, y.text, append_assoc, append_assoc);
-              end = rw (past-append o x.bytes (k.bytes ++ y.bytes), x.end, past-append p k.bytes y.bytes, k.end) y.end;
+              end = rw (past_append o x.bytes (k.bytes ++ y.bytes), x.end, past_append p k.bytes y.bytes, k.end) y.end;
             };
       }
 
@@ -54,7 +54,7 @@ module _ (s : List ℕ) (d : ℕ) where
   elements-last o c k h =
       record {
         items = icons k.tree inil;
-        stretch = stretch-join (Padded d o k.tree) (Exactly (0x5D ∷ [])) (Elements d o (icons k.tree inil)) s o c (c + 1) (λ xs ys w e. lastElement w (ap (λ (z : List ℕ). xs ++ z) e)) k.stretch (byte-here s c 0x5D h (omega arith));
+        stretch = stretch_join (Padded d o k.tree) (Exactly (0x5D ∷ [])) (Elements d o (icons k.tree inil)) s o c (c + 1) (λ xs ys w e. last_element w (ap (λ (z : List ℕ). xs ++ z) e)) k.stretch (byte_here s c 0x5D h (omega arith));
       }
 
   pub elements-more : (o c q : ℕ) → PaddedAt o c → byte_at s c ≡ 0x2C → ElementsAt (c + 1) q → ElementsAt o q
@@ -66,9 +66,9 @@ module _ (s : List ℕ) (d : ℕ) where
         stretch =
             record {
               bytes = k.stretch.bytes ++ (0x2C ∷ m.stretch.bytes);
-              holds = moreElements k.stretch.holds e m.stretch.holds refl;
+              holds = more_elements k.stretch.holds e m.stretch.holds refl;
               text = k.stretch.text ∙ rw (byte_next s c 0x2C h (omega arith), ← add-one c, m.stretch.text, append_assoc);
-              end = past-append o k.stretch.bytes (0x2C ∷ m.stretch.bytes) ∙ rw (k.stretch.end, ← add-one c) m.stretch.end;
+              end = past_append o k.stretch.bytes (0x2C ∷ m.stretch.bytes) ∙ rw (k.stretch.end, ← add-one c) m.stretch.end;
             };
       }
 
@@ -82,11 +82,11 @@ module _ (s : List ℕ) (d : ℕ) where
   listing_none o p x = record { here = o; space = x; then = λ q k. k }
 
   module _ (o p q c : ℕ) (k : Listing o p) (v : ValueAt d s p q) (y : Stretch Space s q c) where
-    pub listing-more : (p' : ℕ) → byte_at s c ≡ 0x2C → Stretch Space s (c + 1) p' → Listing o p'
-    listing-more p' h z = record { here = c + 1; space = z; then = λ r m. k.then r (elements-more k.here c r (padded-here k.here p q c k.space v y) h m) }
+    pub listing_more : (p' : ℕ) → byte_at s c ≡ 0x2C → Stretch Space s (c + 1) p' → Listing o p'
+    listing_more p' h z = record { here = c + 1; space = z; then = λ r m. k.then r (elements-more k.here c r (padded-here k.here p q c k.space v y) h m) }
 
-    pub listing-last : byte_at s c ≡ 0x5D → ElementsAt o (c + 1)
-    listing-last h = k.then (c + 1) (elements-last k.here c (padded-here k.here p q c k.space v y) h)
+    pub listing_last : byte_at s c ≡ 0x5D → ElementsAt o (c + 1)
+    listing_last h = k.then (c + 1) (elements-last k.here c (padded-here k.here p q c k.space v y) h)
 
   -- ---- objects
 
@@ -103,10 +103,10 @@ module _ (s : List ℕ) (d : ℕ) where
         stretch =
             record {
               bytes = n.stretch.bytes ++ (k.stretch.bytes ++ (0x7D ∷ []));
-              holds = lastMember n.stretch.holds k.stretch.holds refl;
+              holds = last_member n.stretch.holds k.stretch.holds refl;
               text = n.stretch.text ∙ rw (k.stretch.text, byte_next s c 0x7D h (omega arith), ← add-one c, append_assoc, append_assoc);
               end =
-                  rw (past-append o n.stretch.bytes (k.stretch.bytes ++ (0x7D ∷ [])), n.stretch.end, past-append r k.stretch.bytes (0x7D ∷ []), k.stretch.end) (sym (add-one c));
+                  rw (past_append o n.stretch.bytes (k.stretch.bytes ++ (0x7D ∷ [])), n.stretch.end, past_append r k.stretch.bytes (0x7D ∷ []), k.stretch.end) (sym (add-one c));
             };
       }
 
@@ -119,10 +119,10 @@ module _ (s : List ℕ) (d : ℕ) where
         stretch =
             record {
               bytes = n.stretch.bytes ++ (k.stretch.bytes ++ (0x2C ∷ m.stretch.bytes));
-              holds = moreMembers n.stretch.holds k.stretch.holds e m.stretch.holds refl;
+              holds = more_members n.stretch.holds k.stretch.holds e m.stretch.holds refl;
               text = n.stretch.text ∙ rw (k.stretch.text, byte_next s c 0x2C h (omega arith), ← add-one c, m.stretch.text, append_assoc, append_assoc);
               end =
-                  rw (past-append o n.stretch.bytes (k.stretch.bytes ++ (0x2C ∷ m.stretch.bytes)), n.stretch.end, past-append r k.stretch.bytes (0x2C ∷ m.stretch.bytes), k.stretch.end, ← add-one c) m.stretch.end;
+                  rw (past_append o n.stretch.bytes (k.stretch.bytes ++ (0x2C ∷ m.stretch.bytes)), n.stretch.end, past_append r k.stretch.bytes (0x2C ∷ m.stretch.bytes), k.stretch.end, ← add-one c) m.stretch.end;
             };
       }
 
@@ -131,16 +131,16 @@ module _ (s : List ℕ) (d : ℕ) where
     pub space : Stretch Space s here p
     pub then : (q : ℕ) → NamedAt here q → NamedAt o q
 
-  pub naming-none : (o p : ℕ) → Stretch Space s o p → Naming o p
-  naming-none o p x = record { here = o; space = x; then = λ q k. k }
+  pub naming_none : (o p : ℕ) → Stretch Space s o p → Naming o p
+  naming_none o p x = record { here = o; space = x; then = λ q k. k }
 
   module _ (o p r v q c : ℕ) (k : Naming o p) (n : (z : ℕ) → Stretch Space s z p → NameAt s z p r) (x : Stretch Space s r v) (w : ValueAt d s v q) (y : Stretch Space s q c) where
-    pub naming-more : (p' : ℕ) → byte_at s c ≡ 0x2C → Stretch Space s (c + 1) p' → Naming o p'
-    naming-more p' h z =
+    pub naming_more : (p' : ℕ) → byte_at s c ≡ 0x2C → Stretch Space s (c + 1) p' → Naming o p'
+    naming_more p' h z =
         record { here = c + 1; space = z; then = λ t m. k.then t (named_more k.here p r c t (n k.here k.space) (padded-here r v q c x w y) h m) }
 
-    pub naming-last : byte_at s c ≡ 0x7D → NamedAt o (c + 1)
-    naming-last h = k.then (c + 1) (named-last k.here p r c (n k.here k.space) (padded-here r v q c x w y) h)
+    pub naming_last : byte_at s c ≡ 0x7D → NamedAt o (c + 1)
+    naming_last h = k.then (c + 1) (named-last k.here p r c (n k.here k.space) (padded-here r v q c x w y) h)
 
 -- ---- the brackets
 
@@ -149,7 +149,7 @@ unfolding past
 name-here s chars o p q c x k y h =
     let bs : List ℕ = x.bytes ++ (k.stretch.bytes ++ (y.bytes ++ (0x3A ∷ []))) in
     let e : past o bs ≡ c + 1 =
-    rw (past-append o x.bytes (k.stretch.bytes ++ (y.bytes ++ (0x3A ∷ []))), x.end, past-append p k.stretch.bytes (y.bytes ++ (0x3A ∷ [])), k.stretch.end, past-append q y.bytes (0x3A ∷ []), y.end)
+    rw (past_append o x.bytes (k.stretch.bytes ++ (y.bytes ++ (0x3A ∷ []))), x.end, past_append p k.stretch.bytes (y.bytes ++ (0x3A ∷ [])), k.stretch.end, past_append q y.bytes (0x3A ∷ []), y.end)
     (sym (add-one c)) in
     record {
       chars = chars;
@@ -176,10 +176,10 @@ module _ (s : List ℕ) (d p : ℕ) (l : d ≡ 0 → ⊥) where
       (passed (Value (suc (d - 1)) p (jarr p inil)) s p (q + 1)
       (record {
         bytes = 0x5B ∷ (x.bytes ++ (0x5D ∷ []));
-        holds = grammar.noElements x.holds refl;
+        holds = grammar.no_elements x.holds refl;
         text = byte_next s p 0x5B h (omega arith) ∙ rw (← add-one p, x.text, byte_next s q 0x5D g (omega arith), ← add-one q, append_assoc);
-        end = past-append (suc p) x.bytes (0x5D ∷ []) ∙ rw (ends q x) (sym (add-one q));
-      }) (omega (arith, before-or-at s Space (p + 1) q x))))
+        end = past_append (suc p) x.bytes (0x5D ∷ []) ∙ rw (ends q x) (sym (add-one q));
+      }) (omega (arith, before_or_at s Space (p + 1) q x))))
 
   pub array-some : (q : ℕ) → byte_at s p ≡ 0x5B → ElementsAt s (d - 1) (p + 1) q → p < q → ValueAt d s p q
   unfolding past
@@ -201,10 +201,10 @@ module _ (s : List ℕ) (d p : ℕ) (l : d ≡ 0 → ⊥) where
       (passed (Value (suc (d - 1)) p (jobj p mnil)) s p (q + 1)
       (record {
         bytes = 0x7B ∷ (x.bytes ++ (0x7D ∷ []));
-        holds = grammar.noMembers x.holds refl;
+        holds = grammar.no_members x.holds refl;
         text = byte_next s p 0x7B h (omega arith) ∙ rw (← add-one p, x.text, byte_next s q 0x7D g (omega arith), ← add-one q, append_assoc);
-        end = past-append (suc p) x.bytes (0x7D ∷ []) ∙ rw (ends q x) (sym (add-one q));
-      }) (omega (arith, before-or-at s Space (p + 1) q x))))
+        end = past_append (suc p) x.bytes (0x7D ∷ []) ∙ rw (ends q x) (sym (add-one q));
+      }) (omega (arith, before_or_at s Space (p + 1) q x))))
 
   pub object-some : (q : ℕ) → byte_at s p ≡ 0x7B → NamedAt s (d - 1) (p + 1) q → p < q → ValueAt d s p q
   unfolding past

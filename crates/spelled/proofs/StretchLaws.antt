@@ -7,27 +7,27 @@ use native.Mathlib.Numerals.{add-one}
 use native.Mathlib.Omega.{arith}
 use lib.ListN.{length, get_or, drop, length-drop, length-append}
 use lib.Seq.{drop-cons}
-use Rattle.json.specs.Bytes.{past}
+use Rattle.json_text.specs.Bytes.{past}
 use Rattle.tokens.specs.Places.{byte_at}
 use Rattle.tokens.proofs.PlaceLaws.{byte_inside, inside}
-use Rattle.tokens.proofs.TiePlace.{past-append, past-length}
+use Rattle.tokens.proofs.TiePlace.{past_append, past-length}
 use Rattle.spelled.specs.Stretch.{Stretch, Passed}
 
 pub stretch-none : (R : List ℕ → Type 0) (s : List ℕ) (p : ℕ) → R [] → Stretch R s p p
 unfolding past
 stretch-none R s p h = record { bytes = []; holds = h; text = refl; end = refl }
 
-unfoldable pub stretch-join : (R S T : List ℕ → Type 0) (s : List ℕ) (p q r : ℕ) → ((xs ys : List ℕ) → R xs → S ys → T (xs ++ ys)) → Stretch R s p q → Stretch S s q r → Stretch T s p r
-stretch-join R S T s p q r f k l =
+unfoldable pub stretch_join : (R S T : List ℕ → Type 0) (s : List ℕ) (p q r : ℕ) → ((xs ys : List ℕ) → R xs → S ys → T (xs ++ ys)) → Stretch R s p q → Stretch S s q r → Stretch T s p r
+stretch_join R S T s p q r f k l =
     record {
       bytes = k.bytes ++ l.bytes;
       holds = f k.bytes l.bytes k.holds l.holds;
       text = k.text ∙ rw (append_assoc, l.text);
-      end = past-append p k.bytes l.bytes ∙ rw k.end l.end;
+      end = past_append p k.bytes l.bytes ∙ rw k.end l.end;
     }
 
-unfoldable pub stretch-as : (R S : List ℕ → Type 0) (s : List ℕ) (p q : ℕ) → ((xs : List ℕ) → R xs → S xs) → Stretch R s p q → Stretch S s p q
-stretch-as R S s p q f k = record { bytes = k.bytes; holds = f k.bytes k.holds; text = k.text; end = k.end }
+unfoldable pub stretch_as : (R S : List ℕ → Type 0) (s : List ℕ) (p q : ℕ) → ((xs : List ℕ) → R xs → S xs) → Stretch R s p q → Stretch S s p q
+stretch_as R S s p q f k = record { bytes = k.bytes; holds = f k.bytes k.holds; text = k.text; end = k.end }
 
 -- ---- the bytes that stand there
 
@@ -59,13 +59,13 @@ bytes-here s p x xs e l h =
       end = past-length p (x ∷ xs);
     }
 
-pub byte-here : (s : List ℕ) (p b : ℕ) → byte_at s p ≡ b → b < 256 → Stretch (Exactly (b ∷ [])) s p (p + 1)
-byte-here s p b e l = bytes-here s p b [] e l tt
+pub byte_here : (s : List ℕ) (p b : ℕ) → byte_at s p ≡ b → b < 256 → Stretch (Exactly (b ∷ [])) s p (p + 1)
+byte_here s p b e l = bytes-here s p b [] e l tt
 
 -- one byte more
 pub stretch-more : (R T : List ℕ → Type 0) (s : List ℕ) (p q b : ℕ) → ((xs : List ℕ) → R xs → T (xs ++ (b ∷ []))) → Stretch R s p q → q < length s → b ≡ get_or s q 0 → b < 256 → Stretch T s p (q + 1)
 stretch-more R T s p q b f k l e m =
-    stretch-join R (Exactly (b ∷ [])) T s p q (q + 1) (λ xs ys h i. rw i (f xs h)) k (byte-here s q b (sym (e ∙ byte_inside s q l)) m)
+    stretch_join R (Exactly (b ∷ [])) T s p q (q + 1) (λ xs ys h i. rw i (f xs h)) k (byte_here s q b (sym (e ∙ byte_inside s q l)) m)
 
 -- ---- places
 

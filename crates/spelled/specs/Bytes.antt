@@ -2,12 +2,12 @@
 use Rattle.std.specs.Prelude.{ℕ, ◌+◌, ◌*◌, ◌<◌, ◌≡◌, List, get_or}
 
 -- the number of four bytes
-abbrev pub fourOf : ℕ → ℕ → ℕ → ℕ → ℕ
-fourOf a b c d = a + b * 0x100 + c * 0x10000 + d * 0x1000000
+abbrev pub four_of : ℕ → ℕ → ℕ → ℕ → ℕ
+four_of a b c d = a + b * 0x100 + c * 0x10000 + d * 0x1000000
 
 -- n is that of the four from p on
 pub record FourAt (s : List ℕ) (p n : ℕ) : Type 0 where
-  pub sum : n ≡ fourOf (get_or s p 0) (get_or s (p + 1) 0) (get_or s (p + 2) 0) (get_or s (p + 3) 0)
+  pub sum : n ≡ four_of (get_or s p 0) (get_or s (p + 1) 0) (get_or s (p + 2) 0) (get_or s (p + 3) 0)
   pub bytes : (get_or s p 0 < 256) × (get_or s (p + 1) 0 < 256) × (get_or s (p + 2) 0 < 256) × (get_or s (p + 3) 0 < 256)
 
 -- n is that of the eight from p on, the number of four and four

@@ -1,9 +1,9 @@
 -- What the readers of leaves have found.
 use Rattle.std.specs.Prelude.{ℕ, ◌+◌, ◌/◌, ◌%◌, ◌^◌, ◌<◌, ◌≤◌, ◌≡◌, Bool, false, List, ◌∷◌, length, get_or, take, drop}
-use Rattle.json.specs.Grammar.{Signed, Four, Escape, Quoted, Char, Chars}
-use Rattle.jer.specs.Value.{vInt}
+use Rattle.json_text.specs.Grammar.{Signed, Four, Escape, Quoted, Char, Chars}
+use Rattle.jer.specs.Value.{v_int}
 use Rattle.jer.specs.Answer.{ok}
-use Rattle.jer.specs.Read.{readInt}
+use Rattle.jer.specs.Read.{read_int}
 use Rattle.spelled.specs.Stretch.{Stretch, Passed}
 
 -- from p to q stands a number that is an INTEGER with these halves
@@ -12,7 +12,7 @@ pub record IntegerAt (s : List ℕ) (p q low high : ℕ) : Type 0 where
   pub magnitude : ℕ
   pub number : ℕ
   pub passed : Passed (Signed minus magnitude) s p q
-  pub reads : readInt p minus magnitude ≡ ok (vInt number)
+  pub reads : read_int p minus magnitude ≡ ok (v_int number)
   pub lower : low ≡ number % 2 ^ 32
   pub upper : high ≡ number / 2 ^ 32
 

@@ -1,6 +1,6 @@
 -- Numbers whose value is of no account: the grammar's relations with some number.
 use Rattle.std.specs.Prelude.{ℕ, Bool, List, [], ◌∷◌}
-use Rattle.json.specs.Grammar.{Digits, Onward, Whole, Signed, Power}
+use Rattle.json_text.specs.Grammar.{Digits, Onward, Whole, Signed, Power}
 
 pub record SomeOnward (m : ℕ) (bs : List ℕ) : Type 0 where
   pub number : ℕ
@@ -17,7 +17,7 @@ pub record SomeSigned (bs : List ℕ) : Type 0 where
 
 -- a fraction, or none
 pub data Dotted : List ℕ → Type 0 where
-  noDot : Dotted []
+  no_dot : Dotted []
   dot : {bs : List ℕ} → Digits bs → Dotted (0x2E ∷ bs)
 
 -- what follows the letter of an exponent
@@ -28,5 +28,5 @@ pub data Raised : List ℕ → Type 0 where
 
 -- an exponent, or none
 pub data Powered : List ℕ → Type 0 where
-  noPower : Powered []
+  no_power : Powered []
   some : {bs : List ℕ} → Power bs → Powered bs

@@ -2,7 +2,7 @@
 use Rattle.std.specs.Prelude.{ℕ, ◌+◌, ◌*◌, ◌/◌, ◌%◌, ◌<◌, ◌≤◌, ◌≡◌, List, [], ◌∷◌, length, get_or}
 use Rattle.std.proofs.Math.Option.{Option, none, some}
 use Rattle.std.proofs.lemmas.List.Edits.{sets}
-use Rattle.jer.specs.Octets.{hexValue, base64Value, lastGroup}
+use Rattle.jer.specs.Octets.{hex_value, base64_value, last_group}
 
 -- the characters x decode to so many octets
 pub record OctetsAre (decode : List ℕ → Option (List ℕ)) (x : List ℕ) (count : ℕ) : Type 0 where
@@ -18,16 +18,16 @@ pub record Digit (value : ℕ → Option ℕ) (base b x : ℕ) : Type 0 where
 
 pub record HexByte (b : ℕ) : Type 0 where
   pub value : ℕ
-  pub is : hexValue b ≡ some value
+  pub is : hex_value b ≡ some value
 
 pub record Base64Byte (b : ℕ) : Type 0 where
   pub value : ℕ
-  pub is : base64Value b ≡ some value
+  pub is : base64_value b ≡ some value
 
 -- the last four characters stand for so many octets
 pub record Group (a b c d count : ℕ) : Type 0 where
   pub octets : List ℕ
-  pub decoded : lastGroup a b c d ≡ some octets
+  pub decoded : last_group a b c d ≡ some octets
   pub size : count ≡ length octets
 
 -- the octets of x stand from o on, and the rest is as it was
@@ -41,9 +41,9 @@ tripled x y z w = (x * 4 + y / 16) ∷ (y % 16 * 16 + z / 4) ∷ (z % 4 * 64 + w
 -- if there are four digits at q, their octets stand from o on, and the rest is as it was
 abbrev pub GroupStored : List ℕ → ℕ → List ℕ → List ℕ → ℕ → Type 0
 GroupStored s q after before o =
-    (x y z w : ℕ) → base64Value (get_or s q 0) ≡ some x → base64Value (get_or s (q + 1) 0) ≡ some y → base64Value (get_or s (q + 2) 0) ≡ some z → base64Value (get_or s (q + 3) 0) ≡ some w
+    (x y z w : ℕ) → base64_value (get_or s q 0) ≡ some x → base64_value (get_or s (q + 1) 0) ≡ some y → base64_value (get_or s (q + 2) 0) ≡ some z → base64_value (get_or s (q + 3) 0) ≡ some w
     → after ≡ sets before o (tripled x y z w)
 
 -- the same for a last group
 abbrev pub LastStored : List ℕ → ℕ → List ℕ → List ℕ → ℕ → Type 0
-LastStored s q after before o = (os : List ℕ) → lastGroup (get_or s q 0) (get_or s (q + 1) 0) (get_or s (q + 2) 0) (get_or s (q + 3) 0) ≡ some os → after ≡ sets before o os
+LastStored s q after before o = (os : List ℕ) → last_group (get_or s q 0) (get_or s (q + 1) 0) (get_or s (q + 2) 0) (get_or s (q + 3) 0) ≡ some os → after ≡ sets before o os

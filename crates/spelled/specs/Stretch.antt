@@ -1,8 +1,8 @@
 -- What stands in a text from one place up to another, by the relations of the grammar.
 use Rattle.std.specs.Prelude.{ℕ, ◌-◌, ◌+◌, ◌<◌, ◌≤◌, ◌≡◌, List, [], ◌∷◌, ◌++◌, length, drop}
-use Rattle.json.specs.Bytes.{past}
-use Rattle.json.specs.Tree.{Json}
-use Rattle.json.specs.Grammar.{Space, Value, Name, Chars}
+use Rattle.json_text.specs.Bytes.{past}
+use Rattle.json_text.specs.Tree.{Json}
+use Rattle.json_text.specs.Grammar.{Space, Value, Name, Chars}
 
 -- the bytes from p up to q are of R
 pub record Stretch (R : List ℕ → Type 0) (s : List ℕ) (p q : ℕ) : Type 0 where

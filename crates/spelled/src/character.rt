@@ -1,7 +1,7 @@
 // One character of a string: escaped, or of more than one byte.
 ghost use Rattle.std.specs.Prelude.{◌≡◌, true, [], ◌∷◌, ◌+◌, ◌≤◌, ◌<◌, length};
-ghost use Rattle.json.specs.Grammar.{Hex};
-ghost use Rattle.json.specs.Utf8.{encode, Wide};
+ghost use Rattle.json_text.specs.Grammar.{Hex};
+ghost use Rattle.json_text.specs.Utf8.{encode, Wide};
 ghost use Rattle.tokens.specs.Places.{byte_at};
 ghost use Rattle.spelled.specs.Stretch.{Passed};
 ghost use Rattle.spelled.specs.Leaves.{Letter, Coded, CharAt};

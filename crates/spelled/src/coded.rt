@@ -1,6 +1,6 @@
 // Octets of a string without escapes: how many they are.
 ghost use Rattle.std.specs.Prelude.{◌+◌, ◌≤◌, ◌<◌, length, take, drop};
-ghost use Rattle.jer.specs.Octets.{hexValue, unhex, base64Value, unbase64};
+ghost use Rattle.jer.specs.Octets.{hex_value, unhex, base64_value, unbase64};
 ghost use Rattle.spelled.specs.Octets.{Digit, Group, OctetsAre};
 
 // The answer for what is not taken.
@@ -8,7 +8,7 @@ const NONE: usize = 4294967295;
 
 // The value of a hexadecimal digit, 16 for any other character.
 pub fn nibble(b: u8) -> u8
-    ensures { Digit hexValue 16 b result }
+    ensures { Digit hex_value 16 b result }
 {
     slices::digit(b as u32) as u8
 }
@@ -33,7 +33,7 @@ pub fn hex_count(s: &[u8], p: usize, n: usize) -> usize
 
 // The value of a Base64 digit, 64 for any other character.
 pub fn digit(b: u8) -> u8
-    ensures { Digit base64Value 64 b result }
+    ensures { Digit base64_value 64 b result }
 {
     match b {
         0x2B => 62,

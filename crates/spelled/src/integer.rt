@@ -1,6 +1,6 @@
 // INTEGER, if it has at most 18 digits. What follows a number is for the caller to see.
 ghost use Rattle.std.specs.Prelude.{◌+◌, ◌^◌, ◌≤◌, ◌<◌};
-ghost use Rattle.json.specs.Grammar.{Onward, Whole};
+ghost use Rattle.json_text.specs.Grammar.{Onward, Whole};
 ghost use Rattle.spelled.specs.Stretch.{Stretch, Passed, Within};
 ghost use Rattle.spelled.specs.Leaves.{IntegerAt};
 

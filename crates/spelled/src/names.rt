@@ -1,6 +1,6 @@
 // The member of a type that has a name, which stands in the text without escapes.
 ghost use Rattle.std.specs.Prelude.{◌≡◌, true, ℕ, ◌+◌, ◌≤◌, ◌<◌, length, take, drop};
-ghost use Rattle.jer.specs.Table.{nameIn, sameBytes, table};
+ghost use Rattle.jer.specs.Table.{name_in, same_bytes, table};
 ghost use Rattle.spelled.specs.Names.{Unlike, Among, FoundAmong};
 
 use crate::bytes::{byte, four, wider};
@@ -10,7 +10,7 @@ use types::row::{name_in, wide};
 // Whether the name in the member's row m is the n bytes at p.
 fn has_name(types: &[u32], names: &[u8], s: &[u8], m: usize, p: usize, n: usize) -> bool
     requires { p + n ≤ length s.now }
-    ensures { result ≡ sameBytes (nameIn (table types.now names.now) m) (take n (drop p s.now)) }
+    ensures { result ≡ same_bytes (name_in (table types.now names.now) m) (take n (drop p s.now)) }
 {
     let x = name_in(types, names, m);
     if x.len() != n {

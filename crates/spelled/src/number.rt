@@ -1,6 +1,6 @@
 // Any number: its value is of no account.
 ghost use Rattle.std.specs.Prelude.{ℕ, ◌<◌};
-ghost use Rattle.json.specs.Grammar.{Digits};
+ghost use Rattle.json_text.specs.Grammar.{Digits};
 ghost use Rattle.spelled.specs.Stretch.{Stretch, Passed, Within, ValueAt};
 ghost use Rattle.spelled.specs.Number.{SomeOnward, SomeWhole, SomeSigned, Dotted, Raised, Powered};
 

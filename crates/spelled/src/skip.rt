@@ -1,6 +1,6 @@
 // Past a value of any kind, with all its nesting.
 ghost use Rattle.std.specs.Prelude.{◌≡◌, ℕ, ◌<◌, ◌≤◌, length};
-ghost use Rattle.json.specs.Grammar.{Space};
+ghost use Rattle.json_text.specs.Grammar.{Space};
 ghost use Rattle.tokens.specs.Places.{byte_at};
 ghost use Rattle.spelled.specs.Stretch.{Stretch, ValueAt, NameAt};
 ghost use Rattle.spelled.specs.Leaves.{IsFlags};

@@ -1,6 +1,6 @@
 // White space.
 ghost use Rattle.std.specs.Prelude.{◌≡◌, true};
-ghost use Rattle.json.specs.Grammar.{Space};
+ghost use Rattle.json_text.specs.Grammar.{Space};
 ghost use Rattle.spelled.specs.Stretch.{Stretch, Within, Blank};
 
 fn is_space(b: u8) -> bool

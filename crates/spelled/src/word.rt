@@ -1,7 +1,7 @@
 // The literals: null, true and false.
 ghost use Rattle.std.specs.Prelude.{true, false, ℕ, ◌<◌};
-ghost use Rattle.json.specs.Tree.{jnull, jbool};
-ghost use Rattle.json.specs.Grammar.{Value};
+ghost use Rattle.json_text.specs.Tree.{jnull, jbool};
+ghost use Rattle.json_text.specs.Grammar.{Value};
 ghost use Rattle.spelled.specs.Stretch.{Passed};
 
 use crate::bytes::four;

@@ -6,7 +6,7 @@ use mathlib.Core.Bool.{Bool, true, false, ◌&&◌}
 use native.Mathlib.Omega.{arith}
 use borrow.Author.Tests.{leb-true}
 use lib.Dec.{leb}
-use Rattle.json.specs.Bytes.{Row, on, pick, In}
+use Rattle.json_text.specs.Bytes.{Row, on, pick, In}
 
 -- Row by row; the second table may have rows to spare, and rows at its end where the first has none.
 pub data Alike {A B : Type 0} (Q : A → B → Type 0) (b : ℕ) (d : A) (e : B) : List (Row A) → List (Row B) → Type 0 where

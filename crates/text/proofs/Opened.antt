@@ -8,7 +8,7 @@ use native.Mathlib.Omega.{arith}
 use borrow.Author.Tests.{eq-eqb, ne_eqb, le-leb, lt-leb, leb-true, leb-false}
 use lib.Dec.{leb, eqb}
 use lib.Pow.{pow_mono}
-use Rattle.json.specs.Machine.{Stack, base, ◌▹◌, in_arr, inObj, room, opened, State, go}
+use Rattle.json_text.specs.Machine.{Stack, base, ◌▹◌, in_arr, in_obj, room, opened, State, go}
 use Rattle.text.specs.declared.outline.Turn.TheVariants.{Bad}
 use Rattle.text.specs.Outline.{goes, opening, opens, closing, closes, parted, comma}
 use Rattle.text.proofs.Outlined.{brackets, limit, Agree, deep}
@@ -29,12 +29,12 @@ bounds : (k : Stack) → (2 ^ depth k ≤ brackets k) × (brackets k < 2 ^ suc (
 unfolding depth
 bounds (base d) = omega arith
 bounds (in_arr o is ▹ k) = let b = bounds k in omega (arith, pow-suc 2 (depth k), pow-suc 2 (suc (depth k)))
-bounds (inObj o ms q s ▹ k) = let b = bounds k in omega (arith, pow-suc 2 (depth k), pow-suc 2 (suc (depth k)))
+bounds (in_obj o ms q s ▹ k) = let b = bounds k in omega (arith, pow-suc 2 (depth k), pow-suc 2 (suc (depth k)))
 
 pub some-bracket : (k : Stack) → 0 < brackets k
 some-bracket (base d) = omega arith
 some-bracket (in_arr o is ▹ k) = let b = some-bracket k in omega arith
-some-bracket (inObj o ms q s ▹ k) = omega arith
+some-bracket (in_obj o ms q s ▹ k) = omega arith
 
 -- no more may be opened where 32 are open
 pub full : (k : Stack) → limit k ≡ 32 → eqb (room k) 0 ≡ leb (2 ^ 32) (brackets k)

@@ -6,11 +6,11 @@ use mathlib.Core.List.{List, [], ◌∷◌}
 use native.Mathlib.Omega.{arith}
 use borrow.Author.Tests.{leb-true, ne_eqb, le-leb, lt-leb}
 use lib.Dec.{leb, eqb}
-use Rattle.json.specs.Bytes.{In}
+use Rattle.json_text.specs.Bytes.{In}
 use Rattle.text.specs.declared.outline.Outline.{Outline}
 use Rattle.text.specs.declared.outline.Turn.{Turn}
 use Rattle.text.specs.declared.outline.Turn.TheVariants.{Bad}
-use Rattle.text.specs.Outline.{Entry, lookup, goes, opening, opens, closing, closes, parted, comma, quoted, actOf, does, leads, step_of, Stays}
+use Rattle.text.specs.Outline.{Entry, lookup, goes, opening, opens, closing, closes, parted, comma, quoted, act_of, does, leads, step_of, Stays}
 
 -- ---- tables by characters
 
@@ -34,10 +34,10 @@ abbrev Held : {A : Type 0} → (A → Type 0) → List (Entry A) → Type 0
 Held P [] = Unit {0}
 Held P (e ∷ es) = P e.holds × Held P es
 
-looked-up : {A : Type 0} (P : A → Type 0) (k : ℕ) (es : List (Entry A)) (d : A) → Held P es → P d → P (lookup k es d)
+looked_up : {A : Type 0} (P : A → Type 0) (k : ℕ) (es : List (Entry A)) (d : A) → Held P es → P d → P (lookup k es d)
 unfolding lookup
-looked-up P k [] d h q = q
-looked-up {A} P k (e ∷ es) d h q = go (eqb k e.key) (looked-up P k es d h.1 q)
+looked_up P k [] d h q = q
+looked_up {A} P k (e ∷ es) d h q = go (eqb k e.key) (looked_up P k es d h.1 q)
   where
     go : (t : Bool) → P (lookup k es d) → P (elim t as (λ x. A) [ true ↦ e.holds | false ↦ lookup k es d ])
     go true w = h.0
@@ -77,7 +77,7 @@ quoted-stays false k = omega arith
 does_stays : (a : ℕ) (n : Bool) (k : ℕ) → Stays (does a n k)
 unfolding does
 does_stays a n k =
-    looked-up Stays a _ Bad
+    looked_up Stays a _ Bad
     (opens-stays 69 0 k (omega arith), (opens-stays 77 1 k (omega arith), (closes-stays 0 k, (closes-stays 1 k, (comma-stays k, (omega arith, (quoted-stays n k, tt)))))))
     tt
 
@@ -91,14 +91,14 @@ stays a s h = go (leb a 90) refl
 
 -- ---- a step, by what the byte leads to
 
-stepped : (s : Outline) (b a : ℕ) (t : Turn) → a ≡ actOf s.mode b → 48 ≤ a → t ≡ leads a s → (t ≡ step_of s b) × Stays t
+stepped : (s : Outline) (b a : ℕ) (t : Turn) → a ≡ act_of s.mode b → 48 ≤ a → t ≡ leads a s → (t ≡ step_of s b) × Stays t
 unfolding step_of
 stepped s b a t e l w = (w ∙ ap (λ (i : ℕ). leads i s) e, rw w (stays a s l))
 
-pub step-mode : (s : Outline) (b a : ℕ) (t : Turn) → a ≡ actOf s.mode b → 48 ≤ a → a ≤ 90 → t ≡ goes a s.name s.brackets → (t ≡ step_of s b) × Stays t
+pub step_mode : (s : Outline) (b a : ℕ) (t : Turn) → a ≡ act_of s.mode b → 48 ≤ a → a ≤ 90 → t ≡ goes a s.name s.brackets → (t ≡ step_of s b) × Stays t
 unfolding leads
-step-mode s b a t e l h w = stepped s b a t e l (w ∙ rw (le-leb a 90 h, leads))
+step_mode s b a t e l h w = stepped s b a t e l (w ∙ rw (le-leb a 90 h, leads))
 
-pub step-act : (s : Outline) (b a : ℕ) (t : Turn) → a ≡ actOf s.mode b → 48 ≤ a → 90 < a → t ≡ does a s.name s.brackets → (t ≡ step_of s b) × Stays t
+pub step_act : (s : Outline) (b a : ℕ) (t : Turn) → a ≡ act_of s.mode b → 48 ≤ a → 90 < a → t ≡ does a s.name s.brackets → (t ≡ step_of s b) × Stays t
 unfolding leads
-step-act s b a t e l h w = stepped s b a t e l (w ∙ rw (lt-leb a 90 h, leads))
+step_act s b a t e l h w = stepped s b a t e l (w ∙ rw (lt-leb a 90 h, leads))

@@ -1,7 +1,7 @@
 -- Byte classes: bytes that the grammar of JSON nowhere tells apart. A class is a character from 0 to Z.
 use Rattle.std.specs.Prelude.{ℕ, ◌<◌, List, [], ◌∷◌, ◌≡◌, get_or}
 use Prim.Native.Char.{Char, code}
-use Rattle.json.specs.Bytes.{Row, on, pick}
+use Rattle.json_text.specs.Bytes.{Row, on, pick}
 
 -- the bytes from lo to hi, and the byte b, lead to the character
 abbrev pub to : ℕ → ℕ → Char → Row ℕ
@@ -10,8 +10,8 @@ to lo hi c = on lo hi (λ b. code c)
 abbrev pub at : ℕ → Char → Row ℕ
 at b c = to b b c
 
-unfoldable pub classRows : List (Row ℕ)
-classRows =
+unfoldable pub class_rows : List (Row ℕ)
+class_rows =
     -- white space; a blank may also stand in a string
     to 0x09 0x0A "1" ∷ at 0x0D "1" ∷ at 0x20 "2"
     -- " \ [ ] { } , : - + .
@@ -30,8 +30,8 @@ classRows =
 
 -- the class of a byte; 0 is that of the bytes that no JSON text has
 unfoldable pub class_of : ℕ → ℕ
-unfolding classRows pick
-class_of b = pick b classRows (code "0")
+unfolding class_rows pick
+class_of b = pick b class_rows (code "0")
 
 -- a table with the class of each byte
 abbrev pub IsClasses : List ℕ → Type 0

@@ -2,7 +2,7 @@
 -- `proofs/` shows that it goes on and refuses at each byte as the machine does; the code is this outline.
 use Rattle.std.specs.Prelude.{ℕ, suc, ◌+◌, ◌-◌, ◌*◌, ◌/◌, ◌%◌, ◌^◌, ◌<◌, ◌≡◌, List, [], ◌∷◌, Bool, true, false, ◌&&◌, leb, eqb, get_or}
 use Prim.Native.Char.{Char, code}
-use Rattle.json.specs.Bytes.{Row, pick, In}
+use Rattle.json_text.specs.Bytes.{Row, pick, In}
 use Rattle.jer.specs.declared.Cause.TheVariants.{NotJson, TooDeep}
 use Rattle.jer.specs.declared.Refusal.TheVariants.{AtByte}
 use Rattle.jer.specs.declared.Judged.{Judged}
@@ -30,52 +30,52 @@ abbrev pub IsMode : ℕ → Type 0
 IsMode m = In (code "0") (code "Z") m
 
 -- white space leads to the mode m, and other bytes as in rs; so for a digit, and for the e of an exponent
-unfoldable pub spaceTo : Char → List (Row ℕ) → List (Row ℕ)
-spaceTo m rs = at 0x20 m ∷ to 0x09 0x0A m ∷ at 0x0D m ∷ rs
+unfoldable pub space_to : Char → List (Row ℕ) → List (Row ℕ)
+space_to m rs = at 0x20 m ∷ to 0x09 0x0A m ∷ at 0x0D m ∷ rs
 
-unfoldable pub digitTo : Char → List (Row ℕ) → List (Row ℕ)
-digitTo m rs = to 0x30 0x39 m ∷ rs
+unfoldable pub digit_to : Char → List (Row ℕ) → List (Row ℕ)
+digit_to m rs = to 0x30 0x39 m ∷ rs
 
-unfoldable pub powerTo : List (Row ℕ) → List (Row ℕ)
-powerTo rs = at 0x45 "X" ∷ at 0x65 "X" ∷ rs
+unfoldable pub power_to : List (Row ℕ) → List (Row ℕ)
+power_to rs = at 0x45 "X" ∷ at 0x65 "X" ∷ rs
 
 -- what may begin a value
-unfoldable pub startTo : List (Row ℕ)
-startTo = at 0x22 "T" ∷ at 0x2D "J" ∷ at 0x30 "Z" ∷ to 0x31 0x39 "W" ∷ at 0x5B "[" ∷ at 0x66 ":" ∷ at 0x6E "@" ∷ at 0x74 ">" ∷ at 0x7B "{" ∷ []
+unfoldable pub start_to : List (Row ℕ)
+start_to = at 0x22 "T" ∷ at 0x2D "J" ∷ at 0x30 "Z" ∷ to 0x31 0x39 "W" ∷ at 0x5B "[" ∷ at 0x66 ":" ∷ at 0x6E "@" ∷ at 0x74 ">" ∷ at 0x7B "{" ∷ []
 
 -- what may follow one
-unfoldable pub afterTo : List (Row ℕ)
-afterTo = spaceTo "A" (at 0x2C "c" ∷ at 0x5D "]" ∷ at 0x7D "}" ∷ [])
+unfoldable pub after_to : List (Row ℕ)
+after_to = space_to "A" (at 0x2C "c" ∷ at 0x5D "]" ∷ at 0x7D "}" ∷ [])
 
 -- a hexadecimal digit
-unfoldable pub hexTo : Char → List (Row ℕ)
-hexTo m = to 0x30 0x39 m ∷ to 0x41 0x46 m ∷ to 0x61 0x66 m ∷ []
+unfoldable pub hex_to : Char → List (Row ℕ)
+hex_to m = to 0x30 0x39 m ∷ to 0x41 0x46 m ∷ to 0x61 0x66 m ∷ []
 
 -- a character of more than one byte
-unfoldable pub wideTo : List (Row ℕ)
-wideTo = to 0xC2 0xDF "3" ∷ at 0xE0 "6" ∷ to 0xE1 0xEC "4" ∷ at 0xED "7" ∷ to 0xEE 0xEF "4" ∷ at 0xF0 "8" ∷ to 0xF1 0xF3 "5" ∷ at 0xF4 "9" ∷ []
+unfoldable pub wide_to : List (Row ℕ)
+wide_to = to 0xC2 0xDF "3" ∷ at 0xE0 "6" ∷ to 0xE1 0xEC "4" ∷ at 0xED "7" ∷ to 0xEE 0xEF "4" ∷ at 0xF0 "8" ∷ to 0xF1 0xF3 "5" ∷ at 0xF4 "9" ∷ []
 
 -- the modes
 unfoldable pub modes : List (Entry (List (Row ℕ)))
 modes =
     -- a value is due; a value or ]; a value has ended; a name or }; a name; the colon
-    entry "V" (spaceTo "V" startTo)
-    ∷ entry "E" (spaceTo "E" (at 0x5D "]" ∷ startTo))
-    ∷ entry "A" afterTo
-    ∷ entry "M" (spaceTo "M" (at 0x22 "n" ∷ at 0x7D "}" ∷ []))
-    ∷ entry "N" (spaceTo "N" (at 0x22 "n" ∷ []))
-    ∷ entry "C" (spaceTo "C" (at 0x3A "V" ∷ []))
+    entry "V" (space_to "V" start_to)
+    ∷ entry "E" (space_to "E" (at 0x5D "]" ∷ start_to))
+    ∷ entry "A" after_to
+    ∷ entry "M" (space_to "M" (at 0x22 "n" ∷ at 0x7D "}" ∷ []))
+    ∷ entry "N" (space_to "N" (at 0x22 "n" ∷ []))
+    ∷ entry "C" (space_to "C" (at 0x3A "V" ∷ []))
     -- in a string: between characters; after a backslash, \u, \uD
-    ∷ entry "T" (at 0x22 "e" ∷ at 0x5C "B" ∷ to 0x20 0x7F "T" ∷ wideTo)
+    ∷ entry "T" (at 0x22 "e" ∷ at 0x5C "B" ∷ to 0x20 0x7F "T" ∷ wide_to)
     ∷ entry "B" (at 0x22 "T" ∷ at 0x2F "T" ∷ at 0x5C "T" ∷ at 0x62 "T" ∷ at 0x66 "T" ∷ at 0x6E "T" ∷ at 0x72 "T" ∷ at 0x74 "T" ∷ at 0x75 "U" ∷ [])
-    ∷ entry "U" (at 0x44 "D" ∷ at 0x64 "D" ∷ hexTo "2")
+    ∷ entry "U" (at 0x44 "D" ∷ at 0x64 "D" ∷ hex_to "2")
     ∷ entry "D" (to 0x30 0x37 "1" ∷ to 0x38 0x39 "H" ∷ to 0x41 0x42 "H" ∷ to 0x61 0x62 "H" ∷ [])
     -- a digit, and then this many more; the last two digits of a high surrogate; \ u D and the digit after it
-    ∷ entry "2" (hexTo "1")
-    ∷ entry "1" (hexTo "0")
-    ∷ entry "0" (hexTo "T")
-    ∷ entry "H" (hexTo "I")
-    ∷ entry "I" (hexTo "P")
+    ∷ entry "2" (hex_to "1")
+    ∷ entry "1" (hex_to "0")
+    ∷ entry "0" (hex_to "T")
+    ∷ entry "H" (hex_to "I")
+    ∷ entry "I" (hex_to "P")
     ∷ entry "P" (at 0x5C "Q" ∷ [])
     ∷ entry "Q" (at 0x75 "R" ∷ [])
     ∷ entry "R" (at 0x44 "S" ∷ at 0x64 "S" ∷ [])
@@ -90,13 +90,13 @@ modes =
     ∷ entry "9" (to 0x80 0x8F "4" ∷ [])
     -- in a number: after the minus sign, 0, digits, the point, its digits, e, the sign, its digits
     ∷ entry "J" (at 0x30 "Z" ∷ to 0x31 0x39 "W" ∷ [])
-    ∷ entry "Z" (at 0x2E "G" ∷ powerTo afterTo)
-    ∷ entry "W" (digitTo "W" (at 0x2E "G" ∷ powerTo afterTo))
-    ∷ entry "G" (digitTo "F" [])
-    ∷ entry "F" (digitTo "F" (powerTo afterTo))
-    ∷ entry "X" (digitTo "K" (at 0x2B "Y" ∷ at 0x2D "Y" ∷ []))
-    ∷ entry "Y" (digitTo "K" [])
-    ∷ entry "K" (digitTo "K" afterTo)
+    ∷ entry "Z" (at 0x2E "G" ∷ power_to after_to)
+    ∷ entry "W" (digit_to "W" (at 0x2E "G" ∷ power_to after_to))
+    ∷ entry "G" (digit_to "F" [])
+    ∷ entry "F" (digit_to "F" (power_to after_to))
+    ∷ entry "X" (digit_to "K" (at 0x2B "Y" ∷ at 0x2D "Y" ∷ []))
+    ∷ entry "Y" (digit_to "K" [])
+    ∷ entry "K" (digit_to "K" after_to)
     -- in a literal, whose rest is alse, lse, se, e; rue, ue; ull, ll, l
     ∷ entry ":" (at 0x61 ";" ∷ [])
     ∷ entry ";" (at 0x6C "<" ∷ [])
@@ -110,17 +110,17 @@ modes =
     ∷ []
 
 unfoldable pub rows_of : ℕ → List (Row ℕ)
-unfolding lookup modes spaceTo startTo afterTo hexTo digitTo powerTo wideTo
+unfolding lookup modes space_to start_to after_to hex_to digit_to power_to wide_to
 rows_of m = lookup m modes []
 
 -- what the byte b leads to in the mode m
-unfoldable pub actOf : ℕ → ℕ → ℕ
+unfoldable pub act_of : ℕ → ℕ → ℕ
 unfolding rows_of
-actOf m b = pick b (rows_of m) (code "_")
+act_of m b = pick b (rows_of m) (code "_")
 
 -- a table of it, with a row for each mode and a column for each class
 abbrev pub IsActs : List (List ℕ) → Type 0
-IsActs l = (m b : ℕ) → IsMode m → b < 256 → get_or (get_or l (m - 48) []) (class_of b - 48) 0 ≡ actOf m b
+IsActs l = (m b : ℕ) → IsMode m → b < 256 → get_or (get_or l (m - 48) []) (class_of b - 48) 0 ≡ act_of m b
 
 -- ---- a step
 
@@ -180,7 +180,7 @@ unfolding does
 leads a s = elim (leb a (code "Z")) [ true ↦ goes a s.name s.brackets | false ↦ does a s.name s.brackets ]
 
 unfoldable pub step_of : Outline → ℕ → Turn
-step_of s b = leads (actOf s.mode b) s
+step_of s b = leads (act_of s.mode b) s
 
 -- what goes on has a mode
 abbrev pub Stays : Turn → Type 0
@@ -196,19 +196,19 @@ begin = record { mode = code "V"; name = false; brackets = 1 }
 
 -- A text may end where a blank would follow its value, and nothing is open.
 unfoldable pub whole : Outline → Bool
-whole s = eqb (actOf s.mode 0x20) (code "A") && eqb s.brackets 1
+whole s = eqb (act_of s.mode 0x20) (code "A") && eqb s.brackets 1
 
 -- 01, Refusal numbers, 3: "the length if it ends early"
-unfoldable pub judgedEnd : Bool → ℕ → Judged
-judgedEnd true p = judged.Good
-judgedEnd false p = judged.Refused (AtByte NotJson p)
+unfoldable pub judged_end : Bool → ℕ → Judged
+judged_end true p = judged.Good
+judged_end false p = judged.Refused (AtByte NotJson p)
 
 -- the bytes from the place p on
-unfoldable pub judgedFrom : ℕ → Outline → List ℕ → Judged
-judgedFrom p s [] = judgedEnd (whole s) p
-judgedFrom p s (b ∷ bs) =
+unfoldable pub judged_from : ℕ → Outline → List ℕ → Judged
+judged_from p s [] = judged_end (whole s) p
+judged_from p s (b ∷ bs) =
     elim (step_of s b) [
-      | On u ↦ judgedFrom (suc p) u bs
+      | On u ↦ judged_from (suc p) u bs
       | Bad ↦ judged.Refused (AtByte NotJson p)
       | Deep ↦ judged.Refused (AtByte TooDeep p)
     ]

@@ -3,7 +3,7 @@
 ghost use Rattle.std.specs.Prelude.{◌≡◌};
 ghost use Rattle.jer.specs.declared.Judged.TheVariants.{Refused};
 ghost use Rattle.jer.specs.declared.Refusal.TheVariants.{AtByte};
-ghost use Rattle.jer.specs.Contracts.{TextCall};
+ghost use Rattle.jer.specs.CallClauses.{TextCall};
 
 mod acts;
 pub mod classes;
@@ -23,8 +23,8 @@ fn refused(cause: Cause, at: usize) -> Judged
 pub fn check(s: &[u8]) -> Judged
     ensures { TextCall s.now result }
 {
-    if json::TEXT < s.len() {
-        return refused(Cause::TooLong, json::TEXT);
+    if json_text::TEXT < s.len() {
+        return refused(Cause::TooLong, json_text::TEXT);
     }
     let classes = classes::table();
     let acts = acts::table();

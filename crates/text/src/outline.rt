@@ -45,7 +45,7 @@ const STRING: u8 = b'T';
 const NONE: u64 = 1;
 
 // From this number on 32 brackets are open.
-const FULL: u64 = 1 << json::BRACKETS;
+const FULL: u64 = 1 << json_text::BRACKETS;
 
 // The kinds of brackets.
 const ARRAY: u64 = 0;

@@ -12,29 +12,29 @@ use Rattle.tokens.specs.declared.numbers.Magnitude.{Magnitude}
 use Rattle.tokens.specs.declared.numbers.Magnitude.TheVariants.{Fits, Over}
 use Rattle.tokens.specs.declared.numbers.Integer.TheVariants.{Whole, BadNumber}
 use Rattle.tokens.specs.Places.{byte_at, run_from}
-use Rattle.tokens.specs.Numbers.{isDigit, digitsAt, magnitudeAt, brokenAt, complement, whole_at, integerAt}
-use Rattle.tokens.specs.Enums.{within, integerOf}
+use Rattle.tokens.specs.Numbers.{is_digit, digits_at, magnitude_at, broken_at, complement, whole_at, integer_at}
+use Rattle.tokens.specs.Enums.{within, integer_of}
 
 -- ---- digits
 
 -- a number only grows with its digits
-digits-grow : (s : List ℕ) (n p m : ℕ) → m ≤ digitsAt s p n m
-unfolding digitsAt
+digits-grow : (s : List ℕ) (n p m : ℕ) → m ≤ digits_at s p n m
+unfolding digits_at
 digits-grow s zero p m = le_refl m
 digits-grow s (suc n) p m = let r = digits-grow s n (p + 1) (m * 10 + (byte_at s p - 0x30)) in omega arith
 
 module _ (s : List ℕ) (p end m : ℕ) where
-  pub digits-end : end ≤ p → digitsAt s p (end - p) m ≡ m
-  unfolding digitsAt
+  pub digits-end : end ≤ p → digits_at s p (end - p) m ≡ m
+  unfolding digits_at
   digits-end h = let f : end - p ≡ 0 = omega arith in rw f
 
   module _ (d b : ℕ) (h : p < end) (e : d ≡ b - 0x30) (f : b ≡ byte_at s p) where
-    pub digits-one : digitsAt s p (end - p) m ≡ digitsAt s (p + 1) (end - (p + 1)) (m * 10 + d)
-    unfolding digitsAt
+    pub digits-one : digits_at s p (end - p) m ≡ digits_at s (p + 1) (end - (p + 1)) (m * 10 + d)
+    unfolding digits_at
     digits-one = let g : end - p ≡ suc (end - (p + 1)) = omega arith in rw (g, e, f)
 
     -- with the next digit the number is above 2^63, and stays so
-    pub digits-over : (x : ℕ) → 2 ^ 63 < m * 10 + d → digitsAt s p (end - p) m ≡ x → Over ≡ within x
+    pub digits-over : (x : ℕ) → 2 ^ 63 < m * 10 + d → digits_at s p (end - p) m ≡ x → Over ≡ within x
     digits-over x l g =
         let k : m * 10 + d ≤ x = omega (arith, digits-grow s (end - (p + 1)) (p + 1) (m * 10 + d), digits-one, g) in
         rw (lt-leb x (2 ^ 63) (omega arith), within)
@@ -59,29 +59,29 @@ within-fits m x h = go (leb x (2 ^ 63)) refl h
 -- ---- halves
 
 module _ (minus : Bool) (m : ℕ) where
-  pub halves-zero : minus ≡ true → m ≡ 0 → Whole 0 0 ≡ integerOf (complement minus m)
+  pub halves_zero : minus ≡ true → m ≡ 0 → Whole 0 0 ≡ integer_of (complement minus m)
   unfolding complement
-  halves-zero e h = rw (e, h)
+  halves_zero e h = rw (e, h)
 
-  pub halves-minus : minus ≡ true → (m ≡ 0 → ⊥) → m ≤ 2 ^ 63
-      → Whole ((18446744073709551615 - m + 1) % 4294967296) ((18446744073709551615 - m + 1) / 4294967296) ≡ integerOf (complement minus m)
+  pub halves_minus : minus ≡ true → (m ≡ 0 → ⊥) → m ≤ 2 ^ 63
+      → Whole ((18446744073709551615 - m + 1) % 4294967296) ((18446744073709551615 - m + 1) / 4294967296) ≡ integer_of (complement minus m)
   unfolding complement
-  halves-minus e h l = rw e (go m h l)
+  halves_minus e h l = rw e (go m h l)
     where
       go : (m : ℕ) → (m ≡ 0 → ⊥) → m ≤ 2 ^ 63
-          → Whole ((18446744073709551615 - m + 1) % 4294967296) ((18446744073709551615 - m + 1) / 4294967296) ≡ integerOf (complement true m)
+          → Whole ((18446744073709551615 - m + 1) % 4294967296) ((18446744073709551615 - m + 1) / 4294967296) ≡ integer_of (complement true m)
       go zero h l = absurd (h refl)
       go (suc n) h l =
           let k : 18446744073709551615 - suc n + 1 ≡ 2 ^ 64 - suc n = omega arith in
           rw (le-leb (suc n) (2 ^ 63) l, complement, k)
 
-  pub halves-over : minus ≡ false → m ≡ 9223372036854775808 → BadNumber ≡ integerOf (complement minus m)
+  pub halves_over : minus ≡ false → m ≡ 9223372036854775808 → BadNumber ≡ integer_of (complement minus m)
   unfolding complement
-  halves-over e h = rw (e, le-ltb m (2 ^ 63) (omega arith), complement)
+  halves_over e h = rw (e, le-ltb m (2 ^ 63) (omega arith), complement)
 
-  pub halves-plus : minus ≡ false → m ≤ 2 ^ 63 → (m ≡ 9223372036854775808 → ⊥) → Whole (m % 4294967296) (m / 4294967296) ≡ integerOf (complement minus m)
+  pub halves_plus : minus ≡ false → m ≤ 2 ^ 63 → (m ≡ 9223372036854775808 → ⊥) → Whole (m % 4294967296) (m / 4294967296) ≡ integer_of (complement minus m)
   unfolding complement
-  halves-plus e l h = rw (e, lt-ltb m (2 ^ 63) (omega arith), complement)
+  halves_plus e l h = rw (e, lt-ltb m (2 ^ 63) (omega arith), complement)
 
   complement-over : 2 ^ 63 < m → complement minus m ≡ none
   unfolding complement
@@ -94,45 +94,45 @@ module _ (minus : Bool) (m : ℕ) where
 
 -- ---- whole numbers
 
-module _ (s : List ℕ) (p end b : ℕ) (minus : Bool) (f : end ≡ run_from isDigit s p) (e : b ≡ byte_at s end) where
-  broken-is : brokenAt s p ≡ (eqb b 0x2E || (eqb b 0x45 || eqb b 0x65))
-  unfolding brokenAt
+module _ (s : List ℕ) (p end b : ℕ) (minus : Bool) (f : end ≡ run_from is_digit s p) (e : b ≡ byte_at s end) where
+  broken-is : broken_at s p ≡ (eqb b 0x2E || (eqb b 0x45 || eqb b 0x65))
+  unfolding broken_at
   broken-is = rw (e, f)
 
-  bad : (eqb b 0x2E || (eqb b 0x45 || eqb b 0x65)) ≡ true → BadNumber ≡ integerOf (whole_at s p minus)
+  bad : (eqb b 0x2E || (eqb b 0x45 || eqb b 0x65)) ≡ true → BadNumber ≡ integer_of (whole_at s p minus)
   unfolding whole_at
   bad h = rw (broken-is ∙ h, whole_at)
 
-  pub whole-point : b ≡ 0x2E → BadNumber ≡ integerOf (whole_at s p minus)
-  whole-point h = bad (rw (eq-eqb b 0x2E h))
+  pub whole_point : b ≡ 0x2E → BadNumber ≡ integer_of (whole_at s p minus)
+  whole_point h = bad (rw (eq-eqb b 0x2E h))
 
-  pub whole-large : b ≡ 0x45 → BadNumber ≡ integerOf (whole_at s p minus)
+  pub whole-large : b ≡ 0x45 → BadNumber ≡ integer_of (whole_at s p minus)
   whole-large h = bad (rw h)
 
-  pub whole-small : b ≡ 0x65 → BadNumber ≡ integerOf (whole_at s p minus)
+  pub whole-small : b ≡ 0x65 → BadNumber ≡ integer_of (whole_at s p minus)
   whole-small h = bad (rw h)
 
   module _ (h₁ : b ≡ 0x2E → ⊥) (h₂ : b ≡ 0x45 → ⊥) (h₃ : b ≡ 0x65 → ⊥) where
-    unbroken : brokenAt s p ≡ false
+    unbroken : broken_at s p ≡ false
     unbroken = rw (broken-is, ne_eqb b 0x2E h₁, ne_eqb b 0x45 h₂, ne_eqb b 0x65 h₃)
 
-    whole_is : whole_at s p minus ≡ complement minus (digitsAt s p (end - p) 0)
-    unfolding whole_at magnitudeAt
+    whole_is : whole_at s p minus ≡ complement minus (digits_at s p (end - p) 0)
+    unfolding whole_at magnitude_at
     whole_is = rw (unbroken, whole_at) (rw f)
 
-    pub whole-over : Over ≡ within (digitsAt s p (end - p) 0) → BadNumber ≡ integerOf (whole_at s p minus)
-    whole-over h = rw (whole_is, complement-over minus (digitsAt s p (end - p) 0) (within-over (digitsAt s p (end - p) 0) h))
+    pub whole-over : Over ≡ within (digits_at s p (end - p) 0) → BadNumber ≡ integer_of (whole_at s p minus)
+    whole-over h = rw (whole_is, complement-over minus (digits_at s p (end - p) 0) (within-over (digits_at s p (end - p) 0) h))
 
-    pub whole-fits : (m : ℕ) → Fits m ≡ within (digitsAt s p (end - p) 0) → integerOf (complement minus m) ≡ integerOf (whole_at s p minus)
-    whole-fits m h = rw (whole_is, (within-fits m (digitsAt s p (end - p) 0) h).0)
+    pub whole-fits : (m : ℕ) → Fits m ≡ within (digits_at s p (end - p) 0) → integer_of (complement minus m) ≡ integer_of (whole_at s p minus)
+    whole-fits m h = rw (whole_is, (within-fits m (digits_at s p (end - p) 0) h).0)
 
 -- ---- the number at a place
 
 module _ (s : List ℕ) (p b : ℕ) (e : b ≡ byte_at s p) where
-  pub integer-minus : b ≡ 0x2D → whole_at s (p + 1) true ≡ integerAt s p
-  unfolding integerAt
-  integer-minus h = rw (eq-eqb (byte_at s p) 0x2D (sym e ∙ h), integerAt)
+  pub integer_minus : b ≡ 0x2D → whole_at s (p + 1) true ≡ integer_at s p
+  unfolding integer_at
+  integer_minus h = rw (eq-eqb (byte_at s p) 0x2D (sym e ∙ h), integer_at)
 
-  pub integer-plain : (b ≡ 0x2D → ⊥) → whole_at s p false ≡ integerAt s p
-  unfolding integerAt
-  integer-plain h = rw (ne_eqb (byte_at s p) 0x2D (λ w. h (e ∙ w)), integerAt)
+  pub integer_plain : (b ≡ 0x2D → ⊥) → whole_at s p false ≡ integer_at s p
+  unfolding integer_at
+  integer_plain h = rw (ne_eqb (byte_at s p) 0x2D (λ w. h (e ∙ w)), integer_at)

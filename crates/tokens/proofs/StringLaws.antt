@@ -10,16 +10,16 @@ use borrow.Author.Tests.{lt-ltb, le-ltb, eq-eqb, ne_eqb, eqb-true, eqb-false, le
 use lib.Dec.{eqb, leb, ltb}
 use lib.ListN.{length, get_or, take, drop, set, length-append}
 use lib.Seq.{sets}
-use Rattle.json.specs.Bytes.{Row, on, pick}
-use Rattle.json.specs.Utf8.{encode}
-use Rattle.json.specs.Grammar.{paired}
-use Rattle.jer.specs.Table.{sameBytes}
+use Rattle.json_text.specs.Bytes.{Row, on, pick}
+use Rattle.json_text.specs.Utf8.{encode}
+use Rattle.json_text.specs.Grammar.{paired}
+use Rattle.jer.specs.Table.{same_bytes}
 use Rattle.tokens.specs.declared.strings.Utf8.{Utf8}
 use Rattle.tokens.specs.Places.{byte_at}
-use Rattle.tokens.specs.Strings.{digitAt, unit_at, letterOf, isHigh, Piece, Close, Bare, Escaped, unitPiece, escapeAt, piece_at, denotedIn, denoted, closeIn, stringEnd, begins}
+use Rattle.tokens.specs.Strings.{digit_at, unit_at, letter_of, is_high, Piece, Close, Bare, Escaped, unit_piece, escape_at, piece_at, denoted_in, denoted, close_in, string_end, begins}
 use Rattle.tokens.specs.Enums.{Encodes}
 use Rattle.tokens.proofs.PlaceLaws.{byte_inside, byte_past, inside}
-use Rattle.slices.proofs.PartLaws.{sets-append}
+use Rattle.slices.proofs.PartLaws.{sets_append}
 use Rattle.tokens.proofs.SliceLaws.{same_end, same-short, same_more, same-differ, same_first, same-begins, same-room, same-other}
 
 -- ---- rows of a table
@@ -55,7 +55,7 @@ pick-not b k f rs d h = go (leb k b) refl
 
 -- ---- four digits
 
-pub unit-is : (s : List ℕ) (p i j k l : ℕ) → i ≡ digitAt s p → j ≡ digitAt s (p + 1) → k ≡ digitAt s (p + 2) → l ≡ digitAt s (p + 3)
+pub unit-is : (s : List ℕ) (p i j k l : ℕ) → i ≡ digit_at s p → j ≡ digit_at s (p + 1) → k ≡ digit_at s (p + 2) → l ≡ digit_at s (p + 3)
     → ((i * 16 + j) * 16 + k) * 16 + l ≡ unit_at s p
 unfolding unit_at
 unit-is s p i j k l a b c d = rw (a, b, c, d)
@@ -63,28 +63,28 @@ unit-is s p i j k l a b c d = rw (a, b, c, d)
 -- ---- letters
 
 module _ (b : ℕ) where
-  pub letter-backspace : b ≡ 0x62 → 0x08 ≡ letterOf b
-  unfolding letterOf pick
+  pub letter-backspace : b ≡ 0x62 → 0x08 ≡ letter_of b
+  unfolding letter_of pick
   letter-backspace e = rw e
 
-  pub letter-form : b ≡ 0x66 → 0x0C ≡ letterOf b
-  unfolding letterOf pick
-  letter-form e = rw e
+  pub letter_form : b ≡ 0x66 → 0x0C ≡ letter_of b
+  unfolding letter_of pick
+  letter_form e = rw e
 
-  pub letter-line : b ≡ 0x6E → 0x0A ≡ letterOf b
-  unfolding letterOf pick
-  letter-line e = rw e
+  pub letter_line : b ≡ 0x6E → 0x0A ≡ letter_of b
+  unfolding letter_of pick
+  letter_line e = rw e
 
-  pub letter-return : b ≡ 0x72 → 0x0D ≡ letterOf b
-  unfolding letterOf pick
+  pub letter-return : b ≡ 0x72 → 0x0D ≡ letter_of b
+  unfolding letter_of pick
   letter-return e = rw e
 
-  pub letter-tab : b ≡ 0x74 → 0x09 ≡ letterOf b
-  unfolding letterOf pick
+  pub letter-tab : b ≡ 0x74 → 0x09 ≡ letter_of b
+  unfolding letter_of pick
   letter-tab e = rw e
 
-  pub letter-own : (b ≡ 0x62 → ⊥) → (b ≡ 0x66 → ⊥) → (b ≡ 0x6E → ⊥) → (b ≡ 0x72 → ⊥) → (b ≡ 0x74 → ⊥) → b ≡ letterOf b
-  unfolding letterOf
+  pub letter-own : (b ≡ 0x62 → ⊥) → (b ≡ 0x66 → ⊥) → (b ≡ 0x6E → ⊥) → (b ≡ 0x72 → ⊥) → (b ≡ 0x74 → ⊥) → b ≡ letter_of b
+  unfolding letter_of
   letter-own h₁ h₂ h₃ h₄ h₅ =
       sym (pick-not b 0x62 _ _ _ h₁ ∙ pick-not b 0x66 _ _ _ h₂ ∙ pick-not b 0x6E _ _ _ h₃ ∙ pick-not b 0x72 _ _ _ h₄ ∙ pick-not b 0x74 _ _ _ h₅ ∙ pick-none b b)
 
@@ -101,51 +101,51 @@ pair-sum h l = refl
 -- ---- escapes
 
 module _ (s : List ℕ) (p b : ℕ) (e : b ≡ byte_at s p) where
-  pub escape-letter : (c : ℕ) → (b ≡ 0x75 → ⊥) → c ≡ letterOf b → Escaped c (p + 1) ≡ escapeAt s p
-  unfolding escapeAt
-  escape-letter c h k = rw (ne_eqb (byte_at s p) 0x75 (λ w. h (e ∙ w)), escapeAt, k, e)
+  pub escape-letter : (c : ℕ) → (b ≡ 0x75 → ⊥) → c ≡ letter_of b → Escaped c (p + 1) ≡ escape_at s p
+  unfolding escape_at
+  escape-letter c h k = rw (ne_eqb (byte_at s p) 0x75 (λ w. h (e ∙ w)), escape_at, k, e)
 
   module _ (h : b ≡ 0x75) (x : ℕ) (f : x ≡ unit_at s (p + 1)) where
-    unit-piece : unitPiece s (p + 1) x ≡ escapeAt s p
-    unfolding escapeAt
-    unit-piece = rw (← e, eq-eqb b 0x75 h, escapeAt, f)
+    unit_piece_lem : unit_piece s (p + 1) x ≡ escape_at s p
+    unfolding escape_at
+    unit_piece_lem = rw (← e, eq-eqb b 0x75 h, escape_at, f)
 
     five : p + 5 ≡ p + 1 + 4
     five = omega arith
 
-    pub escape-low : x < 0xD800 → Escaped x (p + 5) ≡ escapeAt s p
-    unfolding unitPiece
-    escape-low k = rw (← unit-piece, lt-leb 0xD800 x k, unitPiece, five)
+    pub escape-low : x < 0xD800 → Escaped x (p + 5) ≡ escape_at s p
+    unfolding unit_piece
+    escape-low k = rw (← unit_piece_lem, lt-leb 0xD800 x k, unit_piece, five)
 
-    pub escape-high : 0xD800 ≤ x → 0xDBFF < x → Escaped x (p + 5) ≡ escapeAt s p
-    unfolding unitPiece
-    escape-high j k = rw (← unit-piece, le-leb 0xD800 x j, lt-leb x 0xDBFF k, unitPiece, five)
+    pub escape-high : 0xD800 ≤ x → 0xDBFF < x → Escaped x (p + 5) ≡ escape_at s p
+    unfolding unit_piece
+    escape-high j k = rw (← unit_piece_lem, le-leb 0xD800 x j, lt-leb x 0xDBFF k, unit_piece, five)
 
-    pub escape-pair : (c y : ℕ) → 0xD800 ≤ x → x ≤ 0xDBFF → y ≡ unit_at s (p + 7) → c ≡ paired x y → Escaped c (p + 11) ≡ escapeAt s p
-    unfolding unitPiece
+    pub escape-pair : (c y : ℕ) → 0xD800 ≤ x → x ≤ 0xDBFF → y ≡ unit_at s (p + 7) → c ≡ paired x y → Escaped c (p + 11) ≡ escape_at s p
+    unfolding unit_piece
     escape-pair c y j k g w =
         let n : p + 11 ≡ p + 1 + 10 = omega arith in
         let m : p + 7 ≡ p + 1 + 6 = omega arith in
-        rw (← unit-piece, le-leb 0xD800 x j, le-leb x 0xDBFF k, unitPiece, n, w, g, m)
+        rw (← unit_piece_lem, le-leb 0xD800 x j, le-leb x 0xDBFF k, unit_piece, n, w, g, m)
 
 -- ---- pieces
 
 module _ (s : List ℕ) (p : ℕ) where
-  piece-none : byte_at s p ≡ 256 → piece_at s p ≡ Close
+  piece_none : byte_at s p ≡ 256 → piece_at s p ≡ Close
   unfolding piece_at
-  piece-none e = rw (e, piece_at)
+  piece_none e = rw (e, piece_at)
 
-  pub piece-past : length s ≤ p → Close ≡ piece_at s p
-  piece-past h = sym (piece-none (byte_past s p h))
+  pub piece_past : length s ≤ p → Close ≡ piece_at s p
+  piece_past h = sym (piece_none (byte_past s p h))
 
   -- a piece that does not close stands inside
   pub piece_inside : (piece_at s p ≡ Close → ⊥) → p < length s
-  piece_inside h = inside s p (λ e. h (piece-none e))
+  piece_inside h = inside s p (λ e. h (piece_none e))
 
   -- by the byte that the total getter gives
-  pub piece-plain : {b : ℕ} → b ≡ byte_at s p → b < 256 → (b ≡ 0x22 → ⊥) → (b ≡ 0x5C → ⊥) → Bare b ≡ piece_at s p
+  pub piece_plain : {b : ℕ} → b ≡ byte_at s p → b < 256 → (b ≡ 0x22 → ⊥) → (b ≡ 0x5C → ⊥) → Bare b ≡ piece_at s p
   unfolding piece_at
-  piece-plain e h j k =
+  piece_plain e h j k =
       rw (ne_eqb (byte_at s p) 0x22 (λ x. j (e ∙ x)), ne_eqb (byte_at s p) 256 (λ x. omega arith), piece_at)
       (rw (ne_eqb (byte_at s p) 0x5C (λ x. k (e ∙ x))) (ap Bare e))
 
@@ -153,18 +153,18 @@ module _ (s : List ℕ) (p : ℕ) where
     same_byte : get_or s p 0 ≡ byte_at s p
     same_byte = byte_inside s p l
 
-    pub piece-quote : get_or s p 0 ≡ 0x22 → Close ≡ piece_at s p
+    pub piece_quote : get_or s p 0 ≡ 0x22 → Close ≡ piece_at s p
     unfolding piece_at
-    piece-quote e = rw (eq-eqb (byte_at s p) 0x22 (sym same_byte ∙ e), piece_at)
+    piece_quote e = rw (eq-eqb (byte_at s p) 0x22 (sym same_byte ∙ e), piece_at)
 
-    pub piece-escape : get_or s p 0 ≡ 0x5C → escapeAt s (p + 1) ≡ piece_at s p
+    pub piece_escape : get_or s p 0 ≡ 0x5C → escape_at s (p + 1) ≡ piece_at s p
     unfolding piece_at
-    piece-escape e =
+    piece_escape e =
         let w : byte_at s p ≡ 0x5C = sym same_byte ∙ e in
         rw (ne_eqb (byte_at s p) 0x22 (λ x. omega arith), ne_eqb (byte_at s p) 256 (λ x. omega arith), piece_at) (rw (eq-eqb (byte_at s p) 0x5C w))
 
-    pub piece-bare : get_or s p 0 < 256 → (get_or s p 0 ≡ 0x22 → ⊥) → (get_or s p 0 ≡ 0x5C → ⊥) → Bare (get_or s p 0) ≡ piece_at s p
-    piece-bare = piece-plain same_byte
+    pub piece_bare : get_or s p 0 < 256 → (get_or s p 0 ≡ 0x22 → ⊥) → (get_or s p 0 ≡ 0x5C → ⊥) → Bare (get_or s p 0) ≡ piece_at s p
+    piece_bare = piece_plain same_byte
 
 -- an escape goes ahead
 abbrev Ahead : ℕ → Piece → Type 0
@@ -172,16 +172,16 @@ Ahead p Close = Unit {0}
 Ahead p (Bare b) = Unit {0}
 Ahead p (Escaped x q) = p < q
 
-unit-ahead : (s : List ℕ) (p x : ℕ) → Ahead p (unitPiece s p x)
-unfolding unitPiece
-unit-ahead s p x = go (isHigh x) refl
+unit-ahead : (s : List ℕ) (p x : ℕ) → Ahead p (unit_piece s p x)
+unfolding unit_piece
+unit-ahead s p x = go (is_high x) refl
   where
-    go : (t : Bool) → isHigh x ≡ t → Ahead p (unitPiece s p x)
-    go true e = rw (e, unitPiece) (omega arith)
-    go false e = rw (e, unitPiece) (omega arith)
+    go : (t : Bool) → is_high x ≡ t → Ahead p (unit_piece s p x)
+    go true e = rw (e, unit_piece) (omega arith)
+    go false e = rw (e, unit_piece) (omega arith)
 
-escape-ahead : (s : List ℕ) (p : ℕ) → Ahead p (escapeAt s (p + 1))
-unfolding escapeAt
+escape-ahead : (s : List ℕ) (p : ℕ) → Ahead p (escape_at s (p + 1))
+unfolding escape_at
 escape-ahead s p = go (eqb (byte_at s (p + 1)) 0x75) refl (unit-ahead s (p + 1 + 1) (unit_at s (p + 1 + 1)))
   where
     less : (x : Piece) → Ahead (p + 1 + 1) x → Ahead p x
@@ -189,15 +189,15 @@ escape-ahead s p = go (eqb (byte_at s (p + 1)) 0x75) refl (unit-ahead s (p + 1 +
     less (Bare b) h = tt
     less (Escaped x q) h = omega arith
 
-    go : (t : Bool) → eqb (byte_at s (p + 1)) 0x75 ≡ t → Ahead (p + 1 + 1) (unitPiece s (p + 1 + 1) (unit_at s (p + 1 + 1))) → Ahead p (escapeAt s (p + 1))
-    go true e a = rw (e, escapeAt) (less (unitPiece s (p + 1 + 1) (unit_at s (p + 1 + 1))) a)
-    go false e a = rw (e, escapeAt) (omega arith)
+    go : (t : Bool) → eqb (byte_at s (p + 1)) 0x75 ≡ t → Ahead (p + 1 + 1) (unit_piece s (p + 1 + 1) (unit_at s (p + 1 + 1))) → Ahead p (escape_at s (p + 1))
+    go true e a = rw (e, escape_at) (less (unit_piece s (p + 1 + 1) (unit_at s (p + 1 + 1))) a)
+    go false e a = rw (e, escape_at) (omega arith)
 
-piece-ahead : (s : List ℕ) (p : ℕ) → Ahead p (piece_at s p)
+piece_ahead : (s : List ℕ) (p : ℕ) → Ahead p (piece_at s p)
 unfolding piece_at
-piece-ahead s p = go (eqb (byte_at s p) 0x22 || eqb (byte_at s p) 256) refl
+piece_ahead s p = go (eqb (byte_at s p) 0x22 || eqb (byte_at s p) 256) refl
   where
-    go₂ : (t : Bool) → Ahead p (elim t as (λ x. Piece) [ true ↦ escapeAt s (p + 1) | false ↦ Bare (byte_at s p) ])
+    go₂ : (t : Bool) → Ahead p (elim t as (λ x. Piece) [ true ↦ escape_at s (p + 1) | false ↦ Bare (byte_at s p) ])
     go₂ true = escape-ahead s p
     go₂ false = tt
 
@@ -206,7 +206,7 @@ piece-ahead s p = go (eqb (byte_at s p) 0x22 || eqb (byte_at s p) 256) refl
     go false e = rw (e, piece_at) (go₂ (eqb (byte_at s p) 0x5C))
 
 pub escaped-ahead : (s : List ℕ) (p x q : ℕ) → piece_at s p ≡ Escaped x q → p < q
-escaped-ahead s p x q e = rw e at (piece-ahead s p)
+escaped-ahead s p x q e = rw e at (piece_ahead s p)
 
 -- where a piece stands
 pub bare-inside : (s : List ℕ) (p : ℕ) {b : ℕ} → Bare b ≡ piece_at s p → p < length s
@@ -224,80 +224,80 @@ escaped-inside s p {x} {q} e = (piece_inside s p (λ w. clash (e ∙ w)), escape
 -- ---- what a string denotes, piece by piece
 
 -- more pieces than bytes are left change nothing
-denoted-more : (s : List ℕ) (k p : ℕ) → length s - p ≤ k → denotedIn k s p ≡ denotedIn (suc k) s p
-unfolding denotedIn
-denoted-more s zero p h = rw (← piece-past s p (omega arith), denotedIn)
+denoted-more : (s : List ℕ) (k p : ℕ) → length s - p ≤ k → denoted_in k s p ≡ denoted_in (suc k) s p
+unfolding denoted_in
+denoted-more s zero p h = rw (← piece_past s p (omega arith), denoted_in)
 denoted-more s (suc k) p h = go (λ q m. denoted-more s k q (omega arith)) (piece_at s p) refl
   where
-    go : ((q : ℕ) → p < q → denotedIn k s q ≡ denotedIn (suc k) s q) → (x : Piece) → piece_at s p ≡ x → denotedIn (suc k) s p ≡ denotedIn (suc (suc k)) s p
-    go ih Close e = rw (e, denotedIn)
-    go ih (Bare b) e = rw (e, denotedIn) (ap (λ (l : List ℕ). b ∷ l) (ih (p + 1) (omega arith)))
-    go ih (Escaped x q) e = rw (e, denotedIn) (ap (λ (l : List ℕ). encode x ++ l) (ih q (escaped-ahead s p x q e)))
+    go : ((q : ℕ) → p < q → denoted_in k s q ≡ denoted_in (suc k) s q) → (x : Piece) → piece_at s p ≡ x → denoted_in (suc k) s p ≡ denoted_in (suc (suc k)) s p
+    go ih Close e = rw (e, denoted_in)
+    go ih (Bare b) e = rw (e, denoted_in) (ap (λ (l : List ℕ). b ∷ l) (ih (p + 1) (omega arith)))
+    go ih (Escaped x q) e = rw (e, denoted_in) (ap (λ (l : List ℕ). encode x ++ l) (ih q (escaped-ahead s p x q e)))
 
 module _ (s : List ℕ) (p : ℕ) where
   pub denoted-close : Close ≡ piece_at s p → denoted s p ≡ []
-  unfolding denoted denotedIn
+  unfolding denoted denoted_in
   denoted-close e = go (length s)
     where
-      go : (n : ℕ) → denotedIn n s p ≡ []
+      go : (n : ℕ) → denoted_in n s p ≡ []
       go zero = refl
-      go (suc n) = rw (← e, denotedIn)
+      go (suc n) = rw (← e, denoted_in)
 
   pub denoted-bare : (b : ℕ) → Bare b ≡ piece_at s p → denoted s p ≡ b ∷ denoted s (p + 1)
-  unfolding denoted denotedIn
+  unfolding denoted denoted_in
   denoted-bare b e = go (length s) refl (bare-inside s p e)
     where
-      go : (n : ℕ) → length s ≡ n → p < length s → denotedIn n s p ≡ b ∷ denotedIn n s (p + 1)
+      go : (n : ℕ) → length s ≡ n → p < length s → denoted_in n s p ≡ b ∷ denoted_in n s (p + 1)
       go zero h l = absurd (omega arith)
-      go (suc n) h l = rw (← e, denotedIn) (ap (λ (l : List ℕ). b ∷ l) (denoted-more s n (p + 1) (omega arith)))
+      go (suc n) h l = rw (← e, denoted_in) (ap (λ (l : List ℕ). b ∷ l) (denoted-more s n (p + 1) (omega arith)))
 
   pub denoted-escaped : (x q : ℕ) → Escaped x q ≡ piece_at s p → denoted s p ≡ encode x ++ denoted s q
-  unfolding denoted denotedIn
+  unfolding denoted denoted_in
   denoted-escaped x q e = go (length s) refl (escaped-inside s p e)
     where
-      go : (n : ℕ) → length s ≡ n → (p < length s) × (p < q) → denotedIn n s p ≡ encode x ++ denotedIn n s q
+      go : (n : ℕ) → length s ≡ n → (p < length s) × (p < q) → denoted_in n s p ≡ encode x ++ denoted_in n s q
       go zero h l = absurd (omega arith)
-      go (suc n) h l = rw (← e, denotedIn) (ap (λ (l : List ℕ). encode x ++ l) (denoted-more s n q (omega arith)))
+      go (suc n) h l = rw (← e, denoted_in) (ap (λ (l : List ℕ). encode x ++ l) (denoted-more s n q (omega arith)))
 
 -- a string whose first byte stands for itself, against bytes that do not begin with it
 pub denoted-other : (s : List ℕ) (p : ℕ) (names : List ℕ) (from : ℕ) {b : ℕ} → Bare b ≡ piece_at s p → (byte_at names from ≡ b → ⊥)
-    → (n : ℕ) → sameBytes (take n (drop from names)) (denoted s p) ≡ false
+    → (n : ℕ) → same_bytes (take n (drop from names)) (denoted s p) ≡ false
 denoted-other s p names from {b} e d n = rw (denoted-bare s p b e) (same_first names from b (denoted s (p + 1)) n d)
 
 -- ---- the end of a string
 
 module _ (s : List ℕ) (n p : ℕ) where
-  close-none : byte_at s p ≡ 256 → closeIn n s p ≡ p
-  unfolding closeIn
+  close-none : byte_at s p ≡ 256 → close_in n s p ≡ p
+  unfolding close_in
   close-none e = go n
     where
-      go : (k : ℕ) → closeIn k s p ≡ p
+      go : (k : ℕ) → close_in k s p ≡ p
       go zero = refl
-      go (suc k) = rw (e, closeIn)
+      go (suc k) = rw (e, close_in)
 
-  close-quote : byte_at s p ≡ 0x22 → closeIn (suc n) s p ≡ p + 1
-  unfolding closeIn
-  close-quote e = rw (ne_eqb (byte_at s p) 256 (λ x. omega arith), closeIn) (rw (eq-eqb (byte_at s p) 0x22 e))
+  close-quote : byte_at s p ≡ 0x22 → close_in (suc n) s p ≡ p + 1
+  unfolding close_in
+  close-quote e = rw (ne_eqb (byte_at s p) 256 (λ x. omega arith), close_in) (rw (eq-eqb (byte_at s p) 0x22 e))
 
-  close-pair : byte_at s p ≡ 0x5C → closeIn (suc n) s p ≡ closeIn n s (p + 2)
-  unfolding closeIn
-  close-pair e = rw (ne_eqb (byte_at s p) 256 (λ x. omega arith), closeIn) (rw (ne_eqb (byte_at s p) 0x22 (λ x. omega arith)) (rw (eq-eqb (byte_at s p) 0x5C e)))
+  close-pair : byte_at s p ≡ 0x5C → close_in (suc n) s p ≡ close_in n s (p + 2)
+  unfolding close_in
+  close-pair e = rw (ne_eqb (byte_at s p) 256 (λ x. omega arith), close_in) (rw (ne_eqb (byte_at s p) 0x22 (λ x. omega arith)) (rw (eq-eqb (byte_at s p) 0x5C e)))
 
-  close_other : (byte_at s p ≡ 256 → ⊥) → (byte_at s p ≡ 0x22 → ⊥) → (byte_at s p ≡ 0x5C → ⊥) → closeIn (suc n) s p ≡ closeIn n s (p + 1)
-  unfolding closeIn
-  close_other h₁ h₂ h₃ = rw (ne_eqb (byte_at s p) 256 h₁, closeIn) (rw (ne_eqb (byte_at s p) 0x22 h₂) (rw (ne_eqb (byte_at s p) 0x5C h₃)))
+  close_other : (byte_at s p ≡ 256 → ⊥) → (byte_at s p ≡ 0x22 → ⊥) → (byte_at s p ≡ 0x5C → ⊥) → close_in (suc n) s p ≡ close_in n s (p + 1)
+  unfolding close_in
+  close_other h₁ h₂ h₃ = rw (ne_eqb (byte_at s p) 256 h₁, close_in) (rw (ne_eqb (byte_at s p) 0x22 h₂) (rw (ne_eqb (byte_at s p) 0x5C h₃)))
 
-close-start : (s : List ℕ) (p : ℕ) → p ≤ closeIn zero s p
-unfolding closeIn
+close-start : (s : List ℕ) (p : ℕ) → p ≤ close_in zero s p
+unfolding close_in
 close-start s p = omega arith
 
 -- more steps than bytes are left change nothing
-close_more : (s : List ℕ) (k p : ℕ) → length s - p ≤ k → closeIn k s p ≡ closeIn (suc k) s p
+close_more : (s : List ℕ) (k p : ℕ) → length s - p ≤ k → close_in k s p ≡ close_in (suc k) s p
 close_more s zero p h = let e = byte_past s p (omega arith) in close-none s zero p e ∙ sym (close-none s (suc zero) p e)
 close_more s (suc k) p h = go (λ q m. close_more s k q (omega arith)) (eqb (byte_at s p) 256) (eqb (byte_at s p) 0x22) (eqb (byte_at s p) 0x5C) refl refl refl
   where
-    go : ((q : ℕ) → p < q → closeIn k s q ≡ closeIn (suc k) s q) → (t u v : Bool) → eqb (byte_at s p) 256 ≡ t → eqb (byte_at s p) 0x22 ≡ u → eqb (byte_at s p) 0x5C ≡ v
-        → closeIn (suc k) s p ≡ closeIn (suc (suc k)) s p
+    go : ((q : ℕ) → p < q → close_in k s q ≡ close_in (suc k) s q) → (t u v : Bool) → eqb (byte_at s p) 256 ≡ t → eqb (byte_at s p) 0x22 ≡ u → eqb (byte_at s p) 0x5C ≡ v
+        → close_in (suc k) s p ≡ close_in (suc (suc k)) s p
     go ih true u v e f g = let w = eqb-true (byte_at s p) 256 e in close-none s (suc k) p w ∙ sym (close-none s (suc (suc k)) p w)
     go ih false true v e f g = let w = eqb-true (byte_at s p) 0x22 f in close-quote s k p w ∙ sym (close-quote s (suc k) p w)
     go ih false false true e f g = let w = eqb-true (byte_at s p) 0x5C g in close-pair s k p w ∙ ih (p + 2) (omega arith) ∙ sym (close-pair s (suc k) p w)
@@ -307,51 +307,51 @@ close_more s (suc k) p h = go (λ q m. close_more s k q (omega arith)) (eqb (byt
         let c = eqb-false (byte_at s p) 0x5C g in
         close_other s k p a b c ∙ ih (p + 1) (omega arith) ∙ sym (close_other s (suc k) p a b c)
 
-close-ahead : (s : List ℕ) (k p : ℕ) → p ≤ closeIn k s p
+close-ahead : (s : List ℕ) (k p : ℕ) → p ≤ close_in k s p
 close-ahead s zero p = close-start s p
 close-ahead s (suc k) p = go (λ q m. close-ahead s k q) (eqb (byte_at s p) 256) (eqb (byte_at s p) 0x22) (eqb (byte_at s p) 0x5C) refl refl refl
   where
-    go : ((q : ℕ) → p < q → q ≤ closeIn k s q) → (t u v : Bool) → eqb (byte_at s p) 256 ≡ t → eqb (byte_at s p) 0x22 ≡ u → eqb (byte_at s p) 0x5C ≡ v → p ≤ closeIn (suc k) s p
+    go : ((q : ℕ) → p < q → q ≤ close_in k s q) → (t u v : Bool) → eqb (byte_at s p) 256 ≡ t → eqb (byte_at s p) 0x22 ≡ u → eqb (byte_at s p) 0x5C ≡ v → p ≤ close_in (suc k) s p
     go ih true u v e f g = omega (arith, close-none s (suc k) p (eqb-true (byte_at s p) 256 e))
     go ih false true v e f g = omega (arith, close-quote s k p (eqb-true (byte_at s p) 0x22 f))
     go ih false false true e f g = omega (arith, close-pair s k p (eqb-true (byte_at s p) 0x5C g), ih (p + 2) (omega arith))
     go ih false false false e f g =
         omega (arith, close_other s k p (eqb-false (byte_at s p) 256 e) (eqb-false (byte_at s p) 0x22 f) (eqb-false (byte_at s p) 0x5C g), ih (p + 1) (omega arith))
 
-pub end-ahead : (s : List ℕ) (p : ℕ) → p ≤ stringEnd s p
-unfolding stringEnd
+pub end-ahead : (s : List ℕ) (p : ℕ) → p ≤ string_end s p
+unfolding string_end
 end-ahead s p = close-ahead s (length s) p
 
 module _ (s : List ℕ) (p : ℕ) where
-  pub end-past : length s ≤ p → stringEnd s p ≡ p
-  unfolding stringEnd
+  pub end-past : length s ≤ p → string_end s p ≡ p
+  unfolding string_end
   end-past h = close-none s (length s) p (byte_past s p h)
 
   module _ (l : p < length s) where
     at : get_or s p 0 ≡ byte_at s p
     at = byte_inside s p l
 
-    pub end-quote : get_or s p 0 ≡ 0x22 → stringEnd s p ≡ p + 1
-    unfolding stringEnd
+    pub end-quote : get_or s p 0 ≡ 0x22 → string_end s p ≡ p + 1
+    unfolding string_end
     end-quote e = go (length s) l
       where
-        go : (n : ℕ) → p < n → closeIn n s p ≡ p + 1
+        go : (n : ℕ) → p < n → close_in n s p ≡ p + 1
         go zero h = absurd (omega arith)
         go (suc n) h = close-quote s n p (sym at ∙ e)
 
-    pub end-pair : get_or s p 0 ≡ 0x5C → stringEnd s p ≡ stringEnd s (p + 2)
-    unfolding stringEnd
+    pub end-pair : get_or s p 0 ≡ 0x5C → string_end s p ≡ string_end s (p + 2)
+    unfolding string_end
     end-pair e = go (length s) refl
       where
-        go : (n : ℕ) → length s ≡ n → closeIn n s p ≡ closeIn n s (p + 2)
+        go : (n : ℕ) → length s ≡ n → close_in n s p ≡ close_in n s (p + 2)
         go zero h = absurd (omega arith)
         go (suc n) h = close-pair s n p (sym at ∙ e) ∙ close_more s n (p + 2) (omega arith)
 
-    pub end-other : get_or s p 0 < 256 → (get_or s p 0 ≡ 0x22 → ⊥) → (get_or s p 0 ≡ 0x5C → ⊥) → stringEnd s p ≡ stringEnd s (p + 1)
-    unfolding stringEnd
+    pub end-other : get_or s p 0 < 256 → (get_or s p 0 ≡ 0x22 → ⊥) → (get_or s p 0 ≡ 0x5C → ⊥) → string_end s p ≡ string_end s (p + 1)
+    unfolding string_end
     end-other b f g = go (length s) refl
       where
-        go : (n : ℕ) → length s ≡ n → closeIn n s p ≡ closeIn n s (p + 1)
+        go : (n : ℕ) → length s ≡ n → close_in n s p ≡ close_in n s (p + 1)
         go zero h = absurd (omega arith)
         go (suc n) h = close_other s n p (λ x. omega (arith, at)) (λ x. f (at ∙ x)) (λ x. g (at ∙ x)) ∙ close_more s n (p + 1) (omega arith)
 
@@ -374,8 +374,8 @@ module _ (x : ℕ) where
   unfolding encode
   encode-four h = rw (le-ltb x 0x80 (omega arith), le-ltb x 0x800 (omega arith), le-ltb x 0x10000 h, encode) (record { bytes = refl; len = refl; few = omega arith; room = omega arith })
 
-pub encodes-length : {c : Utf8} {bs : List ℕ} → Encodes c bs → length (take c.len c.bytes) ≡ c.len
-encodes-length f = ap length f.bytes ∙ sym f.len
+pub encodes_length : {c : Utf8} {bs : List ℕ} → Encodes c bs → length (take c.len c.bytes) ≡ c.len
+encodes_length f = ap length f.bytes ∙ sym f.len
 
 -- ---- how many bytes a string denotes at the most
 
@@ -389,15 +389,15 @@ encode-few x = go (ltb x 0x80) refl (ltb x 0x800) refl (ltb x 0x10000) refl
     go false e false f true g = rw (e, encode) (rw f (rw g (omega arith)))
     go false e false f false g = rw (e, encode) (rw f (rw g (omega arith)))
 
-denoted-in-few : (s : List ℕ) (k p : ℕ) → length (denotedIn k s p) ≤ 4 * k
-unfolding denotedIn
+denoted-in-few : (s : List ℕ) (k p : ℕ) → length (denoted_in k s p) ≤ 4 * k
+unfolding denoted_in
 denoted-in-few s zero p = omega arith
 denoted-in-few s (suc k) p = go (piece_at s p) refl (denoted-in-few s k)
   where
-    go : (x : Piece) → piece_at s p ≡ x → ((q : ℕ) → length (denotedIn k s q) ≤ 4 * k) → length (denotedIn (suc k) s p) ≤ 4 * suc k
-    go Close e h = rw (e, denotedIn) (omega arith)
-    go (Bare b) e h = rw (e, denotedIn) (omega (arith, h (p + 1)))
-    go (Escaped x q) e h = rw (e, denotedIn) (omega (arith, length-append (encode x) (denotedIn k s q), encode-few x, h q))
+    go : (x : Piece) → piece_at s p ≡ x → ((q : ℕ) → length (denoted_in k s q) ≤ 4 * k) → length (denoted_in (suc k) s p) ≤ 4 * suc k
+    go Close e h = rw (e, denoted_in) (omega arith)
+    go (Bare b) e h = rw (e, denoted_in) (omega (arith, h (p + 1)))
+    go (Escaped x q) e h = rw (e, denoted_in) (omega (arith, length-append (encode x) (denoted_in k s q), encode-few x, h q))
 
 pub denoted-few : (s : List ℕ) (p : ℕ) → length (denoted s p) ≤ 4 * length s
 unfolding denoted
@@ -429,72 +429,72 @@ pub record Copying (s : List ℕ) (p : ℕ) (before : List ℕ) (j : ℕ) (now :
   pub stored : sets now (j + n) (denoted s i) ≡ sets before j (denoted s p)
   pub kept : length now ≡ length before
 
-pub copying-start : (s : List ℕ) (p : ℕ) (before : List ℕ) (j : ℕ) → Copying s p before j before p 0
-copying-start s p before j = record {
+pub copying_start : (s : List ℕ) (p : ℕ) (before : List ℕ) (j : ℕ) → Copying s p before j before p 0
+copying_start s p before j = record {
   counting = record { counted = omega arith; few = omega arith };
   stored = ap (λ (k : ℕ). sets before k (denoted s p)) (add-zero j);
   kept = refl;
 }
 
 module _ {s : List ℕ} {p : ℕ} {before : List ℕ} {j : ℕ} {now : List ℕ} {i n : ℕ} (f : Copying s p before j now i n) where
-  pub copying-close : Close ≡ piece_at s i → now ≡ sets before j (denoted s p)
-  copying-close e = rw (denoted-close s i e) at f.stored
+  pub copying_close : Close ≡ piece_at s i → now ≡ sets before j (denoted s p)
+  copying_close e = rw (denoted-close s i e) at f.stored
 
-  pub copying-bare : {b : ℕ} {after : List ℕ} → Bare b ≡ piece_at s i → after ≡ set now (j + n) b → length after ≡ length now → Copying s p before j after (i + 1) (n + 1)
-  copying-bare {b} e h k = record {
+  pub copying_bare : {b : ℕ} {after : List ℕ} → Bare b ≡ piece_at s i → after ≡ set now (j + n) b → length after ≡ length now → Copying s p before j after (i + 1) (n + 1)
+  copying_bare {b} e h k = record {
     counting = counting-bare f.counting e;
     stored = rw (h, add-one n, add-suc j n) (rw (denoted-bare s i b e) at f.stored);
     kept = k ∙ f.kept;
   }
 
   -- the rest is stored at once
-  pub copying-rest : {m : ℕ} {after : List ℕ} → m ≡ length (denoted s i) → after ≡ sets now (j + n) (denoted s i) → (n + m ≡ length (denoted s p)) × (after ≡ sets before j (denoted s p))
-  copying-rest e h = (omega (arith, e, f.counting.counted), h ∙ f.stored)
+  pub copying_rest : {m : ℕ} {after : List ℕ} → m ≡ length (denoted s i) → after ≡ sets now (j + n) (denoted s i) → (n + m ≡ length (denoted s p)) × (after ≡ sets before j (denoted s p))
+  copying_rest e h = (omega (arith, e, f.counting.counted), h ∙ f.stored)
 
-  pub copying-escaped : {x q : ℕ} {c : Utf8} {after : List ℕ} → Escaped x q ≡ piece_at s i → Encodes c (encode x) → after ≡ sets now (j + n) (take c.len c.bytes)
+  pub copying_escaped : {x q : ℕ} {c : Utf8} {after : List ℕ} → Escaped x q ≡ piece_at s i → Encodes c (encode x) → after ≡ sets now (j + n) (take c.len c.bytes)
       → length after ≡ length now → Copying s p before j after q (n + c.len)
-  copying-escaped {x} {q} {c} e g h k =
+  copying_escaped {x} {q} {c} e g h k =
       let w : j + (n + length (encode x)) ≡ j + n + length (encode x) = omega arith in
       record {
         counting = counting-escaped f.counting e g;
-        stored = rw (h, g.bytes, g.len, w) (sym (sets-append now (j + n) (encode x) (denoted s q)) ∙ (rw (denoted-escaped s i x q e) at f.stored));
+        stored = rw (h, g.bytes, g.len, w) (sym (sets_append now (j + n) (encode x) (denoted s q)) ∙ (rw (denoted-escaped s i x q e) at f.stored));
         kept = k ∙ f.kept;
       }
 
 -- what was passed denotes the name's first k bytes
 pub record Comparing (s : List ℕ) (p : ℕ) (name : List ℕ) (i k : ℕ) : Type 0 where
-  pub same : sameBytes (drop k name) (denoted s i) ≡ sameBytes name (denoted s p)
+  pub same : same_bytes (drop k name) (denoted s i) ≡ same_bytes name (denoted s p)
   pub within : k ≤ length name
 
 module _ {s : List ℕ} {p : ℕ} {name : List ℕ} {i k : ℕ} (f : Comparing s p name i k) where
-  pub comparing-close : Close ≡ piece_at s i → eqb k (length name) ≡ sameBytes name (denoted s p)
-  comparing-close e = same_end name k f.within ∙ rw (← denoted-close s i e) f.same
+  pub comparing_close : Close ≡ piece_at s i → eqb k (length name) ≡ same_bytes name (denoted s p)
+  comparing_close e = same_end name k f.within ∙ rw (← denoted-close s i e) f.same
 
   module _ {b : ℕ} (e : Bare b ≡ piece_at s i) where
-    rest : sameBytes (drop k name) (b ∷ denoted s (i + 1)) ≡ sameBytes name (denoted s p)
+    rest : same_bytes (drop k name) (b ∷ denoted s (i + 1)) ≡ same_bytes name (denoted s p)
     rest = rw (← denoted-bare s i b e) f.same
 
-    pub comparing-short : length name ≤ k → false ≡ sameBytes name (denoted s p)
-    comparing-short h = same-short name k b (denoted s (i + 1)) h ∙ rest
+    pub comparing_short : length name ≤ k → false ≡ same_bytes name (denoted s p)
+    comparing_short h = same-short name k b (denoted s (i + 1)) h ∙ rest
 
-    pub comparing-differ : k < length name → (get_or name k 0 ≡ b → ⊥) → false ≡ sameBytes name (denoted s p)
-    comparing-differ h d = same-differ name k b (denoted s (i + 1)) h d ∙ rest
+    pub comparing_differ : k < length name → (get_or name k 0 ≡ b → ⊥) → false ≡ same_bytes name (denoted s p)
+    comparing_differ h d = same-differ name k b (denoted s (i + 1)) h d ∙ rest
 
-    pub comparing-bare : k < length name → get_or name k 0 ≡ b → Comparing s p name (i + 1) (k + 1)
-    comparing-bare h d = record { same = sym (same_more name k b (denoted s (i + 1)) h d) ∙ rest; within = omega arith }
+    pub comparing_bare : k < length name → get_or name k 0 ≡ b → Comparing s p name (i + 1) (k + 1)
+    comparing_bare h d = record { same = sym (same_more name k b (denoted s (i + 1)) h d) ∙ rest; within = omega arith }
 
   module _ {x q : ℕ} {c : Utf8} (e : Escaped x q ≡ piece_at s i) (g : Encodes c (encode x)) where
-    rest-escaped : sameBytes (drop k name) (take c.len c.bytes ++ denoted s q) ≡ sameBytes name (denoted s p)
+    rest-escaped : same_bytes (drop k name) (take c.len c.bytes ++ denoted s q) ≡ same_bytes name (denoted s p)
     rest-escaped = rw (g.bytes, ← denoted-escaped s i x q e) f.same
 
-    pub comparing-other : begins (take c.len c.bytes) (drop k name) ≡ false → false ≡ sameBytes name (denoted s p)
-    comparing-other h = same-other name k (take c.len c.bytes) (denoted s q) h ∙ rest-escaped
+    pub comparing_other : begins (take c.len c.bytes) (drop k name) ≡ false → false ≡ same_bytes name (denoted s p)
+    comparing_other h = same-other name k (take c.len c.bytes) (denoted s q) h ∙ rest-escaped
 
-    pub comparing-escaped : begins (take c.len c.bytes) (drop k name) ≡ true → Comparing s p name q (k + c.len)
-    comparing-escaped h = record {
+    pub comparing_escaped : begins (take c.len c.bytes) (drop k name) ≡ true → Comparing s p name q (k + c.len)
+    comparing_escaped h = record {
       same =
-          ap (λ (n : ℕ). sameBytes (drop (k + n) name) (denoted s q)) (sym (encodes-length g))
+          ap (λ (n : ℕ). same_bytes (drop (k + n) name) (denoted s q)) (sym (encodes_length g))
           ∙ sym (same-begins name k (take c.len c.bytes) (denoted s q) h)
           ∙ rest-escaped;
-      within = omega (arith, encodes-length g, same-room name k (take c.len c.bytes) (denoted s q) f.within h);
+      within = omega (arith, encodes_length g, same-room name k (take c.len c.bytes) (denoted s q) f.within h);
     }

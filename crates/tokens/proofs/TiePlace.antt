@@ -7,22 +7,22 @@ use native.Mathlib.Numerals.{add-one}
 use native.Mathlib.Omega.{arith}
 use lib.ListN.{length, get_or, drop, length-drop}
 use lib.Seq.{get_or-drop, drop-drop}
-use Rattle.json.specs.Bytes.{past}
+use Rattle.json_text.specs.Bytes.{past}
 use Rattle.tokens.specs.Places.{byte_at}
 
 -- ---- bytes
 
-pub byte-on : (s : List ℕ) (p i : ℕ) (zs : List ℕ) → drop p s ≡ zs → byte_at s (p + i) ≡ get_or zs i 256
-byte-on s p i zs h = sym (get_or-drop p s i 256) ∙ ap (λ (z : List ℕ). get_or z i 256) h
+pub byte_on : (s : List ℕ) (p i : ℕ) (zs : List ℕ) → drop p s ≡ zs → byte_at s (p + i) ≡ get_or zs i 256
+byte_on s p i zs h = sym (get_or-drop p s i 256) ∙ ap (λ (z : List ℕ). get_or z i 256) h
 
-byte-first : (s : List ℕ) (p : ℕ) (zs : List ℕ) → drop p s ≡ zs → byte_at s p ≡ get_or zs 0 256
-byte-first s p zs h = rw add-zero at (byte-on s p 0 zs h)
+byte_first : (s : List ℕ) (p : ℕ) (zs : List ℕ) → drop p s ≡ zs → byte_at s p ≡ get_or zs 0 256
+byte_first s p zs h = rw add-zero at (byte_on s p 0 zs h)
 
-pub byte-here : (s : List ℕ) (p b : ℕ) (ys : List ℕ) → drop p s ≡ b ∷ ys → byte_at s p ≡ b
-byte-here s p b ys h = byte-first s p (b ∷ ys) h
+pub byte_here : (s : List ℕ) (p b : ℕ) (ys : List ℕ) → drop p s ≡ b ∷ ys → byte_at s p ≡ b
+byte_here s p b ys h = byte_first s p (b ∷ ys) h
 
-pub byte-end : (s : List ℕ) (p : ℕ) → drop p s ≡ [] → byte_at s p ≡ 256
-byte-end s p h = byte-first s p [] h
+pub byte_end : (s : List ℕ) (p : ℕ) → drop p s ≡ [] → byte_at s p ≡ 256
+byte_end s p h = byte_first s p [] h
 
 -- ---- places
 
@@ -39,10 +39,10 @@ unfolding past
 past-length p [] = sym (add-zero p)
 past-length p (b ∷ xs) = omega (arith, past-length (suc p) xs)
 
-pub past-append : (p : ℕ) (xs ys : List ℕ) → past p (xs ++ ys) ≡ past (past p xs) ys
+pub past_append : (p : ℕ) (xs ys : List ℕ) → past p (xs ++ ys) ≡ past (past p xs) ys
 unfolding past
-past-append p [] ys = refl
-past-append p (b ∷ xs) ys = past-append (suc p) xs ys
+past_append p [] ys = refl
+past_append p (b ∷ xs) ys = past_append (suc p) xs ys
 
 -- what stands at a place is no longer than the text
 pub length-left : (s : List ℕ) (p : ℕ) (zs : List ℕ) → drop p s ≡ zs → length zs ≤ length s

@@ -8,17 +8,17 @@ use Rattle.tokens.specs.declared.numbers.Magnitude.{Magnitude}
 use Rattle.tokens.specs.declared.numbers.Magnitude.TheVariants.{Fits, Over}
 use Rattle.tokens.specs.declared.numbers.Integer.{Integer}
 use Rattle.tokens.specs.declared.numbers.Integer.TheVariants.{Whole, BadNumber}
-use Rattle.tokens.specs.Places.{isSpace}
-use Rattle.tokens.specs.Skip.{isEnd, isBetween}
-use Rattle.tokens.specs.Numbers.{isDigit}
+use Rattle.tokens.specs.Places.{is_space}
+use Rattle.tokens.specs.Skip.{is_end, is_between}
+use Rattle.tokens.specs.Numbers.{is_digit}
 use Rattle.tokens.specs.Strings.{Piece, Close, Bare, Escaped}
 
 -- the test of a class of bytes
 abbrev pub passes : Class → ℕ → Bool
-passes Space b = isSpace b
-passes Between b = isBetween b
-passes Word b = not (isEnd b)
-passes Digit b = isDigit b
+passes Space b = is_space b
+passes Between b = is_between b
+passes Word b = not (is_end b)
+passes Digit b = is_digit b
 
 -- a piece whose character's UTF-8 is at most four bytes
 abbrev pub Coded : Piece → Type 0
@@ -38,6 +38,6 @@ abbrev pub within : ℕ → Magnitude
 within m = elim (leb m (2 ^ 63)) [ true ↦ Fits m | false ↦ Over ]
 
 -- 01, Value table: "INTEGER: a the low and b the high half of its 64-bit two's complement."
-abbrev pub integerOf : Option ℕ → Integer
-integerOf none = BadNumber
-integerOf (some n) = Whole (n % 2 ^ 32) (n / 2 ^ 32)
+abbrev pub integer_of : Option ℕ → Integer
+integer_of none = BadNumber
+integer_of (some n) = Whole (n % 2 ^ 32) (n / 2 ^ 32)

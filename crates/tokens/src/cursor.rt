@@ -1,8 +1,8 @@
 // Places in a text: the byte at one, runs of bytes of one class, and the cursor.
 ghost use Rattle.std.specs.Prelude.{◌≡◌, ◌+◌, ◌≤◌, ◌<◌};
-ghost use Rattle.tokens.specs.Places.{byte_at, isSpace, run_from, pastSpace};
-ghost use Rattle.tokens.specs.Skip.{isEnd, isBetween};
-ghost use Rattle.tokens.specs.Numbers.{isDigit};
+ghost use Rattle.tokens.specs.Places.{byte_at, is_space, run_from, past_space};
+ghost use Rattle.tokens.specs.Skip.{is_end, is_between};
+ghost use Rattle.tokens.specs.Numbers.{is_digit};
 ghost use Rattle.tokens.specs.Enums.{passes};
 
 // The bytes that a run passes.
@@ -19,25 +19,25 @@ pub enum Class {
 }
 
 fn is_space(b: u8) -> bool
-    ensures { result ≡ isSpace b }
+    ensures { result ≡ is_space b }
 {
     b == 0x20 || (b == 0x09 || (b == 0x0A || b == 0x0D))
 }
 
 fn is_between(b: u8) -> bool
-    ensures { result ≡ isBetween b }
+    ensures { result ≡ is_between b }
 {
     is_space(b) || (b == 0x2C || b == 0x3A)
 }
 
 fn is_end(b: u8) -> bool
-    ensures { result ≡ isEnd b }
+    ensures { result ≡ is_end b }
 {
     is_space(b) || (b == 0x2C || (b == 0x5D || b == 0x7D))
 }
 
 fn is_digit(b: u8) -> bool
-    ensures { result ≡ isDigit b }
+    ensures { result ≡ is_digit b }
 {
     0x30 <= b && b <= 0x39
 }
@@ -77,7 +77,7 @@ pub struct Cursor {
 impl Cursor {
     // Past the white space at the cursor.
     pub fn skip_space(self, s: &[u8]) -> Cursor
-        ensures { result.at ≡ pastSpace s.now self.at }
+        ensures { result.at ≡ past_space s.now self.at }
     {
         let at = self.at;
         Cursor {

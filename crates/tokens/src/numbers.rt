@@ -1,7 +1,7 @@
 // The INTEGER at a place.
 ghost use Rattle.std.specs.Prelude.{◌≡◌, ◌-◌, ◌^◌, ◌≤◌};
-ghost use Rattle.tokens.specs.Numbers.{digitsAt, whole_at, integerAt, complement};
-ghost use Rattle.tokens.specs.Enums.{within, integerOf};
+ghost use Rattle.tokens.specs.Numbers.{digits_at, whole_at, integer_at, complement};
+ghost use Rattle.tokens.specs.Enums.{within, integer_of};
 
 use crate::cursor::{Class, run};
 use slices::byte_at;
@@ -30,7 +30,7 @@ fn value_of(b: u32) -> u64
 
 // The decimal number from p to end.
 fn magnitude_at(s: &[u8], p: usize, end: usize) -> Magnitude
-    ensures { result ≡ within (digitsAt s.now p (end - p) 0) }
+    ensures { result ≡ within (digits_at s.now p (end - p) 0) }
 {
     let mut m: u64 = 0;
     let mut i = p;
@@ -48,7 +48,7 @@ fn magnitude_at(s: &[u8], p: usize, end: usize) -> Magnitude
 // The halves of m, or of its negative.
 fn halves(minus: bool, m: u64) -> Integer
     requires { m ≤ 2 ^ 63 }
-    ensures { result ≡ integerOf (complement minus m) }
+    ensures { result ≡ integer_of (complement minus m) }
 {
     if minus {
         if m == 0 {
@@ -71,7 +71,7 @@ fn halves(minus: bool, m: u64) -> Integer
 
 // The number whose digits begin at p, after a minus sign or none.
 fn whole(s: &[u8], p: usize, minus: bool) -> Integer
-    ensures { result ≡ integerOf (whole_at s.now p minus) }
+    ensures { result ≡ integer_of (whole_at s.now p minus) }
 {
     let end = run(s, p, Class::Digit);
     let b = byte_at(s, end);
@@ -92,7 +92,7 @@ fn whole(s: &[u8], p: usize, minus: bool) -> Integer
 
 // The number at p, from its minus sign or first digit on.
 pub fn integer_at(s: &[u8], p: usize) -> Integer
-    ensures { result ≡ integerOf (integerAt s.now p) }
+    ensures { result ≡ integer_of (integer_at s.now p) }
 {
     if byte_at(s, p) == 0x2D {
         return whole(s, p + 1, true);

@@ -1,6 +1,6 @@
 // Past a value and all its nesting.
 ghost use Rattle.std.specs.Prelude.{◌≡◌, ◌≤◌, length};
-ghost use Rattle.tokens.specs.Skip.{pastValue, pastBracket};
+ghost use Rattle.tokens.specs.Skip.{past_value, past_bracket};
 
 use crate::cursor::{Class, run};
 use crate::strings::string_end;
@@ -10,7 +10,7 @@ use slices::byte_at;
 #[cycle(skip_bracket_skip_value)]
 pub fn skip_value(s: &[u8], p: usize, depth: u32) -> usize
     requires { length s.now ≤ 65536 }
-    ensures { result ≡ pastValue depth s.now p }
+    ensures { result ≡ past_value depth s.now p }
 {
     let b = byte_at(s, p);
     if b == 0x22 {
@@ -29,7 +29,7 @@ pub fn skip_value(s: &[u8], p: usize, depth: u32) -> usize
 #[cycle(skip_bracket_skip_value)]
 pub fn skip_bracket(s: &[u8], p: usize, depth: u32) -> usize
     requires { length s.now ≤ 65536 }
-    ensures { result ≡ pastBracket depth s.now p }
+    ensures { result ≡ past_bracket depth s.now p }
 {
     if depth == 0 {
         return s.len();

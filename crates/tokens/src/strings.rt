@@ -1,10 +1,10 @@
 // Strings, from the place after the opening quotation mark: the characters that they denote, compared, counted and copied.
 ghost use Rattle.std.specs.Prelude.{◌≡◌, true, false, List, ℕ, ◌≤◌, ◌<◌, length, take, drop};
 ghost use Rattle.std.proofs.lemmas.List.Edits.{sets};
-ghost use Rattle.json.specs.Utf8.{encode};
-ghost use Rattle.json.specs.Grammar.{paired};
-ghost use Rattle.jer.specs.Table.{sameBytes};
-ghost use Rattle.tokens.specs.Strings.{digitAt, unit_at, letterOf, Bare, Escaped, escapeAt, piece_at, denoted, stringEnd};
+ghost use Rattle.json_text.specs.Utf8.{encode};
+ghost use Rattle.json_text.specs.Grammar.{paired};
+ghost use Rattle.jer.specs.Table.{same_bytes};
+ghost use Rattle.tokens.specs.Strings.{digit_at, unit_at, letter_of, Bare, Escaped, escape_at, piece_at, denoted, string_end};
 ghost use Rattle.tokens.specs.Enums.{Coded, Encodes};
 
 use crate::starts::starts;
@@ -24,7 +24,7 @@ pub enum Piece {
 // The place after the closing quotation mark, or the end.
 pub fn string_end(s: &[u8], p: usize) -> usize
     requires { length s.now ≤ 65536 }
-    ensures { result ≡ stringEnd s.now p }
+    ensures { result ≡ string_end s.now p }
 {
     let mut i = p;
     while i < s.len() {
@@ -43,7 +43,7 @@ pub fn string_end(s: &[u8], p: usize) -> usize
 
 // A hexadecimal digit's value, 0 for any other byte.
 fn digit(s: &[u8], p: usize) -> u32
-    ensures { (result ≡ digitAt s.now p) × (result ≤ 15) }
+    ensures { (result ≡ digit_at s.now p) × (result ≤ 15) }
 {
     slices::digit(byte_at(s, p)) % 16
 }
@@ -59,7 +59,7 @@ fn unit(s: &[u8], p: usize) -> u32
 // The character of a letter after a backslash.
 fn letter(b: u32) -> u32
     requires { b ≤ 256 }
-    ensures { (result ≡ letterOf b) × (result ≤ 256) }
+    ensures { (result ≡ letter_of b) × (result ≤ 256) }
 {
     match b {
         0x62 => 0x08,
@@ -94,7 +94,7 @@ pub struct Unescaped {
 // What a backslash before p makes.
 fn escape(s: &[u8], p: usize) -> Unescaped
     requires { p ≤ 65536 }
-    ensures next_value { Escaped result.code result.next ≡ escapeAt s.now p }
+    ensures next_value { Escaped result.code result.next ≡ escape_at s.now p }
     ensures code_bound { result.code < 2097152 }
 {
     let b = byte_at(s, p);
@@ -184,7 +184,7 @@ fn encoded(x: u32) -> Utf8
 // Whether the string at p denotes these bytes.
 pub fn same_as(s: &[u8], p: usize, name: &[u8]) -> bool
     requires { length s.now ≤ 65536 }
-    ensures { result ≡ sameBytes name.now (denoted s.now p) }
+    ensures { result ≡ same_bytes name.now (denoted s.now p) }
 {
     let mut i = p;
     let mut k = 0;
@@ -233,7 +233,7 @@ pub fn plain_first(s: &[u8], p: usize) -> u32
 
 // Whether no name at `from` can be a string that begins with b, its plain first byte. Where b is 256, any can.
 pub fn first_differs(names: &[u8], from: usize, b: u32) -> bool
-    ensures { result ≡ true → (s : List ℕ) (p n : ℕ) → (b < 256 → Bare b ≡ piece_at s p) → sameBytes (take n (drop from names.now)) (denoted s p) ≡ false }
+    ensures { result ≡ true → (s : List ℕ) (p n : ℕ) → (b < 256 → Bare b ≡ piece_at s p) → same_bytes (take n (drop from names.now)) (denoted s p) ≡ false }
 {
     if 256 <= b {
         return false;
@@ -244,7 +244,7 @@ pub fn first_differs(names: &[u8], from: usize, b: u32) -> bool
 // Whether the string at p denotes the name that stands in `names` at `from`, len bytes long.
 pub fn same(s: &[u8], p: usize, names: &[u8], from: usize, len: usize) -> bool
     requires { length s.now ≤ 65536 }
-    ensures { result ≡ sameBytes (take len (drop from names.now)) (denoted s.now p) }
+    ensures { result ≡ same_bytes (take len (drop from names.now)) (denoted s.now p) }
 {
     let name = part(names, from, len);
     same_as(s, p, name)
@@ -291,7 +291,7 @@ pub struct Copied {
 pub fn copy(s: &[u8], p: usize, pool: &mut [u8], j: usize) -> Copied
     requires { (length s.now ≤ 65536) × (j ≤ 4294967296) }
     ensures count_value { result.count ≡ length (denoted s.now p) }
-    ensures from_value { stringEnd s.now result.from ≡ stringEnd s.now p }
+    ensures from_value { string_end s.now result.from ≡ string_end s.now p }
     ensures pool_after { pool.new ≡ sets pool.old j (denoted s.now p) }
 {
     let mut i = p;

@@ -12,23 +12,23 @@ use Rattle.jer.specs.declared.Cause.{Cause}
 use Rattle.jer.specs.declared.Cause.TheVariants.{Unknown}
 use Rattle.jer.specs.declared.Refusal.{Refusal}
 use Rattle.jer.specs.declared.Refusal.TheVariants.{AtByte}
-use Rattle.jer.specs.Table.{Table, is_type, elementOf, countOf, kind_of, SEQUENCE}
-use Rattle.jer.specs.Value.{Val, vSeq, vList, Vals, Parts}
+use Rattle.jer.specs.Table.{Table, is_type, element_of, count_of, kind_of, SEQUENCE}
+use Rattle.jer.specs.Value.{Val, v_seq, v_list, Vals, Parts}
 use Rattle.jer.specs.Answer.{Res, ok, no, bind, at}
 use Rattle.places.specs.declared.Follows.{Follows}
 use Rattle.places.specs.declared.Follows.TheVariants.{Part, Shut}
 use Rattle.places.specs.declared.One.{One}
 use Rattle.places.specs.declared.One.TheVariants as one
-use Rattle.places.specs.ByPlaces.{Got, got, Reader, valuePlace, firstPart, one_at, itemsAt, listAt, elementsAt, array_at, surplusAt, within}
-use Rattle.types.specs.Rows.{foundOf}
-use Rattle.tokens.specs.Places.{byte_at, pastSpace}
-use Rattle.tokens.specs.Skip.{pastValue}
+use Rattle.places.specs.ByPlaces.{Got, got, Reader, value_place, first_part, one_at, items_at, list_at, elements_at, array_at, surplus_at, within}
+use Rattle.types.specs.Rows.{found_of}
+use Rattle.tokens.specs.Places.{byte_at, past_space}
+use Rattle.tokens.specs.Skip.{past_value}
 use Rattle.scan.proofs.PartLaws.{first-inside}
 use Rattle.types.specs.declared.token.Found.TheVariants.{At, Nothing}
 use Rattle.leaf.specs.declared.Step.{Step}
 use Rattle.leaf.specs.declared.Step.TheVariants.{Read, Refused}
 use Rattle.typed.specs.Cycle.{Given, Reads, Small, ArrayEnd, stops, closes}
-use Rattle.typed.proofs.StoredLaws.{Took, took, not-took, reads-no, along, closed, whole-seq}
+use Rattle.typed.proofs.StoredLaws.{Took, took, not-took, reads-no, along, closed, whole_seq}
 use Rattle.typed.proofs.ListLaws.{Near}
 use Rattle.typed.proofs.SequenceLaws.{Elements, elements-end, elements-surplus, surplus-near}
 
@@ -37,14 +37,14 @@ use Rattle.typed.proofs.SequenceLaws.{Elements, elements-end, elements-surplus, 
 pub record Passed (t : Table) (r : ℕ) (x : Res (Got Val)) (b y a m : ℕ) : Type 0 where
   pub took : Took t r x y a m
   pub near : y ≤ b
-  pub fewRows : a < 2 ^ 32
-  pub fewBytes : m < 2 ^ 32
+  pub few_rows : a < 2 ^ 32
+  pub few_bytes : m < 2 ^ 32
 
 module _ {z : Step} {rows₁ rows₀ pool₁ pool₀ : List ℕ} {i o b : ℕ} {t : Table} {r : ℕ} {x : Res (Got Val)} (f : Reads z rows₁ rows₀ pool₁ pool₀ i o b t r x) where
   pub passed : {y a m : ℕ} → z ≡ Read y a m → Passed t r x b y a m
   passed {y} {a} {m} e =
       let s : Small b (Read y a m) = subst (Small b) e f.small in
-      record { took = took t r x y a m (sym e ∙ f.stepped.answer); near = s.0; fewRows = s.1; fewBytes = s.2 }
+      record { took = took t r x y a m (sym e ∙ f.stepped.answer); near = s.0; few_rows = s.1; few_bytes = s.2 }
 
   pub failed : {e : Refusal} → z ≡ Refused e → x ≡ no e
   failed {e} h = not-took t r x e (sym h ∙ f.stepped.answer)
@@ -53,18 +53,18 @@ module _ {z : Step} {rows₁ rows₀ pool₁ pool₀ : List ℕ} {i o b : ℕ} {
 
 module _ {t : Table} {s : List ℕ} {r p i o d : ℕ} where
   pub given_below : Given t s r p (i + 1) o d → Given t s r p i o d
-  given_below f = record { sane = f.sane; typed = f.typed; short = f.short; near = f.near; rowRoom = omega (arith, f.rowRoom); byteRoom = f.byteRoom }
+  given_below f = record { sane = f.sane; typed = f.typed; short = f.short; near = f.near; row_room = omega (arith, f.row_room); byte_room = f.byte_room }
 
   pub given-type : {q : ℕ} → Given t s r p i o d → is_type t q ≡ true → Given t s q p i o d
-  given-type f h = record { sane = f.sane; typed = h; short = f.short; near = f.near; rowRoom = f.rowRoom; byteRoom = f.byteRoom }
+  given-type f h = record { sane = f.sane; typed = h; short = f.short; near = f.near; row_room = f.row_room; byte_room = f.byte_room }
 
   -- a part, after n rows and m bytes of those before it
-  pub given-part : {q u n m : ℕ} → Given t s r p i o d → 0 < d → is_type t q ≡ true → u ≤ 4294967295 → n ≤ 281474976710656 → m ≤ 281474976710656 → Given t s q u (i + 1 + n + 1) (o + m) (d - 1)
-  given-part f l h k a b = record { sane = f.sane; typed = h; short = f.short; near = k; rowRoom = omega (arith, f.rowRoom); byteRoom = omega (arith, f.byteRoom) }
+  pub given_part : {q u n m : ℕ} → Given t s r p i o d → 0 < d → is_type t q ≡ true → u ≤ 4294967295 → n ≤ 281474976710656 → m ≤ 281474976710656 → Given t s q u (i + 1 + n + 1) (o + m) (d - 1)
+  given_part f l h k a b = record { sane = f.sane; typed = h; short = f.short; near = k; row_room = omega (arith, f.row_room); byte_room = omega (arith, f.byte_room) }
 
   -- the one part of a choice
   pub given-one : {q u : ℕ} → Given t s r p i o d → 0 < d → is_type t q ≡ true → u ≤ 4294967295 → Given t s q u (i + 1 + 1) o (d - 1)
-  given-one f l h k = record { sane = f.sane; typed = h; short = f.short; near = k; rowRoom = omega (arith, f.rowRoom); byteRoom = omega (arith, f.byteRoom) }
+  given-one f l h k = record { sane = f.sane; typed = h; short = f.short; near = k; row_room = omega (arith, f.row_room); byte_room = omega (arith, f.byte_room) }
 
 -- ---- a bracket's result, counted
 
@@ -78,41 +78,41 @@ module _ (t : Table) (r : ℕ) where
   over_no e = rw (← e)
 
 module _ (value : Reader) (t : Table) (s : List ℕ) (r p : ℕ) where
-  pub list-ok : {vs : Vals} {q : ℕ} → ok (got vs q) ≡ itemsAt (λ q. value (elementOf t r) q) s (length s) (firstPart s 0x5D p) → ok (got (vList vs) q) ≡ listAt value t s r p
-  unfolding listAt bind
+  pub list-ok : {vs : Vals} {q : ℕ} → ok (got vs q) ≡ items_at (λ q. value (element_of t r) q) s (length s) (first_part s 0x5D p) → ok (got (v_list vs) q) ≡ list_at value t s r p
+  unfolding list_at bind
   list-ok e = rw (← e)
 
-  pub list-no : {y : Refusal} → no y ≡ itemsAt (λ q. value (elementOf t r) q) s (length s) (firstPart s 0x5D p) → no y ≡ listAt value t s r p
-  unfolding listAt bind
+  pub list-no : {y : Refusal} → no y ≡ items_at (λ q. value (element_of t r) q) s (length s) (first_part s 0x5D p) → no y ≡ list_at value t s r p
+  unfolding list_at bind
   list-no e = rw (← e)
 
   module _ (d : ℕ) where
-    pub array_ok : {ps : Parts} {q : ℕ} → ok (got ps q) ≡ elementsAt value d t s r p 0 (countOf t r) (firstPart s 0x5D p) → ok (got (vSeq ps) q) ≡ array_at value d t s r p
+    pub array_ok : {ps : Parts} {q : ℕ} → ok (got ps q) ≡ elements_at value d t s r p 0 (count_of t r) (first_part s 0x5D p) → ok (got (v_seq ps) q) ≡ array_at value d t s r p
     unfolding array_at bind
     array_ok e = rw (← e)
 
-    pub array-no : {y : Refusal} → no y ≡ elementsAt value d t s r p 0 (countOf t r) (firstPart s 0x5D p) → no y ≡ array_at value d t s r p
+    pub array-no : {y : Refusal} → no y ≡ elements_at value d t s r p 0 (count_of t r) (first_part s 0x5D p) → no y ≡ array_at value d t s r p
     unfolding array_at bind
     array-no e = rw (← e)
 
     -- the array's own row, after its last member
     pub array-end : {f : Follows} {i o n m k bits a b y : ℕ} {z : Step} {rows₂ rows₁ rows₀ pool₁ pool₀ : List ℕ}
-        → Elements value d t s r p (elementsAt value d t s r p 0 (countOf t r) (firstPart s 0x5D p)) f i o n m k bits rows₁ rows₀ pool₁ pool₀
-        → countOf t r ≤ k → kind_of t r ≡ SEQUENCE → a ≡ ones bits → length s ≤ 65536 → 65537 ≤ b → b ≤ y → Near b f
-        → ArrayEnd z rows₂ rows₁ i a n m (surplusAt d t s r f) → Reads z rows₂ rows₀ pool₁ pool₀ i o y t r (bind (array_at value d t s r p) (within t r))
+        → Elements value d t s r p (elements_at value d t s r p 0 (count_of t r) (first_part s 0x5D p)) f i o n m k bits rows₁ rows₀ pool₁ pool₀
+        → count_of t r ≤ k → kind_of t r ≡ SEQUENCE → a ≡ ones bits → length s ≤ 65536 → 65537 ≤ b → b ≤ y → Near b f
+        → ArrayEnd z rows₂ rows₁ i a n m (surplus_at d t s r f) → Reads z rows₂ rows₀ pool₁ pool₀ i o y t r (bind (array_at value d t s r p) (within t r))
     array-end w l h e short far far' near (stops u v) = rw v (reads-no (over_no t r (array-no (elements-surplus value d t s r p w l u))))
     array-end {f} {b = b} w l h e short far far' near (closes {q} u v st) =
-        along (over-ok t r (array_ok (elements-end value d t s r p w l u))) (closed (whole-seq w.done.sofar h w.done.members (e ∙ w.done.count)) (omega (arith, surplus-near d t s r b q f short far near u)) v st)
+        along (over-ok t r (array_ok (elements-end value d t s r p w l u))) (closed (whole_seq w.done.sofar h w.done.members (e ∙ w.done.count)) (omega (arith, surplus-near d t s r b q f short far near u)) v st)
 
 -- ---- what was looked for
 
-pub found_some : (x : Option ℕ) {i : ℕ} → At i ≡ foundOf x → x ≡ some i
-unfolding foundOf
+pub found_some : (x : Option ℕ) {i : ℕ} → At i ≡ found_of x → x ≡ some i
+unfolding found_of
 found_some none e = absurd (let z : ◌≡◌ {A = ℕ} 0 1 = cc in omega arith)
 found_some (some j) e = cc
 
-pub found_none : (x : Option ℕ) → Nothing ≡ foundOf x → x ≡ none
-unfolding foundOf
+pub found_none : (x : Option ℕ) → Nothing ≡ found_of x → x ≡ none
+unfolding found_of
 found_none none e = refl
 found_none (some j) e = absurd (let z : ◌≡◌ {A = ℕ} 0 1 = cc in omega arith)
 
@@ -140,13 +140,13 @@ pub at_place : {z : Step} {rows₁ rows₀ pool₁ pool₀ : List ℕ} {i o b : 
 at_place {z} {rows₁} {rows₀} {pool₁} {pool₀} {i} {o} {b} {t} {r} {e} {p} {q} value h k f = subst (λ (u : ℕ). Reads z rows₁ rows₀ pool₁ pool₀ i o b t e (value e u)) k (at_row value p h f)
 
 -- the name of the one member of an object
-pub one-near : (d : ℕ) (s : List ℕ) (p : ℕ) {q : ℕ} → length s ≤ 65536 → p < length s → one.At q ≡ one_at d s (firstPart s 0x7D p) → q ≤ 65536
+pub one-near : (d : ℕ) (s : List ℕ) (p : ℕ) {q : ℕ} → length s ≤ 65536 → p < length s → one.At q ≡ one_at d s (first_part s 0x7D p) → q ≤ 65536
 unfolding one_at
-one-near d s p {q} l h e = go (firstPart s 0x7D p) refl e
+one-near d s p {q} l h e = go (first_part s 0x7D p) refl e
   where
-    go : (f : Follows) → firstPart s 0x7D p ≡ f → one.At q ≡ one_at d s f → q ≤ 65536
+    go : (f : Follows) → first_part s 0x7D p ≡ f → one.At q ≡ one_at d s f → q ≤ 65536
     go (Shut y) w e = absurd (let z : ◌≡◌ {A = ℕ} 0 1 = cc in omega arith)
-    go (Part y) w e = go₂ (eqb (byte_at s (pastSpace s (pastValue d s (valuePlace s y)))) 0x2C) e
+    go (Part y) w e = go₂ (eqb (byte_at s (past_space s (past_value d s (value_place s y)))) 0x2C) e
       where
         go₂ : (b : Bool) → one.At q ≡ elim b as (λ x. One) [ true ↦ one.NotOne | false ↦ one.At y ] → q ≤ 65536
         go₂ true e = absurd (let z : ◌≡◌ {A = ℕ} 0 1 = cc in omega arith)

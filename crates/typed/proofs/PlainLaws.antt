@@ -8,30 +8,30 @@ use native.Mathlib.Omega.{arith}
 use borrow.Author.Tests.{eqb-true, eq-eqb, ne_eqb, ltb-true}
 use lib.Dec.{eqb, ltb}
 use lib.ListN.{length}
-use Rattle.json.specs.Bytes.{pick}
+use Rattle.json_text.specs.Bytes.{pick}
 use Rattle.jer.specs.declared.Cause.TheVariants.{Missing, TooDeep, OtherKind, Unknown, UnknownName, NotOne}
 use Rattle.jer.specs.declared.Limit.TheVariants.{LentRoom}
 use Rattle.jer.specs.declared.Refusal.{Refusal}
 use Rattle.jer.specs.declared.Refusal.TheVariants.{Amounts}
-use Rattle.jer.specs.Table.{Table, NULL, SEQUENCE, SEQUENCE-OF, CHOICE, kind_of, openUnwrapped, type_at, isArray, isUnwrapped, extensible, alternative, position, Token, tNull, tBoolean, tNumber, tString, tArray, tObject, tokenCode}
-use Rattle.jer.proofs.Forms.{kind-tag}
-use Rattle.jer.specs.Value.{Val, vChoice, vNull}
+use Rattle.jer.specs.Table.{Table, NULL, SEQUENCE, SEQUENCE-OF, CHOICE, kind_of, open_unwrapped, type_at, is_array, is_unwrapped, extensible, alternative, position, Token, t_null, t_boolean, t_number, t_string, t_array, t_object, token_code}
+use Rattle.jer.proofs.Forms.{kind_tag}
+use Rattle.jer.specs.Value.{Val, v_choice, v_null}
 use Rattle.jer.specs.Answer.{Res, ok, no, bind, at}
-use Rattle.jer.specs.Read.{nullValue, missingElement}
-use Rattle.jer.specs.Rows.{rows_of, poolOf, above}
+use Rattle.jer.specs.Read.{null_value, missing_element}
+use Rattle.jer.specs.Rows.{rows_of, pool_of, above}
 use Rattle.jer.proofs.WeightGot.{found, got as unok}
-use Rattle.tokens.specs.Places.{byte_at, pastSpace}
+use Rattle.tokens.specs.Places.{byte_at, past_space}
 use Rattle.tokens.specs.Strings.{denoted}
 use Rattle.tokens.proofs.PlaceLaws.{inside}
 use Rattle.places.specs.declared.One.TheVariants as one
-use Rattle.places.specs.ByPlaces.{Got, got, ending, Reader, firstPart, valuePlace, tokenAt, leafAt, listAt, array_at, objectAt, one_at, memberAt, chosenAt, choiceAt, within, bracketAt, shallowAt, pickedAt, valueWith, readAt}
+use Rattle.places.specs.ByPlaces.{Got, got, ending, Reader, first_part, value_place, token_at, leaf_at, list_at, array_at, object_at, one_at, member_at, chosen_at, choice_at, within, bracket_at, shallow_at, picked_at, value_with, read_at}
 use Rattle.scan.proofs.WithinLaws.{end-within}
 use Rattle.leaf.specs.declared.Step.{Step}
 use Rattle.leaf.specs.declared.Step.TheVariants.{Read, Refused}
 use Rattle.leaf.specs.Step.{Stepped}
 use Rattle.types.specs.declared.row.Row.{Row}
 use Rattle.types.specs.Rows.{row_of}
-use Rattle.typed.specs.Cycle.{Small, Reads, limit, plainAt, bounded}
+use Rattle.typed.specs.Cycle.{Small, Reads, limit, plain_at, bounded}
 use Rattle.typed.proofs.SequenceLaws.{word-near}
 use Rattle.typed.proofs.StoredLaws.{Took}
 
@@ -41,132 +41,132 @@ both false b e = e
 
 -- ---- tokens
 
-token_end : (s : List ℕ) (p : ℕ) → byte_at s p ≡ 256 → tokenAt s p ≡ tNumber
-unfolding tokenAt pick
-token_end s p e = rw (e, tokenAt)
+token_end : (s : List ℕ) (p : ℕ) → byte_at s p ≡ 256 → token_at s p ≡ t_number
+unfolding token_at pick
+token_end s p e = rw (e, token_at)
 
 -- a token that is no number stands inside the text
-pub token-inside : (s : List ℕ) (p : ℕ) → (tokenCode (tokenAt s p) ≡ 2 → ⊥) → p < length s
-unfolding tokenCode
-token-inside s p h = inside s p (λ e. h (ap tokenCode (token_end s p e)))
+pub token-inside : (s : List ℕ) (p : ℕ) → (token_code (token_at s p) ≡ 2 → ⊥) → p < length s
+unfolding token_code
+token-inside s p h = inside s p (λ e. h (ap token_code (token_end s p e)))
 
-pub token-array : (k : Token) → tokenCode k ≡ 4 → k ≡ tArray
-unfolding tokenCode
-token-array tNull e = absurd (omega arith)
-token-array tBoolean e = absurd (omega arith)
-token-array tNumber e = absurd (omega arith)
-token-array tString e = absurd (omega arith)
-token-array tArray e = refl
-token-array tObject e = absurd (omega arith)
+pub token-array : (k : Token) → token_code k ≡ 4 → k ≡ t_array
+unfolding token_code
+token-array t_null e = absurd (omega arith)
+token-array t_boolean e = absurd (omega arith)
+token-array t_number e = absurd (omega arith)
+token-array t_string e = absurd (omega arith)
+token-array t_array e = refl
+token-array t_object e = absurd (omega arith)
 
-pub token-object : (k : Token) → 4 ≤ tokenCode k → (tokenCode k ≡ 4 → ⊥) → k ≡ tObject
-unfolding tokenCode
-token-object tNull h e = absurd (omega arith)
-token-object tBoolean h e = absurd (omega arith)
-token-object tNumber h e = absurd (omega arith)
-token-object tString h e = absurd (omega arith)
-token-object tArray h e = absurd (e refl)
-token-object tObject h e = refl
+pub token-object : (k : Token) → 4 ≤ token_code k → (token_code k ≡ 4 → ⊥) → k ≡ t_object
+unfolding token_code
+token-object t_null h e = absurd (omega arith)
+token-object t_boolean h e = absurd (omega arith)
+token-object t_number h e = absurd (omega arith)
+token-object t_string h e = absurd (omega arith)
+token-object t_array h e = absurd (e refl)
+token-object t_object h e = refl
 
 -- ---- a type that is not UNWRAPPED
 
 module _ (t : Table) (s : List ℕ) (r p : ℕ) where
-  pub plain-leaf : (d : ℕ) (k : Token) → tokenCode k < 4 → leafAt t s k r p ≡ plainAt d t s k r p
-  unfolding plainAt shallowAt bracketAt tokenCode
-  plain-leaf zero tNull h = refl
-  plain-leaf zero tBoolean h = refl
-  plain-leaf zero tNumber h = refl
-  plain-leaf zero tString h = refl
-  plain-leaf zero tArray h = absurd (omega arith)
-  plain-leaf zero tObject h = absurd (omega arith)
-  plain-leaf (suc d) tNull h = refl
-  plain-leaf (suc d) tBoolean h = refl
-  plain-leaf (suc d) tNumber h = refl
-  plain-leaf (suc d) tString h = refl
-  plain-leaf (suc d) tArray h = absurd (omega arith)
-  plain-leaf (suc d) tObject h = absurd (omega arith)
+  pub plain-leaf : (d : ℕ) (k : Token) → token_code k < 4 → leaf_at t s k r p ≡ plain_at d t s k r p
+  unfolding plain_at shallow_at bracket_at token_code
+  plain-leaf zero t_null h = refl
+  plain-leaf zero t_boolean h = refl
+  plain-leaf zero t_number h = refl
+  plain-leaf zero t_string h = refl
+  plain-leaf zero t_array h = absurd (omega arith)
+  plain-leaf zero t_object h = absurd (omega arith)
+  plain-leaf (suc d) t_null h = refl
+  plain-leaf (suc d) t_boolean h = refl
+  plain-leaf (suc d) t_number h = refl
+  plain-leaf (suc d) t_string h = refl
+  plain-leaf (suc d) t_array h = absurd (omega arith)
+  plain-leaf (suc d) t_object h = absurd (omega arith)
 
-  pub plain-deep : (d : ℕ) (k : Token) → 4 ≤ tokenCode k → d ≡ 0 → at TooDeep p ≡ plainAt d t s k r p
-  unfolding plainAt shallowAt tokenCode
-  plain-deep d tNull h e = absurd (omega arith)
-  plain-deep d tBoolean h e = absurd (omega arith)
-  plain-deep d tNumber h e = absurd (omega arith)
-  plain-deep d tString h e = absurd (omega arith)
-  plain-deep d tArray h e = rw e
-  plain-deep d tObject h e = rw e
+  pub plain-deep : (d : ℕ) (k : Token) → 4 ≤ token_code k → d ≡ 0 → at TooDeep p ≡ plain_at d t s k r p
+  unfolding plain_at shallow_at token_code
+  plain-deep d t_null h e = absurd (omega arith)
+  plain-deep d t_boolean h e = absurd (omega arith)
+  plain-deep d t_number h e = absurd (omega arith)
+  plain-deep d t_string h e = absurd (omega arith)
+  plain-deep d t_array h e = rw e
+  plain-deep d t_object h e = rw e
 
-  plain-open : (d : ℕ) (k : Token) → (d ≡ 0 → ⊥) → bracketAt (λ q u. readAt (d - 1) t s q u) (d - 1) t s k r p ≡ plainAt d t s k r p
-  unfolding plainAt
-  plain-open zero k h = absurd (h refl)
-  plain-open (suc d) k h = let z : suc d - 1 ≡ d = omega arith in rw z
+  plain_open : (d : ℕ) (k : Token) → (d ≡ 0 → ⊥) → bracket_at (λ q u. read_at (d - 1) t s q u) (d - 1) t s k r p ≡ plain_at d t s k r p
+  unfolding plain_at
+  plain_open zero k h = absurd (h refl)
+  plain_open (suc d) k h = let z : suc d - 1 ≡ d = omega arith in rw z
 
   module _ (d : ℕ) {k : Token} (o : d ≡ 0 → ⊥) where
-    module _ (e : k ≡ tArray) where
-      square : bracketAt (λ q u. readAt (d - 1) t s q u) (d - 1) t s tArray r p ≡ plainAt d t s k r p
-      square = rw (← e) (plain-open d k o)
+    module _ (e : k ≡ t_array) where
+      square : bracket_at (λ q u. read_at (d - 1) t s q u) (d - 1) t s t_array r p ≡ plain_at d t s k r p
+      square = rw (← e) (plain_open d k o)
 
-      pub plain-list : kind_of t r ≡ SEQUENCE-OF → listAt (λ q u. readAt (d - 1) t s q u) t s r p ≡ plainAt d t s k r p
-      unfolding bracketAt
-      plain-list h = rw (eq-eqb (kind_of t r) SEQUENCE-OF h, bracketAt) at square
+      pub plain-list : kind_of t r ≡ SEQUENCE-OF → list_at (λ q u. read_at (d - 1) t s q u) t s r p ≡ plain_at d t s k r p
+      unfolding bracket_at
+      plain-list h = rw (eq-eqb (kind_of t r) SEQUENCE-OF h, bracket_at) at square
 
       module _ (h : kind_of t r ≡ SEQUENCE-OF → ⊥) where
-        pub plain-array : isArray t r ≡ true → array_at (λ q u. readAt (d - 1) t s q u) (d - 1) t s r p ≡ plainAt d t s k r p
-        unfolding bracketAt
-        plain-array a = rw a at (rw (ne_eqb (kind_of t r) SEQUENCE-OF h, bracketAt) at square)
+        pub plain-array : is_array t r ≡ true → array_at (λ q u. read_at (d - 1) t s q u) (d - 1) t s r p ≡ plain_at d t s k r p
+        unfolding bracket_at
+        plain-array a = rw a at (rw (ne_eqb (kind_of t r) SEQUENCE-OF h, bracket_at) at square)
 
-        pub plain-no-array : isArray t r ≡ false → at OtherKind p ≡ plainAt d t s k r p
-        unfolding bracketAt
-        plain-no-array a = rw a at (rw (ne_eqb (kind_of t r) SEQUENCE-OF h, bracketAt) at square)
+        pub plain-no-array : is_array t r ≡ false → at OtherKind p ≡ plain_at d t s k r p
+        unfolding bracket_at
+        plain-no-array a = rw a at (rw (ne_eqb (kind_of t r) SEQUENCE-OF h, bracket_at) at square)
 
-    module _ (e : k ≡ tObject) where
-      braces : bracketAt (λ q u. readAt (d - 1) t s q u) (d - 1) t s tObject r p ≡ plainAt d t s k r p
-      braces = rw (← e) (plain-open d k o)
+    module _ (e : k ≡ t_object) where
+      braces : bracket_at (λ q u. read_at (d - 1) t s q u) (d - 1) t s t_object r p ≡ plain_at d t s k r p
+      braces = rw (← e) (plain_open d k o)
 
-      pub plain-choice : kind_of t r ≡ CHOICE → choiceAt (λ q u. readAt (d - 1) t s q u) (d - 1) t s r p ≡ plainAt d t s k r p
-      unfolding bracketAt
-      plain-choice h = rw (eq-eqb (kind_of t r) CHOICE h, bracketAt) at braces
+      pub plain-choice : kind_of t r ≡ CHOICE → choice_at (λ q u. read_at (d - 1) t s q u) (d - 1) t s r p ≡ plain_at d t s k r p
+      unfolding bracket_at
+      plain-choice h = rw (eq-eqb (kind_of t r) CHOICE h, bracket_at) at braces
 
       module _ (h : kind_of t r ≡ CHOICE → ⊥) where
-        pub plain-object : (eqb (kind_of t r) SEQUENCE && not (isArray t r)) ≡ true → objectAt (λ q u. readAt (d - 1) t s q u) (d - 1) t s r p ≡ plainAt d t s k r p
-        unfolding bracketAt
-        plain-object a = rw a at (rw (ne_eqb (kind_of t r) CHOICE h, bracketAt) at braces)
+        pub plain-object : (eqb (kind_of t r) SEQUENCE && not (is_array t r)) ≡ true → object_at (λ q u. read_at (d - 1) t s q u) (d - 1) t s r p ≡ plain_at d t s k r p
+        unfolding bracket_at
+        plain-object a = rw a at (rw (ne_eqb (kind_of t r) CHOICE h, bracket_at) at braces)
 
-        pub plain-no-object : (eqb (kind_of t r) SEQUENCE && not (isArray t r)) ≡ false → at OtherKind p ≡ plainAt d t s k r p
-        unfolding bracketAt
-        plain-no-object a = rw a at (rw (ne_eqb (kind_of t r) CHOICE h, bracketAt) at braces)
+        pub plain-no-object : (eqb (kind_of t r) SEQUENCE && not (is_array t r)) ≡ false → at OtherKind p ≡ plain_at d t s k r p
+        unfolding bracket_at
+        plain-no-object a = rw a at (rw (ne_eqb (kind_of t r) CHOICE h, bracket_at) at braces)
 
 -- ---- values
 
-value-unfold : (d : ℕ) (t : Table) (s : List ℕ) (r p : ℕ) → valueWith (λ k q u. plainAt d t s k q u) t s r p ≡ readAt d t s r p
-unfolding readAt plainAt
-value-unfold zero t s r p = refl
-value-unfold (suc d) t s r p = refl
+value_unfold : (d : ℕ) (t : Table) (s : List ℕ) (r p : ℕ) → value_with (λ k q u. plain_at d t s k q u) t s r p ≡ read_at d t s r p
+unfolding read_at plain_at
+value_unfold zero t s r p = refl
+value_unfold (suc d) t s r p = refl
 
 module _ (d : ℕ) (t : Table) (s : List ℕ) (r p : ℕ) where
-  pub value-plain : isUnwrapped t r ≡ false → bind (plainAt d t s (tokenAt s p) r p) (within t r) ≡ readAt d t s r p
-  unfolding valueWith
-  value-plain h = rw (h, valueWith) at (value-unfold d t s r p)
+  pub value-plain : is_unwrapped t r ≡ false → bind (plain_at d t s (token_at s p) r p) (within t r) ≡ read_at d t s r p
+  unfolding value_with
+  value-plain h = rw (h, value_with) at (value_unfold d t s r p)
 
-  module _ (h : isUnwrapped t r ≡ true) where
-    unwrapped : bind (pickedAt (λ q u. plainAt d t s (tokenAt s p) q u) t r p (alternative t r (tokenAt s p))) (within t r) ≡ readAt d t s r p
-    unfolding valueWith
-    unwrapped = rw (h, valueWith) at (value-unfold d t s r p)
+  module _ (h : is_unwrapped t r ≡ true) where
+    unwrapped : bind (picked_at (λ q u. plain_at d t s (token_at s p) q u) t r p (alternative t r (token_at s p))) (within t r) ≡ read_at d t s r p
+    unfolding value_with
+    unwrapped = rw (h, value_with) at (value_unfold d t s r p)
 
-    pub value_none : alternative t r (tokenAt s p) ≡ none → elim (extensible t r) as (λ b. Res (Got Val)) [ true ↦ at Unknown p | false ↦ at OtherKind p ] ≡ readAt d t s r p
-    unfolding pickedAt bind
+    pub value_none : alternative t r (token_at s p) ≡ none → elim (extensible t r) as (λ b. Res (Got Val)) [ true ↦ at Unknown p | false ↦ at OtherKind p ] ≡ read_at d t s r p
+    unfolding picked_at bind
     value_none e = go (extensible t r) (rw e at unwrapped)
       where
-        go : (b : Bool) → bind (elim b as (λ c. Res (Got Val)) [ true ↦ at Unknown p | false ↦ at OtherKind p ]) (within t r) ≡ readAt d t s r p → elim b as (λ c. Res (Got Val)) [ true ↦ at Unknown p | false ↦ at OtherKind p ] ≡ readAt d t s r p
+        go : (b : Bool) → bind (elim b as (λ c. Res (Got Val)) [ true ↦ at Unknown p | false ↦ at OtherKind p ]) (within t r) ≡ read_at d t s r p → elim b as (λ c. Res (Got Val)) [ true ↦ at Unknown p | false ↦ at OtherKind p ] ≡ read_at d t s r p
         go true w = w
         go false w = w
 
-    module _ {i : ℕ} (e : alternative t r (tokenAt s p) ≡ some i) where
-      pub value-refused : {y : Refusal} → bind (plainAt d t s (tokenAt s p) (type_at t r i) p) (within t (type_at t r i)) ≡ no y → no y ≡ readAt d t s r p
-      unfolding pickedAt bind
+    module _ {i : ℕ} (e : alternative t r (token_at s p) ≡ some i) where
+      pub value-refused : {y : Refusal} → bind (plain_at d t s (token_at s p) (type_at t r i) p) (within t (type_at t r i)) ≡ no y → no y ≡ read_at d t s r p
+      unfolding picked_at bind
       value-refused w = rw w at (rw e at unwrapped)
 
-      pub value-picked : {g : Got Val} → bind (plainAt d t s (tokenAt s p) (type_at t r i) p) (within t (type_at t r i)) ≡ ok g → within t r (got (vChoice i g.value) g.next) ≡ readAt d t s r p
-      unfolding pickedAt bind
+      pub value-picked : {g : Got Val} → bind (plain_at d t s (token_at s p) (type_at t r i) p) (within t (type_at t r i)) ≡ ok g → within t r (got (v_choice i g.value) g.next) ≡ read_at d t s r p
+      unfolding picked_at bind
       value-picked w = rw w at (rw e at unwrapped)
 
 -- ---- leaves
@@ -177,92 +177,92 @@ ended {A} q (ok y) h = sym (ap (λ (g : Got A). g.next) (unok h))
 ended q (no y) h = absurd (let z : ◌≡◌ {A = ℕ} 0 1 = cc in omega arith)
 
 module _ (t : Table) (s : List ℕ) (r p : ℕ) (l : length s ≤ 65536) where
-  pub leaf-near : (k : Token) {g : Got Val} → (k ≡ tString → p < length s) → leafAt t s k r p ≡ ok g → g.next ≤ limit p
-  unfolding leafAt
-  leaf-near tNull h e = omega (arith, ended _ _ e, word-near s p (limit p) (omega arith) (omega arith))
-  leaf-near tBoolean h e = omega (arith, ended _ _ e, word-near s p (limit p) (omega arith) (omega arith))
-  leaf-near tNumber h e = omega (arith, ended _ _ e, word-near s p (limit p) (omega arith) (omega arith))
-  leaf-near tString h e = let i = h refl in omega (arith, ended _ _ e, end-within s 65539 (omega arith) (p + 1) (omega arith))
-  leaf-near tArray h e = absurd (let z : ◌≡◌ {A = ℕ} 0 1 = cc in omega arith)
-  leaf-near tObject h e = absurd (let z : ◌≡◌ {A = ℕ} 0 1 = cc in omega arith)
+  pub leaf-near : (k : Token) {g : Got Val} → (k ≡ t_string → p < length s) → leaf_at t s k r p ≡ ok g → g.next ≤ limit p
+  unfolding leaf_at
+  leaf-near t_null h e = omega (arith, ended _ _ e, word-near s p (limit p) (omega arith) (omega arith))
+  leaf-near t_boolean h e = omega (arith, ended _ _ e, word-near s p (limit p) (omega arith) (omega arith))
+  leaf-near t_number h e = omega (arith, ended _ _ e, word-near s p (limit p) (omega arith) (omega arith))
+  leaf-near t_string h e = let i = h refl in omega (arith, ended _ _ e, end-within s 65539 (omega arith) (p + 1) (omega arith))
+  leaf-near t_array h e = absurd (let z : ◌≡◌ {A = ℕ} 0 1 = cc in omega arith)
+  leaf-near t_object h e = absurd (let z : ◌≡◌ {A = ℕ} 0 1 = cc in omega arith)
 
 -- an answer that is bounded
 pub bounded-reads : {z y : Step} {rows₁ rows₀ pool₁ pool₀ : List ℕ} {i o b : ℕ} {t : Table} {r : ℕ} (x : Res (Got Val)) → Stepped y rows₁ rows₀ pool₁ pool₀ i o t r x → z ≡ bounded y → ((g : Got Val) → x ≡ ok g → g.next ≤ b)
     → Reads z rows₁ rows₀ pool₁ pool₀ i o b t r (bind x (within t r))
 unfolding bind within bounded
 bounded-reads (no e) st w n = rw (w, st.answer) record { stepped = record { answer = refl; rows = tt; pool = tt }; small = tt }
-bounded-reads {rows₁ = rows₁} {rows₀ = rows₀} {pool₁ = pool₁} {pool₀ = pool₀} {i = i} {o = o} {b = b} {t = t} {r = r} (ok g) st w n = rw (w, st.answer, within, bounded) (go (ltb (length (rows_of g.value t r 0)) (2 ^ 32)) (ltb (length (poolOf g.value)) (2 ^ 32)) refl refl)
+bounded-reads {rows₁ = rows₁} {rows₀ = rows₀} {pool₁ = pool₁} {pool₀ = pool₀} {i = i} {o = o} {b = b} {t = t} {r = r} (ok g) st w n = rw (w, st.answer, within, bounded) (go (ltb (length (rows_of g.value t r 0)) (2 ^ 32)) (ltb (length (pool_of g.value)) (2 ^ 32)) refl refl)
   where
-    go : (x y : Bool) → ltb (length (rows_of g.value t r 0)) (2 ^ 32) ≡ x → ltb (length (poolOf g.value)) (2 ^ 32) ≡ y
-        → Reads (elim (x && y) as (λ c. Step) [ true ↦ Read g.next (length (rows_of g.value t r 0)) (length (poolOf g.value)) | false ↦ Refused (Amounts LentRoom (2 ^ 32) (2 ^ 32)) ]) rows₁ rows₀ pool₁ pool₀ i o b t r (elim (x && y) as (λ c. Res (Got Val)) [ true ↦ ok g | false ↦ no (Amounts LentRoom (2 ^ 32) (2 ^ 32)) ])
-    go true true e₁ e₂ = record { stepped = record { answer = refl; rows = st.rows; pool = st.pool }; small = (n g refl, ltb-true (length (rows_of g.value t r 0)) (2 ^ 32) e₁, ltb-true (length (poolOf g.value)) (2 ^ 32) e₂) }
+    go : (x y : Bool) → ltb (length (rows_of g.value t r 0)) (2 ^ 32) ≡ x → ltb (length (pool_of g.value)) (2 ^ 32) ≡ y
+        → Reads (elim (x && y) as (λ c. Step) [ true ↦ Read g.next (length (rows_of g.value t r 0)) (length (pool_of g.value)) | false ↦ Refused (Amounts LentRoom (2 ^ 32) (2 ^ 32)) ]) rows₁ rows₀ pool₁ pool₀ i o b t r (elim (x && y) as (λ c. Res (Got Val)) [ true ↦ ok g | false ↦ no (Amounts LentRoom (2 ^ 32) (2 ^ 32)) ])
+    go true true e₁ e₂ = record { stepped = record { answer = refl; rows = st.rows; pool = st.pool }; small = (n g refl, ltb-true (length (rows_of g.value t r 0)) (2 ^ 32) e₁, ltb-true (length (pool_of g.value)) (2 ^ 32) e₂) }
     go true false e₁ e₂ = record { stepped = record { answer = refl; rows = tt; pool = tt }; small = tt }
     go false y e₁ e₂ = record { stepped = record { answer = refl; rows = tt; pool = tt }; small = tt }
 
 -- ---- wrapped choices
 
 module _ (value : Reader) (d : ℕ) (t : Table) (s : List ℕ) (r p : ℕ) where
-  pub choice-not-one : one.NotOne ≡ one_at d s (firstPart s 0x7D p) → at NotOne p ≡ choiceAt value d t s r p
-  unfolding choiceAt memberAt
+  pub choice-not-one : one.NotOne ≡ one_at d s (first_part s 0x7D p) → at NotOne p ≡ choice_at value d t s r p
+  unfolding choice_at member_at
   choice-not-one e = rw (← e)
 
-  module _ {q : ℕ} (e : one.At q ≡ one_at d s (firstPart s 0x7D p)) where
-    chosen : chosenAt value t s r p q (position t r (denoted s (q + 1))) ≡ choiceAt value d t s r p
-    unfolding choiceAt memberAt
+  module _ {q : ℕ} (e : one.At q ≡ one_at d s (first_part s 0x7D p)) where
+    chosen : chosen_at value t s r p q (position t r (denoted s (q + 1))) ≡ choice_at value d t s r p
+    unfolding choice_at member_at
     chosen = rw (← e)
 
-    pub choice-none : position t r (denoted s (q + 1)) ≡ none → elim (extensible t r) as (λ b. Res (Got Val)) [ true ↦ at Unknown p | false ↦ at UnknownName q ] ≡ choiceAt value d t s r p
-    unfolding chosenAt
+    pub choice-none : position t r (denoted s (q + 1)) ≡ none → elim (extensible t r) as (λ b. Res (Got Val)) [ true ↦ at Unknown p | false ↦ at UnknownName q ] ≡ choice_at value d t s r p
+    unfolding chosen_at
     choice-none h = rw h at chosen
 
     module _ {i : ℕ} (h : position t r (denoted s (q + 1)) ≡ some i) where
-      pub choice-refused : {y : Refusal} → value (type_at t r i) (valuePlace s q) ≡ no y → no y ≡ choiceAt value d t s r p
-      unfolding chosenAt bind
+      pub choice-refused : {y : Refusal} → value (type_at t r i) (value_place s q) ≡ no y → no y ≡ choice_at value d t s r p
+      unfolding chosen_at bind
       choice-refused w = rw w at (rw h at chosen)
 
-      pub choice-picked : {g : Got Val} → value (type_at t r i) (valuePlace s q) ≡ ok g → ok (got (vChoice i g.value) (pastSpace s g.next + 1)) ≡ choiceAt value d t s r p
-      unfolding chosenAt bind
+      pub choice-picked : {g : Got Val} → value (type_at t r i) (value_place s q) ≡ ok g → ok (got (v_choice i g.value) (past_space s g.next + 1)) ≡ choice_at value d t s r p
+      unfolding chosen_at bind
       choice-picked w = rw w at (rw h at chosen)
 
 -- ---- the value of a missing element
 
-null-small : (t : Table) (r q : ℕ) (v : Val) → nullValue t r ≡ some v → (length (rows_of v t q 0) ≤ 2) × (length (poolOf v) ≡ 0)
-unfolding nullValue rows_of poolOf above
-null-small t r q v e = go (isUnwrapped t r) (alternative t r tNull) (eqb (kind_of t r) NULL) e
+null-small : (t : Table) (r q : ℕ) (v : Val) → null_value t r ≡ some v → (length (rows_of v t q 0) ≤ 2) × (length (pool_of v) ≡ 0)
+unfolding null_value rows_of pool_of above
+null-small t r q v e = go (is_unwrapped t r) (alternative t r t_null) (eqb (kind_of t r) NULL) e
   where
-    one : (length (rows_of vNull t q 0) ≤ 2) × (length (poolOf vNull) ≡ 0)
+    one : (length (rows_of v_null t q 0) ≤ 2) × (length (pool_of v_null) ≡ 0)
     one = (omega arith, refl)
 
-    two : (i : ℕ) → (length (rows_of (vChoice i vNull) t q 0) ≤ 2) × (length (poolOf (vChoice i vNull)) ≡ 0)
+    two : (i : ℕ) → (length (rows_of (v_choice i v_null) t q 0) ≤ 2) × (length (pool_of (v_choice i v_null)) ≡ 0)
     two i = (omega arith, refl)
 
-    go : (a : Bool) (x : Option ℕ) (b : Bool) → elim a as (λ c. Option Val) [ true ↦ elim x as (λ c. Option Val) [ none ↦ none | some i ↦ some (vChoice i vNull) ] | false ↦ elim b as (λ c. Option Val) [ true ↦ some vNull | false ↦ none ] ] ≡ some v
-        → (length (rows_of v t q 0) ≤ 2) × (length (poolOf v) ≡ 0)
+    go : (a : Bool) (x : Option ℕ) (b : Bool) → elim a as (λ c. Option Val) [ true ↦ elim x as (λ c. Option Val) [ none ↦ none | some i ↦ some (v_choice i v_null) ] | false ↦ elim b as (λ c. Option Val) [ true ↦ some v_null | false ↦ none ] ] ≡ some v
+        → (length (rows_of v t q 0) ≤ 2) × (length (pool_of v) ≡ 0)
     go true none b e = absurd (let z : ◌≡◌ {A = ℕ} 0 1 = cc in omega arith)
-    go true (some i) b e = subst (λ (u : Val). (length (rows_of u t q 0) ≤ 2) × (length (poolOf u) ≡ 0)) (found e) (two i)
-    go false x true e = subst (λ (u : Val). (length (rows_of u t q 0) ≤ 2) × (length (poolOf u) ≡ 0)) (found e) one
+    go true (some i) b e = subst (λ (u : Val). (length (rows_of u t q 0) ≤ 2) × (length (pool_of u) ≡ 0)) (found e) (two i)
+    go false x true e = subst (λ (u : Val). (length (rows_of u t q 0) ≤ 2) × (length (pool_of u) ≡ 0)) (found e) one
     go false x false e = absurd (let z : ◌≡◌ {A = ℕ} 0 1 = cc in omega arith)
 
-missing-value : (t : Table) (r o i : ℕ) (v : Val) → missingElement t r o i ≡ ok v → nullValue t (type_at t r i) ≡ some v
-unfolding missingElement
-missing-value t r o i v e = go (nullValue t (type_at t r i)) (openUnwrapped t (type_at t r i)) e
+missing-value : (t : Table) (r o i : ℕ) (v : Val) → missing_element t r o i ≡ ok v → null_value t (type_at t r i) ≡ some v
+unfolding missing_element
+missing-value t r o i v e = go (null_value t (type_at t r i)) (open_unwrapped t (type_at t r i)) e
   where
     go : (x : Option Val) (b : Bool) → elim x as (λ c. Res Val) [ some v ↦ ok v | none ↦ elim b as (λ c. Res Val) [ true ↦ at Unknown o | false ↦ at (Missing i) o ] ] ≡ ok v → x ≡ some v
     go (some u) b e = let z : u ≡ v = cc in rw z
     go none true e = absurd (let z : ◌≡◌ {A = ℕ} 0 1 = cc in omega arith)
     go none false e = absurd (let z : ◌≡◌ {A = ℕ} 0 1 = cc in omega arith)
 
-pub missing-small : (t : Table) (r o i q : ℕ) {y a b : ℕ} → Took t (type_at t r i) (ending q (missingElement t r o i)) y a b → (a < 2 ^ 32) × (b < 2 ^ 32)
+pub missing-small : (t : Table) (r o i q : ℕ) {y a b : ℕ} → Took t (type_at t r i) (ending q (missing_element t r o i)) y a b → (a < 2 ^ 32) × (b < 2 ^ 32)
 unfolding ending bind
-missing-small t r o i q {a = a} {b = b} w = go (missingElement t r o i) refl w.is
+missing-small t r o i q {a = a} {b = b} w = go (missing_element t r o i) refl w.is
   where
-    go : (x : Res Val) → missingElement t r o i ≡ x → ending q x ≡ ok w.g → (a < 2 ^ 32) × (b < 2 ^ 32)
+    go : (x : Res Val) → missing_element t r o i ≡ x → ending q x ≡ ok w.g → (a < 2 ^ 32) × (b < 2 ^ 32)
     go (ok v) e h = let z : v ≡ w.g.value = ap (λ (g : Got Val). g.value) (unok h) in let n = null-small t (type_at t r i) (type_at t r i) w.g.value (missing-value t r o i w.g.value (e ∙ ap (λ (u : Val). ok u) z)) in omega (arith, w.many, w.long)
     go (no v) e h = absurd (let z : ◌≡◌ {A = ℕ} 0 1 = cc in omega arith)
 
-pub missing-no : (t : Table) (r o i q : ℕ) {y : Refusal} → ending q (missingElement t r o i) ≡ no y → missingElement t r o i ≡ no y
+pub missing-no : (t : Table) (r o i q : ℕ) {y : Refusal} → ending q (missing_element t r o i) ≡ no y → missing_element t r o i ≡ no y
 unfolding ending bind
-missing-no t r o i q h = go (missingElement t r o i) h
+missing-no t r o i q h = go (missing_element t r o i) h
   where
     go : {y : Refusal} (x : Res Val) → ending q x ≡ no y → x ≡ no y
     go (ok v) h = absurd (let z : ◌≡◌ {A = ℕ} 0 1 = cc in omega arith)
@@ -270,30 +270,30 @@ missing-no t r o i q h = go (missingElement t r o i) h
 
 -- ---- kinds by the tests of the code
 
-pub array_kind : (t : Table) (r : ℕ) → isArray t r ≡ true → kind_of t r ≡ SEQUENCE
-unfolding isArray
+pub array_kind : (t : Table) (r : ℕ) → is_array t r ≡ true → kind_of t r ≡ SEQUENCE
+unfolding is_array
 array_kind t r e = eqb-true (kind_of t r) SEQUENCE (both (eqb (kind_of t r) SEQUENCE) _ e)
 
-pub object-kind : (t : Table) (r : ℕ) → (eqb (kind_of t r) SEQUENCE && not (isArray t r)) ≡ true → kind_of t r ≡ SEQUENCE
+pub object-kind : (t : Table) (r : ℕ) → (eqb (kind_of t r) SEQUENCE && not (is_array t r)) ≡ true → kind_of t r ≡ SEQUENCE
 object-kind t r e = eqb-true (kind_of t r) SEQUENCE (both (eqb (kind_of t r) SEQUENCE) _ e)
 
-pub unwrapped-kind : (t : Table) (r : ℕ) → isUnwrapped t r ≡ true → kind_of t r ≡ CHOICE
-unfolding isUnwrapped
+pub unwrapped-kind : (t : Table) (r : ℕ) → is_unwrapped t r ≡ true → kind_of t r ≡ CHOICE
+unfolding is_unwrapped
 unwrapped-kind t r e = eqb-true (kind_of t r) CHOICE (both (eqb (kind_of t r) CHOICE) _ e)
 
-pub string-not : (s : List ℕ) (p : ℕ) → tokenAt s p ≡ tString → tokenCode (tokenAt s p) ≡ 2 → ⊥
-unfolding tokenCode
-string-not s p e h = let z : ◌≡◌ {A = ℕ} 3 2 = sym (ap tokenCode e) ∙ h in omega arith
+pub string-not : (s : List ℕ) (p : ℕ) → token_at s p ≡ t_string → token_code (token_at s p) ≡ 2 → ⊥
+unfolding token_code
+string-not s p e h = let z : ◌≡◌ {A = ℕ} 3 2 = sym (ap token_code e) ∙ h in omega arith
 
-pub string-code : (s : List ℕ) (p : ℕ) {k : ℕ} → k ≡ tokenCode (tokenAt s p) → k ≡ 3 → p < length s
+pub string-code : (s : List ℕ) (p : ℕ) {k : ℕ} → k ≡ token_code (token_at s p) → k ≡ 3 → p < length s
 string-code s p e h = token-inside s p (λ z. omega (arith, e, h, z))
 
 pub positive : (d : ℕ) → (d ≡ 0 → ⊥) → 0 < d
 positive zero h = absurd (h refl)
 positive (suc d) h = omega arith
 
-pub sequence-is : (t : Table) (r : ℕ) {w : Row} {b : Bool} → w ≡ row_of t r → b ≡ isArray t r → (eqb (kind_of t r) SEQUENCE && not (isArray t r)) ≡ (eqb w.kind SEQUENCE && not b)
-sequence-is t r e h = rw (e, h, kind-tag t r)
+pub sequence-is : (t : Table) (r : ℕ) {w : Row} {b : Bool} → w ≡ row_of t r → b ≡ is_array t r → (eqb (kind_of t r) SEQUENCE && not (is_array t r)) ≡ (eqb w.kind SEQUENCE && not b)
+sequence-is t r e h = rw (e, h, kind_tag t r)
 
 -- the bound of a bracket, from that of a leaf
 pub bounded-near : (p d : ℕ) {z : Step} {rows₁ rows₀ pool₁ pool₀ : List ℕ} {i o : ℕ} {t : Table} {r : ℕ} {x : Res (Got Val)} → Reads z rows₁ rows₀ pool₁ pool₀ i o (limit p) t r x → Reads z rows₁ rows₀ pool₁ pool₀ i o (limit p + d) t r x

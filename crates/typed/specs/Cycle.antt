@@ -11,8 +11,8 @@ use Rattle.jer.specs.Sane.{Sane}
 use Rattle.places.specs.declared.Ended.{Ended}
 use Rattle.places.specs.declared.Ended.TheVariants.{Closed, Stopped}
 use Rattle.places.specs.declared.Scanned.{Scanned}
-use Rattle.places.specs.ByPlaces.{Got, Reader, shallowAt, bracketAt, readAt, tokenAt, listAt, array_at, objectAt, choiceAt, within, afterScan}
-use Rattle.slices.specs.Lent.{Lent, before, after, tableIn}
+use Rattle.places.specs.ByPlaces.{Got, Reader, shallow_at, bracket_at, read_at, token_at, list_at, array_at, object_at, choice_at, within, after_scan}
+use Rattle.slices.specs.Lent.{Lent, before, after, table_in}
 use Rattle.leaf.specs.declared.Step.{Step}
 use Rattle.leaf.specs.declared.Step.TheVariants.{Read, Refused}
 use Rattle.leaf.specs.Step.{Stepped}
@@ -23,8 +23,8 @@ pub record Given (t : Table) (s : List ℕ) (row place slot offset depth : ℕ) 
   pub typed : is_type t row ≡ true
   pub short : length s ≤ 65536
   pub near : place ≤ 4294967295
-  pub rowRoom : slot + depth * 562949953421312 ≤ 72057594037927936
-  pub byteRoom : offset + depth * 562949953421312 ≤ 72057594037927936
+  pub row_room : slot + depth * 562949953421312 ≤ 72057594037927936
+  pub byte_room : offset + depth * 562949953421312 ≤ 72057594037927936
 
 -- a value at p ends here, or one place further for each bracket that the text leaves open
 abbrev pub limit : ℕ → ℕ
@@ -41,9 +41,9 @@ pub record Reads (z : Step) (rows₁ rows₀ pool₁ pool₀ : List ℕ) (i o b 
   pub small : Small b z
 
 -- the value of a token, whose type is not UNWRAPPED, in which so many brackets may be open
-unfoldable pub plainAt : ℕ → Table → List ℕ → Token → Reader
-plainAt zero t s k r p = shallowAt t s k r p
-plainAt (suc d) t s k r p = bracketAt (λ q u. readAt d t s q u) d t s k r p
+unfoldable pub plain_at : ℕ → Table → List ℕ → Token → Reader
+plain_at zero t s k r p = shallow_at t s k r p
+plain_at (suc d) t s k r p = bracket_at (λ q u. read_at d t s q u) d t s k r p
 
 -- `within` of `ByPlaces.antt`, of an answer
 unfoldable pub bounded : Step → Step
@@ -63,33 +63,33 @@ Way = ℕ → Table → List ℕ → Reader
 
 -- a value inside a bracket
 abbrev pub inside : ℕ → Table → List ℕ → Reader
-inside d t s q u = readAt (d - 1) t s q u
+inside d t s q u = read_at (d - 1) t s q u
 
 -- rows and pool bytes counted in 32 bits
 abbrev pub counted : Way → Way
 counted x d t s r p = bind (x d t s r p) (within t r)
 
 -- by the token at the place
-abbrev pub byToken : Way
-byToken d t s r p = plainAt d t s (tokenAt s p) r p
+abbrev pub by_token : Way
+by_token d t s r p = plain_at d t s (token_at s p) r p
 
 abbrev pub list : Way
-list d t s r p = listAt (λ q u. inside d t s q u) t s r p
+list d t s r p = list_at (λ q u. inside d t s q u) t s r p
 
 abbrev pub array : Way
 array d t s r p = array_at (λ q u. inside d t s q u) (d - 1) t s r p
 
 abbrev pub object : Way
-object d t s r p = objectAt (λ q u. inside d t s q u) (d - 1) t s r p
+object d t s r p = object_at (λ q u. inside d t s q u) (d - 1) t s r p
 
 -- the members of an object whose names are scanned
 abbrev pub members : Scanned → Way
-members x d t s r p = afterScan (λ q u. inside d t s q u) t s r p x
+members x d t s r p = after_scan (λ q u. inside d t s q u) t s r p x
 
 abbrev pub choice : Way
-choice d t s r p = choiceAt (λ q u. inside d t s q u) (d - 1) t s r p
+choice d t s r p = choice_at (λ q u. inside d t s q u) (d - 1) t s r p
 
 -- it is read so at a place, and stored from a slot of the rows and an offset of the pool on
 abbrev pub ReadsAs : Way → Lent → Lent → Lent → ℕ → ℕ → ℕ → ℕ → ℕ → Step → Lent → Lent → Type 0
 ReadsAs x types names s row place slot offset depth z rows pool =
-    Reads z (after rows) (before rows) (after pool) (before pool) slot offset (limit place + depth) (tableIn types names) row (x depth (tableIn types names) (before s) row place)
+    Reads z (after rows) (before rows) (after pool) (before pool) slot offset (limit place + depth) (table_in types names) row (x depth (table_in types names) (before s) row place)

@@ -5,7 +5,7 @@ ghost use Rattle.leaf.specs.declared.Step.TheVariants as step;
 ghost use Rattle.jer.specs.declared.Limit.TheVariants.{LentRoom};
 ghost use Rattle.jer.specs.declared.Refusal.TheVariants.{Amounts};
 ghost use Rattle.jer.specs.Table.{table};
-ghost use Rattle.places.specs.ByPlaces.{surplusAt};
+ghost use Rattle.places.specs.ByPlaces.{surplus_at};
 ghost use Rattle.typed.specs.Cycle.{bounded, ArrayEnd};
 
 use crate::members::surplus;
@@ -73,7 +73,7 @@ pub fn close_array(
     depth: u32,
 ) -> Step
     requires { (length s.now ≤ 65536) × (0 < depth) × (slot ≤ 2 ^ 60) × (n ≤ 2 ^ 60) }
-    ensures { (ns : List ℕ) → ArrayEnd result rows.new rows.old slot a n m (surplusAt (depth - 1) (table types.now ns) s.now row next) }
+    ensures { (ns : List ℕ) → ArrayEnd result rows.new rows.old slot a n m (surplus_at (depth - 1) (table types.now ns) s.now row next) }
 {
     match surplus(types, s, row, next, depth) {
         Ended::Stopped(e) => Step::Refused(e),

@@ -1,10 +1,10 @@
 // The readers that call one another: each reads the value of the type at `row` from a place of the text on, and stores it from a slot of
 // the rows and an offset of the pool on; so many brackets may be open in it (`depth`).
 ghost use Rattle.std.specs.Prelude.{◌≡◌, ◌+◌, ◌-◌, ◌≤◌, ◌<◌, length};
-ghost use Rattle.jer.specs.Table.{tokenCode, kind_of, SEQUENCE, SEQUENCE-OF, CHOICE, table};
+ghost use Rattle.jer.specs.Table.{token_code, kind_of, SEQUENCE, SEQUENCE-OF, CHOICE, table};
 ghost use Rattle.places.specs.declared.Ended.TheVariants.{Closed};
-ghost use Rattle.places.specs.ByPlaces.{tokenAt, readAt, scanned};
-ghost use Rattle.typed.specs.Cycle.{Given, limit, counted, byToken, list, array, object, members, choice, ReadsAs};
+ghost use Rattle.places.specs.ByPlaces.{token_at, read_at, scanned};
+ghost use Rattle.typed.specs.Cycle.{Given, limit, counted, by_token, list, array, object, members, choice, ReadsAs};
 
 use crate::close::{bounded, close, close_array};
 use crate::members::{element_found, member_found, one_at, unknown};
@@ -38,7 +38,7 @@ pub fn value(
     depth: u32,
 ) -> Step
     requires { Given (table types.now names.now) s.now row place (slot + 1) offset depth }
-    ensures { ReadsAs readAt types names s row place slot offset depth result rows pool }
+    ensures { ReadsAs read_at types names s row place slot offset depth result rows pool }
 {
     let token = token_at(s, place);
     if !Row::at(types, row).is_unwrapped() {
@@ -86,8 +86,8 @@ fn plain(
     depth: u32,
 ) -> Step
     requires given { Given (table types.now names.now) s.now row place slot offset depth }
-    requires token_value { token ≡ tokenCode (tokenAt s.now place) }
-    ensures { ReadsAs (counted byToken) types names s row place slot offset depth result rows pool }
+    requires token_value { token ≡ token_code (token_at s.now place) }
+    ensures { ReadsAs (counted by_token) types names s row place slot offset depth result rows pool }
 {
     if token < ARRAY {
         return bounded(leaf(types, names, s, rows, pool, row, token, place, slot, offset));

@@ -2,11 +2,11 @@
 ghost use Rattle.std.specs.Prelude.{◌≡◌, true, false, List, ℕ, ◌-◌, ◌≤◌, ◌<◌, length};
 ghost use Rattle.jer.specs.declared.Cause.TheVariants.{Unknown};
 ghost use Rattle.jer.specs.Table.{extensible, table};
-ghost use Rattle.jer.specs.Read.{nullAbsent};
+ghost use Rattle.jer.specs.Read.{null_absent};
 ghost use Rattle.jer.specs.Answer.{at};
-ghost use Rattle.places.specs.ByPlaces.{firstPart, followsAt, memberFound, elementFound, surplusAt, one_at};
+ghost use Rattle.places.specs.ByPlaces.{first_part, follows_at, member_found, element_found, surplus_at, one_at};
 ghost use Rattle.leaf.specs.declared.Step.{Step};
-ghost use Rattle.leaf.specs.Step.{refusedAt};
+ghost use Rattle.leaf.specs.Step.{refused_at};
 
 use jer::{Cause, Refusal};
 use leaf::{Step, refused};
@@ -21,7 +21,7 @@ use types::token::null_taken;
 
 // The member at k of the type at `row`, given whether it was met and where its value stands.
 pub fn member_found(types: &[u32], s: &[u8], row: usize, k: u32, met: bool, q: usize) -> Member
-    ensures { (ns : List ℕ) → result ≡ memberFound (table types.now ns) s.now row k met q }
+    ensures { (ns : List ℕ) → result ≡ member_found (table types.now ns) s.now row k met q }
 {
     if !met {
         if may_miss(types, row, k) {
@@ -37,7 +37,7 @@ pub fn member_found(types: &[u32], s: &[u8], row: usize, k: u32, met: bool, q: u
 
 // Null stands for the absent member.
 fn null_absent(types: &[u32], row: usize, k: u32) -> bool
-    ensures { (ns : List ℕ) → result ≡ nullAbsent (table types.now ns) row k }
+    ensures { (ns : List ℕ) → result ≡ null_absent (table types.now ns) row k }
 {
     let optional = member_at(types, row, k).optional();
     let taken = null_taken(types, type_at(types, row, k));
@@ -46,8 +46,8 @@ fn null_absent(types: &[u32], row: usize, k: u32) -> bool
 
 // The member at k of the type at `row`, given the next element.
 pub fn element_found(types: &[u32], s: &[u8], row: usize, k: u32, next: Follows) -> Element
-    requires { (length s.now ≤ 65536) × (followsAt next ≤ 4294967295) }
-    ensures { (ns : List ℕ) → result ≡ elementFound (table types.now ns) s.now row k next }
+    requires { (length s.now ≤ 65536) × (follows_at next ≤ 4294967295) }
+    ensures { (ns : List ℕ) → result ≡ element_found (table types.now ns) s.now row k next }
 {
     let missable = may_miss(types, row, k);
     match next {
@@ -69,7 +69,7 @@ pub fn element_found(types: &[u32], s: &[u8], row: usize, k: u32, next: Follows)
 // After the last member of an array, in which `depth` brackets may be open: surplus elements are passed over if the type is extensible.
 pub fn surplus(types: &[u32], s: &[u8], row: usize, next: Follows, depth: u32) -> Ended
     requires { (length s.now ≤ 65536) × (0 < depth) }
-    ensures { (ns : List ℕ) → result ≡ surplusAt (depth - 1) (table types.now ns) s.now row next }
+    ensures { (ns : List ℕ) → result ≡ surplus_at (depth - 1) (table types.now ns) s.now row next }
 {
     match next {
         Follows::Shut(q) => Ended::Closed(q),
@@ -85,7 +85,7 @@ pub fn surplus(types: &[u32], s: &[u8], row: usize, next: Follows, depth: u32) -
 // The name of the one member of the object at p, in whose value `depth` brackets may be open.
 pub fn one_at(s: &[u8], p: usize, depth: u32) -> One
     requires { (length s.now ≤ 65536) × (p < length s.now) }
-    ensures { result ≡ one_at depth s.now (firstPart s.now 0x7D p) }
+    ensures { result ≡ one_at depth s.now (first_part s.now 0x7D p) }
 {
     match first_part(s, 0x7D, p) {
         Follows::Shut(_) => One::NotOne,
@@ -104,7 +104,7 @@ pub fn one_at(s: &[u8], p: usize, depth: u32) -> One
 
 // No such alternative: 11 at p if the type is extensible, else the cause at q.
 pub fn unknown(types: &[u32], row: usize, p: usize, cause: Cause, q: usize) -> Step
-    ensures { (ns : List ℕ) → result ≡ (elim (extensible (table types.now ns) row) as (λ b. Step) [ true ↦ refusedAt Unknown p | false ↦ refusedAt cause q ]) }
+    ensures { (ns : List ℕ) → result ≡ (elim (extensible (table types.now ns) row) as (λ b. Step) [ true ↦ refused_at Unknown p | false ↦ refused_at cause q ]) }
 {
     if Row::at(types, row).extensible() {
         return refused(Cause::Unknown, p);

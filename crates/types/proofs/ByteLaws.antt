@@ -9,47 +9,47 @@ use borrow.Author.Tests.{eq-eqb, ne_eqb, le-leb, lt-leb, leb-true}
 use lib.Dec.{eqb, leb}
 use lib.ListN.{length, get_or, take, drop, length-drop, drop_of_length-le}
 use lib.Seq.{length-take-le, get_or-take, get_or-drop, take_all, take-nil, drop-cons, drop-length}
-use Rattle.json.specs.Bytes.{pick}
-use Rattle.json.specs.Utf8.{Due, start, due, never, wideRows, dueNext, dueStep, dueEnd, utf8From}
-use Rattle.jer.specs.Table.{sameBytes}
+use Rattle.json_text.specs.Bytes.{pick}
+use Rattle.json_text.specs.Utf8.{Due, start, due, never, wide_rows, due_next, due_step, due_end, utf8_from}
+use Rattle.jer.specs.Table.{same_bytes}
 use Rattle.types.specs.declared.bytes.Due.{Due as State}
 use Rattle.types.specs.declared.bytes.Due.TheVariants.{Next}
-use Rattle.types.specs.Bytes.{dueOf, Ascii}
+use Rattle.types.specs.Bytes.{due_of, Ascii}
 
 -- ---- equal bytes
 
-same-cons : (a b : ℕ) (x y : List ℕ) → a ≡ b → sameBytes (a ∷ x) (b ∷ y) ≡ sameBytes x y
-unfolding sameBytes
-same-cons a b x y e = rw (eq-eqb a b e, sameBytes)
+same-cons : (a b : ℕ) (x y : List ℕ) → a ≡ b → same_bytes (a ∷ x) (b ∷ y) ≡ same_bytes x y
+unfolding same_bytes
+same-cons a b x y e = rw (eq-eqb a b e, same_bytes)
 
-differ-cons : (a b : ℕ) (x y : List ℕ) → (a ≡ b → ⊥) → sameBytes (a ∷ x) (b ∷ y) ≡ false
-unfolding sameBytes
-differ-cons a b x y e = rw (ne_eqb a b e, sameBytes)
+differ-cons : (a b : ℕ) (x y : List ℕ) → (a ≡ b → ⊥) → same_bytes (a ∷ x) (b ∷ y) ≡ false
+unfolding same_bytes
+differ-cons a b x y e = rw (ne_eqb a b e, same_bytes)
 
-pub same-lengths : (x y : List ℕ) → (length x ≡ length y → ⊥) → false ≡ sameBytes x y
-unfolding sameBytes
-same-lengths [] [] h = absurd (h refl)
-same-lengths [] (b ∷ y) h = refl
-same-lengths (a ∷ x) [] h = refl
-same-lengths (a ∷ x) (b ∷ y) h = go (eqb a b) (same-lengths x y (λ e. h (ap suc e)))
+pub same_lengths : (x y : List ℕ) → (length x ≡ length y → ⊥) → false ≡ same_bytes x y
+unfolding same_bytes
+same_lengths [] [] h = absurd (h refl)
+same_lengths [] (b ∷ y) h = refl
+same_lengths (a ∷ x) [] h = refl
+same_lengths (a ∷ x) (b ∷ y) h = go (eqb a b) (same_lengths x y (λ e. h (ap suc e)))
   where
-    go : (t : Bool) → false ≡ sameBytes x y → false ≡ elim t as (λ z. Bool) [ true ↦ sameBytes x y | false ↦ false ]
+    go : (t : Bool) → false ≡ same_bytes x y → false ≡ elim t as (λ z. Bool) [ true ↦ same_bytes x y | false ↦ false ]
     go true r = r
     go false r = refl
 
 module _ (x y : List ℕ) (i : ℕ) (h : i < length x) (l : length x ≡ length y) where
-  pub same_next : get_or x i 0 ≡ get_or y i 0 → sameBytes (drop (i + 1) x) (drop (i + 1) y) ≡ sameBytes (drop i x) (drop i y)
+  pub same_next : get_or x i 0 ≡ get_or y i 0 → same_bytes (drop (i + 1) x) (drop (i + 1) y) ≡ same_bytes (drop i x) (drop i y)
   same_next e =
       let k : i < length y = omega arith in
       rw (drop-cons x i 0 h, drop-cons y i 0 k, add-one i) (sym (same-cons (get_or x i 0) (get_or y i 0) (drop (suc i) x) (drop (suc i) y) e))
 
-  pub same-fails : (get_or x i 0 ≡ get_or y i 0 → ⊥) → false ≡ sameBytes (drop i x) (drop i y)
+  pub same-fails : (get_or x i 0 ≡ get_or y i 0 → ⊥) → false ≡ same_bytes (drop i x) (drop i y)
   same-fails e =
       let k : i < length y = omega arith in
       rw (drop-cons x i 0 h, drop-cons y i 0 k) (sym (differ-cons (get_or x i 0) (get_or y i 0) (drop (suc i) x) (drop (suc i) y) e))
 
-pub same_ends : (x y : List ℕ) (i : ℕ) → length x ≤ i → length x ≡ length y → true ≡ sameBytes (drop i x) (drop i y)
-unfolding sameBytes
+pub same_ends : (x y : List ℕ) (i : ℕ) → length x ≤ i → length x ≡ length y → true ≡ same_bytes (drop i x) (drop i y)
+unfolding same_bytes
 same_ends x y i h l =
     let k : length y ≤ i = omega arith in
     rw (drop_of_length-le x h, drop_of_length-le y k)
@@ -79,79 +79,79 @@ other b k h = go (leb k b) refl
 
 -- the first byte of a character
 module _ (b : ℕ) where
-  pub first-ascii : b ≤ 0x7F → start ≡ dueStep start b
-  unfolding dueStep wideRows pick
+  pub first-ascii : b ≤ 0x7F → start ≡ due_step start b
+  unfolding due_step wide_rows pick
   first-ascii h = rw (inside b 0x00 0x7F (omega arith) h, pick)
 
   module _ (l₁ : 0x80 ≤ b) where
-    pub first_tail : b ≤ 0xC1 → never ≡ dueStep start b
-    unfolding dueStep wideRows pick
+    pub first_tail : b ≤ 0xC1 → never ≡ due_step start b
+    unfolding due_step wide_rows pick
     first_tail h =
         rw (above b 0x00 0x7F l₁, below b 0xC2 0xDF (omega arith), below b 0xE0 0xE0 (omega arith), below b 0xE1 0xEC (omega arith), below b 0xED 0xED (omega arith), below b 0xEE 0xEF (omega arith), below b 0xF0 0xF0 (omega arith), below b 0xF1 0xF3 (omega arith), below b 0xF4 0xF4 (omega arith), pick)
 
     module _ (l₂ : 0xC2 ≤ b) where
-      pub first_two : b ≤ 0xDF → due 0x80 0xBF 0 ≡ dueStep start b
-      unfolding dueStep wideRows pick
+      pub first_two : b ≤ 0xDF → due 0x80 0xBF 0 ≡ due_step start b
+      unfolding due_step wide_rows pick
       first_two h = rw (above b 0x00 0x7F l₁, inside b 0xC2 0xDF l₂ h, pick)
 
       module _ (l₃ : 0xE1 ≤ b) where
-        pub first_three : b ≤ 0xEC → due 0x80 0xBF 1 ≡ dueStep start b
-        unfolding dueStep wideRows pick
+        pub first_three : b ≤ 0xEC → due 0x80 0xBF 1 ≡ due_step start b
+        unfolding due_step wide_rows pick
         first_three h = rw (above b 0x00 0x7F l₁, above b 0xC2 0xDF (omega arith), above b 0xE0 0xE0 l₃, inside b 0xE1 0xEC l₃ h, pick)
 
         module _ (l₄ : 0xEE ≤ b) where
-          pub first-three-too : b ≤ 0xEF → due 0x80 0xBF 1 ≡ dueStep start b
-          unfolding dueStep wideRows pick
-          first-three-too h = rw (above b 0x00 0x7F l₁, above b 0xC2 0xDF (omega arith), above b 0xE0 0xE0 l₃, above b 0xE1 0xEC (omega arith), above b 0xED 0xED l₄, inside b 0xEE 0xEF l₄ h, pick)
+          pub first-three_too : b ≤ 0xEF → due 0x80 0xBF 1 ≡ due_step start b
+          unfolding due_step wide_rows pick
+          first-three_too h = rw (above b 0x00 0x7F l₁, above b 0xC2 0xDF (omega arith), above b 0xE0 0xE0 l₃, above b 0xE1 0xEC (omega arith), above b 0xED 0xED l₄, inside b 0xEE 0xEF l₄ h, pick)
 
           module _ (l₅ : 0xF1 ≤ b) where
-            pub first-four : b ≤ 0xF3 → due 0x80 0xBF 2 ≡ dueStep start b
-            unfolding dueStep wideRows pick
+            pub first-four : b ≤ 0xF3 → due 0x80 0xBF 2 ≡ due_step start b
+            unfolding due_step wide_rows pick
             first-four h = rw (above b 0x00 0x7F l₁, above b 0xC2 0xDF (omega arith), above b 0xE0 0xE0 l₃, above b 0xE1 0xEC (omega arith), above b 0xED 0xED l₄, above b 0xEE 0xEF (omega arith), above b 0xF0 0xF0 l₅, inside b 0xF1 0xF3 l₅ h, pick)
 
-  pub first-none : 0xF5 ≤ b → never ≡ dueStep start b
-  unfolding dueStep wideRows pick
+  pub first-none : 0xF5 ≤ b → never ≡ due_step start b
+  unfolding due_step wide_rows pick
   first-none h =
       rw (above b 0x00 0x7F (omega arith), above b 0xC2 0xDF (omega arith), above b 0xE0 0xE0 (omega arith), above b 0xE1 0xEC (omega arith), above b 0xED 0xED (omega arith), above b 0xEE 0xEF (omega arith), above b 0xF0 0xF0 (omega arith), above b 0xF1 0xF3 (omega arith), above b 0xF4 0xF4 h, pick)
 
-pub tail_none : (n : ℕ) → n ≡ 0 → start ≡ dueNext n
-unfolding dueNext
+pub tail_none : (n : ℕ) → n ≡ 0 → start ≡ due_next n
+unfolding due_next
 tail_none n e = rw e
 
-pub tail_more : (n : ℕ) → (n ≡ 0 → ⊥) → due 0x80 0xBF (n - 1) ≡ dueNext n
-unfolding dueNext
+pub tail_more : (n : ℕ) → (n ≡ 0 → ⊥) → due 0x80 0xBF (n - 1) ≡ due_next n
+unfolding due_next
 tail_more zero h = absurd (h refl)
 tail_more (suc n) h = let e : suc n - 1 ≡ n = omega arith in rw e
 
 -- a byte of a character, by the code's state
 module _ (s : State) (b low high more : ℕ) (e : s ≡ Next low high more) where
-  pub step-below : b < low → never ≡ dueStep (dueOf s) b
-  unfolding dueOf dueStep pick
+  pub step-below : b < low → never ≡ due_step (due_of s) b
+  unfolding due_of due_step pick
   step-below h = rw (e, below b low high h, pick)
 
-  pub step-above : high < b → never ≡ dueStep (dueOf s) b
-  unfolding dueOf dueStep pick
+  pub step-above : high < b → never ≡ due_step (due_of s) b
+  unfolding due_of due_step pick
   step-above h = rw (e, above b low high h, pick)
 
-  pub step_in : (d : Due) → low ≤ b → b ≤ high → d ≡ dueNext more → d ≡ dueStep (dueOf s) b
-  unfolding dueOf dueStep pick
+  pub step_in : (d : Due) → low ≤ b → b ≤ high → d ≡ due_next more → d ≡ due_step (due_of s) b
+  unfolding due_of due_step pick
   step_in d l h q = rw (e, inside b low high l h, pick) q
 
-pub utf8-next : (s : List ℕ) (i : ℕ) (d u : Due) → i < length s → u ≡ dueStep d (get_or s i 0) → utf8From u (drop (i + 1) s) ≡ utf8From d (drop i s)
-unfolding utf8From
+pub utf8-next : (s : List ℕ) (i : ℕ) (d u : Due) → i < length s → u ≡ due_step d (get_or s i 0) → utf8_from u (drop (i + 1) s) ≡ utf8_from d (drop i s)
+unfolding utf8_from
 utf8-next s i d u h e = rw (drop-cons s i 0 h, add-one i, e)
 
-pub utf8-ends : (s : List ℕ) (i : ℕ) (d : Due) → length s ≤ i → dueEnd d ≡ utf8From d (drop i s)
-unfolding utf8From
+pub utf8-ends : (s : List ℕ) (i : ℕ) (d : Due) → length s ≤ i → due_end d ≡ utf8_from d (drop i s)
+unfolding utf8_from
 utf8-ends s i d h = rw (drop_of_length-le s h)
 
-pub ascii-utf8 : (s : List ℕ) → Ascii s → utf8From start s ≡ true
-unfolding utf8From dueEnd
+pub ascii-utf8 : (s : List ℕ) → Ascii s → utf8_from start s ≡ true
+unfolding utf8_from due_end
 ascii-utf8 [] h = refl
 ascii-utf8 (b ∷ s) h = rw (sym (first-ascii b (h 0 (omega arith)))) (ascii-utf8 s (λ i l. h (suc i) (omega arith)))
 
-pub ascii-part : (s : List ℕ) (a n : ℕ) → a + n ≤ length s → Ascii s → Ascii (take n (drop a s))
-ascii-part s a n h f i l =
+pub ascii_part : (s : List ℕ) (a n : ℕ) → a + n ≤ length s → Ascii s → Ascii (take n (drop a s))
+ascii_part s a n h f i l =
     let e : length (take n (drop a s)) ≡ n = length-take-le n (drop a s) (omega (arith, length-drop a s)) in
     let k : i < n = omega arith in
     rw (get_or-take n (drop a s) i 0 k, get_or-drop a s i 0) (f (a + i) (omega arith))

@@ -6,7 +6,7 @@ use mathlib.Core.Option.{Option, none, some}
 use Prim.Native.Nat.{ℕ, suc, ◌+◌, ◌-◌, ◌<◌, ◌≤◌}
 use native.Mathlib.Numerals.{add-one}
 use native.Mathlib.Omega.{arith}
-use Rattle.jer.specs.Table.{firstWhere}
+use Rattle.jer.specs.Table.{first_where}
 use Rattle.jer.specs.Valid.{every}
 
 module _ (f : ℕ → Bool) (k e : ℕ) where
@@ -24,14 +24,14 @@ module _ (f : ℕ → Bool) (k e : ℕ) where
   every-ends h i = let g : e - k ≡ 0 = omega arith in rw g at i
 
   module _ {b : Bool} {x : Option ℕ} (h : k < e) (p : b ≡ f k) where
-    pub first_next : b ≡ false → firstWhere f k (e - k) ≡ x → firstWhere f (k + 1) (e - (k + 1)) ≡ x
-    unfolding firstWhere
-    first_next q i = let g : e - k ≡ suc (e - suc k) = omega arith in rw (add-one k) (rw (g, sym p ∙ q, firstWhere) at i)
+    pub first_next : b ≡ false → first_where f k (e - k) ≡ x → first_where f (k + 1) (e - (k + 1)) ≡ x
+    unfolding first_where
+    first_next q i = let g : e - k ≡ suc (e - suc k) = omega arith in rw (add-one k) (rw (g, sym p ∙ q, first_where) at i)
 
-    pub first_found : b ≡ true → firstWhere f k (e - k) ≡ x → some k ≡ x
-    unfolding firstWhere
-    first_found q i = let g : e - k ≡ suc (e - suc k) = omega arith in rw (g, sym p ∙ q, firstWhere) at i
+    pub first_found : b ≡ true → first_where f k (e - k) ≡ x → some k ≡ x
+    unfolding first_where
+    first_found q i = let g : e - k ≡ suc (e - suc k) = omega arith in rw (g, sym p ∙ q, first_where) at i
 
-  pub first_ends : {x : Option ℕ} → e ≤ k → firstWhere f k (e - k) ≡ x → none ≡ x
-  unfolding firstWhere
+  pub first_ends : {x : Option ℕ} → e ≤ k → first_where f k (e - k) ≡ x → none ≡ x
+  unfolding first_where
   first_ends h i = let g : e - k ≡ 0 = omega arith in rw g at i

@@ -5,7 +5,7 @@ use mathlib.Core.Bool.{Bool, not, ◌&&◌}
 use Prim.Native.Nat.{ℕ, ◌-◌}
 use native.Mathlib.Omega.{arith}
 use lib.Dec.{eqb}
-use Rattle.jer.specs.Table.{Table, countOf, memberRow, optional, type_at, nameIn, name_at, mayMiss, sameBytes, isUnwrapped, code_of, sameToken, tokenOf, nullTaken}
+use Rattle.jer.specs.Table.{Table, count_of, member_row, optional, type_at, name_in, name_at, may_miss, same_bytes, is_unwrapped, code_of, same_token, token_of, null_taken}
 use Rattle.jer.specs.Valid.{every}
 use Rattle.types.specs.declared.row.Row.{Row}
 use Rattle.types.specs.declared.members.By.{By}
@@ -16,12 +16,12 @@ use Rattle.types.specs.Rows.{row_of}
 use Rattle.types.specs.Check.{alike, keeps}
 
 module _ (t : Table) (r i j : ℕ) {by : By} {a b : ℕ} where
-  pub alike-name : {x y : List ℕ} {s : Bool} → by ≡ Name → a ≡ memberRow t r i → b ≡ memberRow t r j → x ≡ nameIn t a → y ≡ nameIn t b → s ≡ sameBytes x y → s ≡ alike by t r i j
+  pub alike-name : {x y : List ℕ} {s : Bool} → by ≡ Name → a ≡ member_row t r i → b ≡ member_row t r j → x ≡ name_in t a → y ≡ name_in t b → s ≡ same_bytes x y → s ≡ alike by t r i j
   unfolding alike name_at
   alike-name h p q u v z = z ∙ rw (h, u, v, p, q)
 
-  pub alike-token : {m n : ℕ} → by ≡ Token → a ≡ type_at t r i → b ≡ type_at t r j → m ≡ code_of (tokenOf t a) → n ≡ code_of (tokenOf t b) → eqb m n ≡ alike by t r i j
-  unfolding alike sameToken
+  pub alike-token : {m n : ℕ} → by ≡ Token → a ≡ type_at t r i → b ≡ type_at t r j → m ≡ code_of (token_of t a) → n ≡ code_of (token_of t b) → eqb m n ≡ alike by t r i j
+  unfolding alike same_token
   alike-token h p q u v = rw (h, u, v, p, q)
 
 -- the member at i is not like the one at j
@@ -36,7 +36,7 @@ unfolding keeps
 differs-starts by t r j = let g : j - 0 ≡ j = omega arith in rw g
 
 module _ (t : Table) (r i : ℕ) {rule : Rule} where
-  pub keeps-member : {w : Row} → rule ≡ IsMember → w ≡ row_of t (memberRow t r i) → eqb w.kind 9 ≡ keeps rule t r i
+  pub keeps-member : {w : Row} → rule ≡ IsMember → w ≡ row_of t (member_row t r i) → eqb w.kind 9 ≡ keeps rule t r i
   unfolding keeps
   keeps-member h e = rw (h, e)
 
@@ -48,16 +48,16 @@ module _ (t : Table) (r i : ℕ) {rule : Rule} where
   unfolding keeps
   keeps-untyped h p = rw (h, p)
 
-  pub keeps-null-free : {b n : Bool} {a : ℕ} → rule ≡ NullFree → b ≡ mayMiss t r i → a ≡ type_at t r i → n ≡ nullTaken t a → not (b && n) ≡ keeps rule t r i
+  pub keeps-null-free : {b n : Bool} {a : ℕ} → rule ≡ NullFree → b ≡ may_miss t r i → a ≡ type_at t r i → n ≡ null_taken t a → not (b && n) ≡ keeps rule t r i
   unfolding keeps
   keeps-null-free h p q u = rw (h, p, u, q)
 
-  pub keeps-wrapped : {b : Bool} {a : ℕ} → rule ≡ Wrapped → a ≡ type_at t r i → b ≡ isUnwrapped t a → not b ≡ keeps rule t r i
+  pub keeps-wrapped : {b : Bool} {a : ℕ} → rule ≡ Wrapped → a ≡ type_at t r i → b ≡ is_unwrapped t a → not b ≡ keeps rule t r i
   unfolding keeps
   keeps-wrapped h p q = rw (h, q, p)
 
   pub keeps-differs : {b : Bool} {by : By} → rule ≡ Differs by → b ≡ keeps (Differs by) t r i → b ≡ keeps rule t r i
   keeps-differs h p = rw (h) p
 
-pub all-starts : (rule : Rule) (t : Table) (r : ℕ) {n : ℕ} → n ≡ countOf t r → every (keeps rule t r) 0 (n - 0) ≡ every (keeps rule t r) 0 (countOf t r)
-all-starts rule t r {n = n} e = let g : n - 0 ≡ countOf t r = omega arith in rw g
+pub all-starts : (rule : Rule) (t : Table) (r : ℕ) {n : ℕ} → n ≡ count_of t r → every (keeps rule t r) 0 (n - 0) ≡ every (keeps rule t r) 0 (count_of t r)
+all-starts rule t r {n = n} e = let g : n - 0 ≡ count_of t r = omega arith in rw g

@@ -9,10 +9,10 @@ use borrow.Author.Tests.{eqb-true, eqb-false, eq-eqb, ne_eqb}
 use lib.Dec.{eqb}
 use lib.ListN.{length, get_or, set, replicate, drop, length-drop, length-set, length-replicate}
 use lib.Seq.{length-take-le, get_or-set_same, get_or-set_other}
-use Rattle.jer.proofs.ValidLaws.{sameBytes-eq}
-use Rattle.jer.specs.Table.{Table, rowCount, field, is_type, isArray, isUnwrapped, carries, tag_of, first_of, countOf, memberRow, optional, type_at, nameIn, name_at, sameBytes, table}
-use Rattle.jer.specs.Valid.{every, goodPointers, allDiffer, namesDiffer, noneOptional, goodArray, goodUnwrapped}
-use Rattle.json.specs.Bytes.{pick}
+use Rattle.jer.proofs.ValidLaws.{same_bytes-eq}
+use Rattle.jer.specs.Table.{Table, row_count, field, is_type, is_array, is_unwrapped, carries, tag_of, first_of, count_of, member_row, optional, type_at, name_in, name_at, same_bytes, table}
+use Rattle.jer.specs.Valid.{every, good_pointers, all_differ, names_differ, none_optional, good_array, good_unwrapped}
+use Rattle.json_text.specs.Bytes.{pick}
 use Rattle.jer.specs.declared.Layout.{Layout}
 use Rattle.jer.specs.declared.Layout.TheVariants.{Bare, Lists, Names, Unknown}
 use Rattle.types.specs.declared.row.Row.{Row}
@@ -24,25 +24,25 @@ use Rattle.types.proofs.RuleLaws.{holder, pointers-bare, pointers-members, point
 use Rattle.types.proofs.RowLaws.{tag_is}
 use Rattle.types.proofs.SureLaws.{split-next}
 
-pub count-is : (rows ns : List ℕ) {n : ℕ} → n ≡ rowCount (table rows ns) → n ≡ length rows / 8
-unfolding rowCount
+pub count-is : (rows ns : List ℕ) {n : ℕ} → n ≡ row_count (table rows ns) → n ≡ length rows / 8
+unfolding row_count
 count-is rows ns e = e
 
 -- ---- names
 
-pub name-length : (t : Table) (m : ℕ) (s : List ℕ) → 1 ≤ field t m 4 → NameInside t m → s ≡ nameIn t m → 1 ≤ length s
-unfolding nameIn
+pub name-length : (t : Table) (m : ℕ) (s : List ℕ) → 1 ≤ field t m 4 → NameInside t m → s ≡ name_in t m → 1 ≤ length s
+unfolding name_in
 name-length t m s l h e =
-    let g : length (nameIn t m) ≡ field t m 4 = length-take-le (field t m 4) (drop (field t m 3) t.names) (omega (arith, length-drop (field t m 3) t.names)) in
-    let z : length s ≡ length (nameIn t m) = ap (λ (x : List ℕ). length x) e in
+    let g : length (name_in t m) ≡ field t m 4 = length-take-le (field t m 4) (drop (field t m 3) t.names) (omega (arith, length-drop (field t m 3) t.names)) in
+    let z : length s ≡ length (name_in t m) = ap (λ (x : List ℕ). length x) e in
     omega (arith, g, z)
 
 -- equal names have equal signs
-signs-differ : (x y : List ℕ) → (sign_of x ≡ sign_of y → ⊥) → sameBytes x y ≡ false
-signs-differ x y h = go (sameBytes x y) refl
+signs_differ : (x y : List ℕ) → (sign_of x ≡ sign_of y → ⊥) → same_bytes x y ≡ false
+signs_differ x y h = go (same_bytes x y) refl
   where
-    go : (b : Bool) → sameBytes x y ≡ b → sameBytes x y ≡ false
-    go true e = absurd (h (ap sign_of (sameBytes-eq x y e)))
+    go : (b : Bool) → same_bytes x y ≡ b → same_bytes x y ≡ false
+    go true e = absurd (h (ap sign_of (same_bytes-eq x y e)))
     go false e = e
 
 pub sign-told : (s : List ℕ) {a b c d : ℕ} → a ≡ get_or s 0 0 → b ≡ get_or s (length s - 1) 0 → c ≡ get_or s (length s / 2) 0 → d ≡ get_or s (length s / 3) 0
@@ -50,56 +50,56 @@ pub sign-told : (s : List ℕ) {a b c d : ℕ} → a ≡ get_or s 0 0 → b ≡ 
 unfolding sign_of
 sign-told s p q u v = rw (p, q, u, v)
 
-pub apart_next : (t : Table) (first i : ℕ) (name : List ℕ) {x : List ℕ} {b : Bool} → Apart t first i name → x ≡ nameIn t (first + i) → b ≡ sameBytes x name → b ≡ false
+pub apart_next : (t : Table) (first i : ℕ) (name : List ℕ) {x : List ℕ} {b : Bool} → Apart t first i name → x ≡ name_in t (first + i) → b ≡ same_bytes x name → b ≡ false
     → Apart t first (i + 1) name
 apart_next t first i name f p q h =
-    split-next (λ k. sameBytes (nameIn t (first + k)) name ≡ false) i f (ap (λ (y : List ℕ). sameBytes y name) (sym p) ∙ sym q ∙ h)
+    split-next (λ k. same_bytes (name_in t (first + k)) name ≡ false) i f (ap (λ (y : List ℕ). same_bytes y name) (sym p) ∙ sym q ∙ h)
 
 -- j members from the row first on are sure, and their signs are marked
 pub record SoFar (t : Table) (first marks types : ℕ) (seen : List ℕ) (j : ℕ) : Type 0 where
   pub sure : (i : ℕ) → i < j → SureMember t first marks types i
-  pub marked : (i : ℕ) → i < j → get_or seen (sign_of (nameIn t (first + i))) 0 ≡ 1
+  pub marked : (i : ℕ) → i < j → get_or seen (sign_of (name_in t (first + i))) 0 ≡ 1
   pub size : length seen ≡ 256
 
-pub so-far-starts : (t : Table) (first marks types : ℕ) → SoFar t first marks types (replicate 256 0) 0
-so-far-starts t first marks types = record {
+pub so_far_starts : (t : Table) (first marks types : ℕ) → SoFar t first marks types (replicate 256 0) 0
+so_far_starts t first marks types = record {
   sure = λ i l. absurd (omega arith);
   marked = λ i l. absurd (omega arith);
   size = length-replicate {A = ℕ} 256 0;
 }
 
 module _ (t : Table) (first marks types : ℕ) (seen : List ℕ) (j s : ℕ) (name : List ℕ) (f : SoFar t first marks types seen j)
-    (p : name ≡ nameIn t (first + j)) (q : s ≡ sign_of name) where
-  apart-all : ((get_or seen s 0 ≡ 0 → ⊥) → Apart t first j name) → Apart t first j (nameIn t (first + j))
+    (p : name ≡ name_in t (first + j)) (q : s ≡ sign_of name) where
+  apart-all : ((get_or seen s 0 ≡ 0 → ⊥) → Apart t first j name) → Apart t first j (name_in t (first + j))
   apart-all g i l = rw (sym p) (go (eqb (get_or seen s 0) 0) refl)
     where
-      go : (b : Bool) → eqb (get_or seen s 0) 0 ≡ b → sameBytes (nameIn t (first + i)) name ≡ false
+      go : (b : Bool) → eqb (get_or seen s 0) 0 ≡ b → same_bytes (name_in t (first + i)) name ≡ false
       go true e =
-          signs-differ (nameIn t (first + i)) name
-          (λ z. let m : get_or seen (sign_of (nameIn t (first + i))) 0 ≡ 1 = f.marked i l in
-          let y : sign_of (nameIn t (first + i)) ≡ s = z ∙ sym q in
+          signs_differ (name_in t (first + i)) name
+          (λ z. let m : get_or seen (sign_of (name_in t (first + i))) 0 ≡ 1 = f.marked i l in
+          let y : sign_of (name_in t (first + i)) ≡ s = z ∙ sym q in
           let x : get_or seen s 0 ≡ 1 = ap (λ (k : ℕ). get_or seen k 0) (sym y) ∙ m in
           absurd (omega (arith, eqb-true (get_or seen s 0) 0 e)))
       go false e = g (eqb-false (get_or seen s 0) 0 e) i l
 
-  marked_all : s < 256 → (i : ℕ) → i < j + 1 → get_or (set seen s 1) (sign_of (nameIn t (first + i))) 0 ≡ 1
-  marked_all h = split-next (λ i. get_or (set seen s 1) (sign_of (nameIn t (first + i))) 0 ≡ 1) j old new
+  marked_all : s < 256 → (i : ℕ) → i < j + 1 → get_or (set seen s 1) (sign_of (name_in t (first + i))) 0 ≡ 1
+  marked_all h = split-next (λ i. get_or (set seen s 1) (sign_of (name_in t (first + i))) 0 ≡ 1) j old new
     where
       here : (k : ℕ) → k ≡ s → get_or (set seen s 1) k 0 ≡ 1
       here k e = rw e (get_or-set_same seen s 1 0 (omega (arith, f.size)))
 
-      new : get_or (set seen s 1) (sign_of (nameIn t (first + j))) 0 ≡ 1
-      new = here (sign_of (nameIn t (first + j))) (ap sign_of (sym p) ∙ sym q)
+      new : get_or (set seen s 1) (sign_of (name_in t (first + j))) 0 ≡ 1
+      new = here (sign_of (name_in t (first + j))) (ap sign_of (sym p) ∙ sym q)
 
-      old : (i : ℕ) → i < j → get_or (set seen s 1) (sign_of (nameIn t (first + i))) 0 ≡ 1
-      old i l = go (eqb (sign_of (nameIn t (first + i))) s) refl
+      old : (i : ℕ) → i < j → get_or (set seen s 1) (sign_of (name_in t (first + i))) 0 ≡ 1
+      old i l = go (eqb (sign_of (name_in t (first + i))) s) refl
         where
-          go : (b : Bool) → eqb (sign_of (nameIn t (first + i))) s ≡ b → get_or (set seen s 1) (sign_of (nameIn t (first + i))) 0 ≡ 1
-          go true e = here (sign_of (nameIn t (first + i))) (eqb-true (sign_of (nameIn t (first + i))) s e)
-          go false e = get_or-set_other seen s (sign_of (nameIn t (first + i))) 1 0 (eqb-false (sign_of (nameIn t (first + i))) s e) ∙ f.marked i l
+          go : (b : Bool) → eqb (sign_of (name_in t (first + i))) s ≡ b → get_or (set seen s 1) (sign_of (name_in t (first + i))) 0 ≡ 1
+          go true e = here (sign_of (name_in t (first + i))) (eqb-true (sign_of (name_in t (first + i))) s e)
+          go false e = get_or-set_other seen s (sign_of (name_in t (first + i))) 1 0 (eqb-false (sign_of (name_in t (first + i))) s e) ∙ f.marked i l
 
-  pub so-far-next : Fits t (first + j) marks types → s < 256 → ((get_or seen s 0 ≡ 0 → ⊥) → Apart t first j name) → SoFar t first marks types (set seen s 1) (j + 1)
-  so-far-next u h g = record {
+  pub so_far_next : Fits t (first + j) marks types → s < 256 → ((get_or seen s 0 ≡ 0 → ⊥) → Apart t first j name) → SoFar t first marks types (set seen s 1) (j + 1)
+  so_far_next u h g = record {
     sure = split-next (λ i. SureMember t first marks types i) j f.sure (record { fit = u; own = apart-all g });
     marked = marked_all h;
     size = length-set seen s 1 ∙ f.size;
@@ -109,14 +109,14 @@ pub members-room : (t : Table) (r : ℕ) {w : Row} {first count : ℕ} → w ≡
     → first + count ≤ length t.rows / 8
 members-room t r {w = w} {first = first} {count = count} e p q h =
     let a : first ≡ first_of t r = p ∙ ap (λ (x : Row). x.first) e in
-    let b : count ≡ countOf t r = q ∙ ap (λ (x : Row). x.members) e in
+    let b : count ≡ count_of t r = q ∙ ap (λ (x : Row). x.members) e in
     omega arith
 
 pub members-told : (t : Table) (r marks types : ℕ) {w : Row} {first count j : ℕ} {seen : List ℕ} → w ≡ row_of t r → first ≡ w.first → count ≡ w.members
     → count ≤ j → SoFar t first marks types seen j → SureMembers t r marks types
 members-told t r marks types {w = w} {first = first} {count = count} e p q h f i l =
     let a : first ≡ first_of t r = p ∙ ap (λ (x : Row). x.first) e in
-    let b : count ≡ countOf t r = q ∙ ap (λ (x : Row). x.members) e in
+    let b : count ≡ count_of t r = q ∙ ap (λ (x : Row). x.members) e in
     rw (sym a) (f.sure i (omega arith))
 
 -- ---- what a row points to
@@ -127,31 +127,31 @@ every_true f zero i h = refl
 every_true f (suc n) i h = rw (h i (omega arith), every) (every_true f n (suc i) (λ k l. h k (omega arith)))
 
 module _ (t : Table) (r : ℕ) {marks types : ℕ} (s : SureMembers t r marks types) where
-  owned : true ≡ every (keeps IsMember t r) 0 (countOf t r)
-  unfolding keeps memberRow
-  owned = every_true _ (countOf t r) 0 (λ k l. eq-eqb (tag_of t (first_of t r + k)) 9 (s k (omega arith)).fit.kind)
+  owned : true ≡ every (keeps IsMember t r) 0 (count_of t r)
+  unfolding keeps member_row
+  owned = every_true _ (count_of t r) 0 (λ k l. eq-eqb (tag_of t (first_of t r + k)) 9 (s k (omega arith)).fit.kind)
 
-  differ : true ≡ namesDiffer t r
-  unfolding namesDiffer allDiffer name_at memberRow
+  differ : true ≡ names_differ t r
+  unfolding names_differ all_differ name_at member_row
   differ =
-      every_true (λ j. every (λ i. not (sameBytes (nameIn t (first_of t r + i)) (nameIn t (first_of t r + j)))) 0 j) (countOf t r) 0
-      (λ j l. sym (every_true (λ i. not (sameBytes (nameIn t (first_of t r + i)) (nameIn t (first_of t r + j)))) j 0 (λ i m. ap not ((s j (omega arith)).own i (omega arith)))))
+      every_true (λ j. every (λ i. not (same_bytes (name_in t (first_of t r + i)) (name_in t (first_of t r + j)))) 0 j) (count_of t r) 0
+      (λ j l. sym (every_true (λ i. not (same_bytes (name_in t (first_of t r + i)) (name_in t (first_of t r + j)))) j 0 (λ i m. ap not ((s j (omega arith)).own i (omega arith)))))
 
-  required : marks ≡ 0 → true ≡ noneOptional t r
-  unfolding noneOptional optional memberRow
+  required : marks ≡ 0 → true ≡ none_optional t r
+  unfolding none_optional optional member_row
   required z =
-      every_true (λ i. not (eqb (field t (first_of t r + i) 1) 1)) (countOf t r) 0
+      every_true (λ i. not (eqb (field t (first_of t r + i) 1) 1)) (count_of t r) 0
       (λ k l. ap not (ne_eqb (field t (first_of t r + k) 1) 1 (λ e. let m : field t (first_of t r + k) 1 ≤ marks = (s k (omega arith)).fit.mark in absurd (omega arith))))
 
-  untyped : types ≡ 0 → true ≡ every (keeps Untyped t r) 0 (countOf t r)
-  unfolding keeps type_at memberRow
+  untyped : types ≡ 0 → true ≡ every (keeps Untyped t r) 0 (count_of t r)
+  unfolding keeps type_at member_row
   untyped z =
-      every_true (λ i. eqb (field t (first_of t r + i) 2) 0) (countOf t r) 0
+      every_true (λ i. eqb (field t (first_of t r + i) 2) 0) (count_of t r) 0
       (λ k l. eq-eqb (field t (first_of t r + k) 2) 0 (let m : field t (first_of t r + k) 2 ≤ types = (s k (omega arith)).fit.type in omega arith))
 
 module _ (t : Table) (r : ℕ) {w : Row} (e : w ≡ row_of t r) where
   module _ {l : Layout} (c : l ≡ (carries (tag_of t r)).layout) where
-    plain : {b : Bool} → holder l ≡ false → b ≡ goodPointers t r → b ≡ true → SureLinks t r
+    plain : {b : Bool} → holder l ≡ false → b ≡ good_pointers t r → b ≡ true → SureLinks t r
     plain k p h = record { pointers = sym p ∙ h; rules = sym (rules-plain t r (ap holder (sym c) ∙ k)) }
 
     pub links-bare : l ≡ Bare → SureLinks t r
@@ -181,8 +181,8 @@ module _ (t : Table) (r : ℕ) {w : Row} (e : w ≡ row_of t r) where
     rules = sym (rules-enumerated t r e (differ t r s) k (required t r s refl) (untyped t r s refl));
   }
 
-  module _ {types : ℕ} (k : w.kind ≡ 6) (s : SureMembers t r 1 types) {a : Bool} (p : a ≡ isArray t r) where
-    pub links-array : {g : Bool} → a ≡ true → g ≡ goodArray t r → g ≡ true → SureLinks t r
+  module _ {types : ℕ} (k : w.kind ≡ 6) (s : SureMembers t r 1 types) {a : Bool} (p : a ≡ is_array t r) where
+    pub links-array : {g : Bool} → a ≡ true → g ≡ good_array t r → g ≡ true → SureLinks t r
     unfolding carries pick
     links-array h q z = record {
       pointers = sym (pointers-members t r e (sym (holds k)) refl (owned t r s));
@@ -196,8 +196,8 @@ module _ (t : Table) (r : ℕ) {w : Row} (e : w ≡ row_of t r) where
       rules = sym (rules-sequence t r e (differ t r s) k p h);
     }
 
-  module _ {types : ℕ} (k : w.kind ≡ 8) (s : SureMembers t r 0 types) {u : Bool} (p : u ≡ isUnwrapped t r) where
-    pub links-unwrapped : {g : Bool} → u ≡ true → g ≡ goodUnwrapped t r → g ≡ true → SureLinks t r
+  module _ {types : ℕ} (k : w.kind ≡ 8) (s : SureMembers t r 0 types) {u : Bool} (p : u ≡ is_unwrapped t r) where
+    pub links-unwrapped : {g : Bool} → u ≡ true → g ≡ good_unwrapped t r → g ≡ true → SureLinks t r
     unfolding carries pick
     links-unwrapped h q z = record {
       pointers = sym (pointers-members t r e (sym (holds k)) refl (owned t r s));

@@ -1,15 +1,15 @@
 -- What the quick pass over a type table makes sure of.
 use Rattle.std.specs.Prelude.{ℕ, ◌+◌, ◌-◌, ◌*◌, ◌/◌, ◌%◌, ◌<◌, ◌≤◌, ◌≡◌, List, true, false, length, get_or}
-use Rattle.jer.specs.Table.{Table, MEMBER, field, tag_of, first_of, countOf, nameIn, sameBytes}
-use Rattle.jer.specs.Valid.{goodAlone, goodPointers, goodRules}
+use Rattle.jer.specs.Table.{Table, MEMBER, field, tag_of, first_of, count_of, name_in, same_bytes}
+use Rattle.jer.specs.Valid.{good_alone, good_pointers, good_rules}
 
 -- each row is good by itself
 abbrev pub Alone : Table → Type 0
-Alone t = (r : ℕ) → r < length t.rows / 8 → goodAlone t r ≡ true
+Alone t = (r : ℕ) → r < length t.rows / 8 → good_alone t r ≡ true
 
 -- the rows of the members of the type at r are there
 abbrev pub BlockInside : Table → ℕ → Type 0
-BlockInside t r = first_of t r + countOf t r ≤ length t.rows / 8
+BlockInside t r = first_of t r + count_of t r ≤ length t.rows / 8
 
 -- a number below 256 that equal names share
 unfoldable pub sign_of : List ℕ → ℕ
@@ -24,7 +24,7 @@ NamesInside t first j = (i : ℕ) → i < j → NameInside t (first + i)
 
 -- no row of j from the row first on has the name
 abbrev pub Apart : Table → ℕ → ℕ → List ℕ → Type 0
-Apart t first j name = (i : ℕ) → i < j → sameBytes (nameIn t (first + i)) name ≡ false
+Apart t first j name = (i : ℕ) → i < j → same_bytes (name_in t (first + i)) name ≡ false
 
 -- the row m is a member's, with no mark and no type row above these
 pub record Fits (t : Table) (m marks types : ℕ) : Type 0 where
@@ -35,12 +35,12 @@ pub record Fits (t : Table) (m marks types : ℕ) : Type 0 where
 -- so is the member i of those from the row first on, and its name is its own
 pub record SureMember (t : Table) (first marks types i : ℕ) : Type 0 where
   pub fit : Fits t (first + i) marks types
-  pub own : Apart t first i (nameIn t (first + i))
+  pub own : Apart t first i (name_in t (first + i))
 
 abbrev pub SureMembers : Table → ℕ → ℕ → ℕ → Type 0
-SureMembers t r marks types = (i : ℕ) → i < countOf t r → SureMember t (first_of t r) marks types i
+SureMembers t r marks types = (i : ℕ) → i < count_of t r → SureMember t (first_of t r) marks types i
 
 -- the row r is good by those it points to and by the rules of its type
 pub record SureLinks (t : Table) (r : ℕ) : Type 0 where
-  pub pointers : goodPointers t r ≡ true
-  pub rules : goodRules t r ≡ true
+  pub pointers : good_pointers t r ≡ true
+  pub rules : good_rules t r ≡ true

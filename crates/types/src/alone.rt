@@ -1,7 +1,7 @@
 // The first pass: each row by itself. The row is inside, and ascii says that all names are known to be ASCII.
 ghost use Rattle.std.specs.Prelude.{◌≡◌, List, true, ℕ, ◌-◌, ◌≤◌, ◌<◌, ◌/◌, length};
-ghost use Rattle.jer.specs.Table.{Table, rowCount, table};
-ghost use Rattle.jer.specs.Valid.{unused, goodBlock, goodName, goodAlone};
+ghost use Rattle.jer.specs.Table.{Table, row_count, table};
+ghost use Rattle.jer.specs.Valid.{unused, good_block, good_name, good_alone};
 ghost use Rattle.types.specs.Rows.{row_of};
 ghost use Rattle.types.specs.Bytes.{Ascii};
 
@@ -27,7 +27,7 @@ fn unused(rows: &[u32], r: usize, from: usize) -> bool
 
 // A type's block of members, by its row and the table's count of rows.
 fn block(row: Row, count: usize, least: u32) -> bool
-    ensures { (t : Table) (r : ℕ) → row ≡ row_of t r → count ≡ rowCount t → result ≡ goodBlock t r least }
+    ensures { (t : Table) (r : ℕ) → row ≡ row_of t r → count ≡ row_count t → result ≡ good_block t r least }
 {
     let many = (least <= row.members) & (row.members <= 64);
     let inside = wide(row.first) + wide(row.members) <= count;
@@ -38,7 +38,7 @@ fn block(row: Row, count: usize, least: u32) -> bool
 // The name in the member's row m.
 fn good_name(rows: &[u32], names: &[u8], ascii: bool, m: usize) -> bool
     requires { (m < length rows.now / 8) × (ascii ≡ true → Ascii names.now) }
-    ensures { result ≡ goodName (table rows.now names.now) m }
+    ensures { result ≡ good_name (table rows.now names.now) m }
 {
     let row = row_in(rows, m);
     let start = wide(row.members);
@@ -62,7 +62,7 @@ fn good_name(rows: &[u32], names: &[u8], ascii: bool, m: usize) -> bool
 // Row r by itself.
 pub fn good_alone(rows: &[u32], names: &[u8], ascii: bool, r: usize) -> bool
     requires { (r < length rows.now / 8) × (ascii ≡ true → Ascii names.now) }
-    ensures { result ≡ goodAlone (table rows.now names.now) r }
+    ensures { result ≡ good_alone (table rows.now names.now) r }
 {
     let row = row_in(rows, r);
     let carried = Row::carries(row.kind);

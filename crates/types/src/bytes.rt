@@ -1,11 +1,11 @@
 // Bytes: whether two slices hold the same, and UTF-8.
 ghost use Rattle.std.specs.Prelude.{◌≡◌, true};
-ghost use Rattle.json.specs.Utf8.{utf8, start, dueStep, dueNext, dueEnd};
-ghost use Rattle.jer.specs.Table.{sameBytes};
-ghost use Rattle.types.specs.Bytes.{dueOf, Ascii};
+ghost use Rattle.json_text.specs.Utf8.{utf8, start, due_step, due_next, due_end};
+ghost use Rattle.jer.specs.Table.{same_bytes};
+ghost use Rattle.types.specs.Bytes.{due_of, Ascii};
 
 pub fn same_bytes(a: &[u8], b: &[u8]) -> bool
-    ensures { result ≡ sameBytes a.now b.now }
+    ensures { result ≡ same_bytes a.now b.now }
 {
     if a.len() != b.len() {
         return false;
@@ -33,7 +33,7 @@ pub enum Due {
 
 // After the first byte of a character.
 fn first(b: u8) -> Due
-    ensures { dueOf result ≡ dueStep start b }
+    ensures { due_of result ≡ due_step start b }
 {
     match b {
         0x00..=0x7F => Due::Start,
@@ -51,7 +51,7 @@ fn first(b: u8) -> Due
 
 // With n more bytes of the character to come.
 fn tail(n: u8) -> Due
-    ensures { dueOf result ≡ dueNext n }
+    ensures { due_of result ≡ due_next n }
 {
     if n == 0 {
         return Due::Start;
@@ -61,7 +61,7 @@ fn tail(n: u8) -> Due
 
 impl Due {
     pub fn step(self, b: u8) -> Due
-        ensures { dueOf result ≡ dueStep (dueOf self) b }
+        ensures { due_of result ≡ due_step (due_of self) b }
     {
         match self {
             Due::Start => first(b),
@@ -79,7 +79,7 @@ impl Due {
     }
 
     pub fn ended(self) -> bool
-        ensures { result ≡ dueEnd (dueOf self) }
+        ensures { result ≡ due_end (due_of self) }
     {
         match self {
             Due::Start => true,

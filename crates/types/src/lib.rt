@@ -10,7 +10,7 @@ mod rules; // rules.rt: each row by those it points to, each type by its other r
 mod passes; // passes.rt: sizes, and one pass over the rows
 mod sure; // sure.rt: the second and the third pass at once, if surely good
 
-ghost use Rattle.jer.specs.Contracts.{TableCall};
+ghost use Rattle.jer.specs.CallClauses.{TableCall};
 ghost use Rattle.jer.specs.Table.{table};
 
 use jer::{Judged, Refusal, Which};

@@ -1,6 +1,6 @@
 // Rules that a type's members keep one by one: one loop over the members, and one over those before a member.
 ghost use Rattle.std.specs.Prelude.{◌≡◌};
-ghost use Rattle.jer.specs.Table.{countOf, table};
+ghost use Rattle.jer.specs.Table.{count_of, table};
 ghost use Rattle.jer.specs.Valid.{every};
 ghost use Rattle.types.specs.Check.{alike, keeps};
 
@@ -78,7 +78,7 @@ pub fn keeps(rows: &[u32], names: &[u8], rule: Rule, r: usize, i: u32) -> bool
 
 // Every member of the type at r keeps the rule.
 pub fn all_keep(rows: &[u32], names: &[u8], rule: Rule, r: usize) -> bool
-    ensures { result ≡ every (keeps rule (table rows.now names.now) r) 0 (countOf (table rows.now names.now) r) }
+    ensures { result ≡ every (keeps rule (table rows.now names.now) r) 0 (count_of (table rows.now names.now) r) }
 {
     let count = count_of(rows, r);
     let mut i: u32 = 0;

@@ -1,8 +1,8 @@
 // The sizes of a type table, and one pass over its rows.
 ghost use Rattle.std.specs.Prelude.{◌≡◌};
-ghost use Rattle.jer.specs.Valid.{goodAlone, goodSizes, pass};
+ghost use Rattle.jer.specs.Valid.{good_alone, good_sizes, pass};
 ghost use Rattle.jer.specs.Table.{table};
-ghost use Rattle.types.specs.Check.{goodIn, rowJudged};
+ghost use Rattle.types.specs.Check.{good_in, row_judged};
 
 use crate::alone::good_alone;
 use crate::bytes::all_ascii;
@@ -23,14 +23,14 @@ pub enum Pass {
 }
 
 pub fn good_sizes(rows: &[u32], names: &[u8]) -> bool
-    ensures { result ≡ goodSizes (table rows.now names.now) }
+    ensures { result ≡ good_sizes (table rows.now names.now) }
 {
     let n = rows.len();
     (1 <= n) & (n % 8 == 0) & (n <= NUMBERS) & (names.len() <= NAMES)
 }
 
 pub fn good_in(rows: &[u32], names: &[u8], p: Pass, r: usize) -> bool
-    ensures { result ≡ goodIn p (table rows.now names.now) r }
+    ensures { result ≡ good_in p (table rows.now names.now) r }
 {
     match p {
         Pass::Pointers => good_pointers(rows, names, r),
@@ -40,7 +40,7 @@ pub fn good_in(rows: &[u32], names: &[u8], p: Pass, r: usize) -> bool
 
 // The first pass: each row by itself.
 pub fn passed_alone(rows: &[u32], names: &[u8]) -> Judged
-    ensures { result ≡ rowJudged (pass (table rows.now names.now) (goodAlone (table rows.now names.now))) }
+    ensures { result ≡ row_judged (pass (table rows.now names.now) (good_alone (table rows.now names.now))) }
 {
     let ascii = all_ascii(names);
     let count = row_count(rows);
@@ -56,7 +56,7 @@ pub fn passed_alone(rows: &[u32], names: &[u8]) -> Judged
 
 // One pass upwards: refusal 1 at the first row that fails.
 pub fn passed(rows: &[u32], names: &[u8], p: Pass) -> Judged
-    ensures { result ≡ rowJudged (pass (table rows.now names.now) (goodIn p (table rows.now names.now))) }
+    ensures { result ≡ row_judged (pass (table rows.now names.now) (good_in p (table rows.now names.now))) }
 {
     let count = row_count(rows);
     let mut r = 0;

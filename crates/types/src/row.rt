@@ -1,7 +1,7 @@
 // A row of the type table: its fields by name, its kinds and marks, the tests of its marks, and the rows that it points to.
 ghost use Rattle.std.specs.Prelude.{◌≡◌, List, ℕ, ◌<◌, ◌/◌, length};
-ghost use Rattle.jer.specs.Table.{Table, rowCount, field, carries, typeKind, tag_of, kind_of, is_type, marked, extensible, isBase64, isArray, isUnwrapped, first_of, elementOf, countOf, rootOf, memberRow, optional, typeIn, type_at, nameStart, nameLength, nameIn, code_of, tokenOf, mayMiss, mayBeAbsent, table};
-ghost use Rattle.jer.specs.Valid.{goodMarks};
+ghost use Rattle.jer.specs.Table.{Table, row_count, field, carries, type_kind, tag_of, kind_of, is_type, marked, extensible, is_base64, is_array, is_unwrapped, first_of, element_of, count_of, root_of, member_row, optional, type_in, type_at, name_start, name_length, name_in, code_of, token_of, may_miss, may_be_absent, table};
+ghost use Rattle.jer.specs.Valid.{good_marks};
 ghost use Rattle.types.specs.Rows.{row_of, line_of, carried_of};
 
 use crate::token;
@@ -55,7 +55,7 @@ pub fn wide(n: u32) -> usize
 }
 
 pub fn row_count(rows: &[u32]) -> usize
-    ensures { (ns : List ℕ) → result ≡ rowCount (table rows.now ns) }
+    ensures { (ns : List ℕ) → result ≡ row_count (table rows.now ns) }
 {
     rows.len() / 8
 }
@@ -76,42 +76,42 @@ pub fn first_of(rows: &[u32], r: usize) -> usize
 
 // The row of its elements' type.
 pub fn element_of(rows: &[u32], r: usize) -> usize
-    ensures { (ns : List ℕ) → result ≡ elementOf (table rows.now ns) r }
+    ensures { (ns : List ℕ) → result ≡ element_of (table rows.now ns) r }
 {
     wide(field(rows, r, 2))
 }
 
 // How many members it has.
 pub fn count_of(rows: &[u32], r: usize) -> u32
-    ensures { (ns : List ℕ) → result ≡ countOf (table rows.now ns) r }
+    ensures { (ns : List ℕ) → result ≡ count_of (table rows.now ns) r }
 {
     field(rows, r, 3)
 }
 
 // How many of them are root.
 pub fn root_of(rows: &[u32], r: usize) -> u32
-    ensures { (ns : List ℕ) → result ≡ rootOf (table rows.now ns) r }
+    ensures { (ns : List ℕ) → result ≡ root_of (table rows.now ns) r }
 {
     field(rows, r, 4)
 }
 
 // The type's row in the member's row m.
 pub fn type_in(rows: &[u32], m: usize) -> usize
-    ensures { (ns : List ℕ) → result ≡ typeIn (table rows.now ns) m }
+    ensures { (ns : List ℕ) → result ≡ type_in (table rows.now ns) m }
 {
     wide(field(rows, m, 2))
 }
 
 // Where the name in the member's row m starts.
 pub fn name_start(rows: &[u32], m: usize) -> usize
-    ensures { ((ns : List ℕ) → result ≡ nameStart (table rows.now ns) m) × (result < 4294967296) }
+    ensures { ((ns : List ℕ) → result ≡ name_start (table rows.now ns) m) × (result < 4294967296) }
 {
     wide(field(rows, m, 3))
 }
 
 // Its length.
 pub fn name_length(rows: &[u32], m: usize) -> usize
-    ensures { ((ns : List ℕ) → result ≡ nameLength (table rows.now ns) m) × (result < 4294967296) }
+    ensures { ((ns : List ℕ) → result ≡ name_length (table rows.now ns) m) × (result < 4294967296) }
 {
     wide(field(rows, m, 4))
 }
@@ -197,7 +197,7 @@ impl Row {
 
     // The kind is a type's.
     pub fn type_kind(kind: u32) -> bool
-        ensures { result ≡ typeKind kind }
+        ensures { result ≡ type_kind kind }
     {
         Row::carries(kind).token != token::NONE
     }
@@ -223,7 +223,7 @@ impl Row {
 
     // It carries no mark but those that its kind may.
     pub fn good_marks(self, may: u32) -> bool
-        ensures { (t : Table) (r : ℕ) → self ≡ row_of t r → may ≡ (carries (tag_of t r)).marks → result ≡ goodMarks t r }
+        ensures { (t : Table) (r : ℕ) → self ≡ row_of t r → may ≡ (carries (tag_of t r)).marks → result ≡ good_marks t r }
     {
         (self.marks % 2 <= may % 2) & (self.marks / 2 <= may / 2)
     }
@@ -243,26 +243,26 @@ impl Row {
     }
 
     pub fn is_base64(self) -> bool
-        ensures { (t : Table) (r : ℕ) → self ≡ row_of t r → result ≡ isBase64 t r }
+        ensures { (t : Table) (r : ℕ) → self ≡ row_of t r → result ≡ is_base64 t r }
     {
         (self.kind == Row::OCTET_STRING) & self.marked(Row::BASE64)
     }
 
     pub fn is_array(self) -> bool
-        ensures { (t : Table) (r : ℕ) → self ≡ row_of t r → result ≡ isArray t r }
+        ensures { (t : Table) (r : ℕ) → self ≡ row_of t r → result ≡ is_array t r }
     {
         (self.kind == Row::SEQUENCE) & self.marked(Row::ARRAY)
     }
 
     pub fn is_unwrapped(self) -> bool
-        ensures { (t : Table) (r : ℕ) → self ≡ row_of t r → result ≡ isUnwrapped t r }
+        ensures { (t : Table) (r : ℕ) → self ≡ row_of t r → result ≡ is_unwrapped t r }
     {
         (self.kind == Row::CHOICE) & self.marked(Row::UNWRAPPED)
     }
 
     // The token that a value of the type begins with, if it is not UNWRAPPED.
     pub fn begins(self) -> u32
-        ensures { (t : Table) (r : ℕ) → self ≡ row_of t r → result ≡ code_of (tokenOf t r) }
+        ensures { (t : Table) (r : ℕ) → self ≡ row_of t r → result ≡ code_of (token_of t r) }
     {
         let c = Row::carries(self.kind);
         if self.marked(1) { c.other } else { c.token }
@@ -270,7 +270,7 @@ impl Row {
 
     // Of the row of a member.
     pub fn optional(self) -> bool
-        ensures { (t : Table) (r i : ℕ) → self ≡ row_of t (memberRow t r i) → result ≡ optional t r i }
+        ensures { (t : Table) (r i : ℕ) → self ≡ row_of t (member_row t r i) → result ≡ optional t r i }
     {
         self.marks == Row::OPTIONAL
     }
@@ -293,14 +293,14 @@ pub fn row_in(rows: &[u32], r: usize) -> Row
 
 // The row of the member at the position i of the type at r.
 pub fn member_row(rows: &[u32], r: usize, i: u32) -> usize
-    ensures { (ns : List ℕ) → result ≡ memberRow (table rows.now ns) r i }
+    ensures { (ns : List ℕ) → result ≡ member_row (table rows.now ns) r i }
 {
     first_of(rows, r) + wide(i)
 }
 
 // Its own row.
 pub fn member_at(rows: &[u32], r: usize, i: u32) -> Row
-    ensures { (ns : List ℕ) → result ≡ row_of (table rows.now ns) (memberRow (table rows.now ns) r i) }
+    ensures { (ns : List ℕ) → result ≡ row_of (table rows.now ns) (member_row (table rows.now ns) r i) }
 {
     Row::at(rows, member_row(rows, r, i))
 }
@@ -314,21 +314,21 @@ pub fn type_at(rows: &[u32], r: usize, i: u32) -> usize
 
 // OPTIONAL, or an addition.
 pub fn may_miss(rows: &[u32], r: usize, i: u32) -> bool
-    ensures { (ns : List ℕ) → result ≡ mayMiss (table rows.now ns) r i }
+    ensures { (ns : List ℕ) → result ≡ may_miss (table rows.now ns) r i }
 {
     member_at(rows, r, i).optional() | (root_of(rows, r) <= i)
 }
 
 // The same of the value: it may be absent.
 pub fn may_be_absent(rows: &[u32], r: usize, i: u32) -> bool
-    ensures { (ns : List ℕ) → result ≡ mayBeAbsent (table rows.now ns) r i }
+    ensures { (ns : List ℕ) → result ≡ may_be_absent (table rows.now ns) r i }
 {
     member_at(rows, r, i).optional() | (root_of(rows, r) <= i)
 }
 
 // The name in the member's row m.
 pub fn name_in<'a>(rows: &[u32], names: &'a [u8], m: usize) -> &'a [u8]
-    ensures { result.now ≡ nameIn (table rows.now names.now) m }
+    ensures { result.now ≡ name_in (table rows.now names.now) m }
 {
     part(names, name_start(rows, m), name_length(rows, m))
 }

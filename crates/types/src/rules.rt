@@ -1,6 +1,6 @@
 // The second and the third pass: each row by the kinds of those it points to, each type by its other rules.
 ghost use Rattle.std.specs.Prelude.{◌≡◌};
-ghost use Rattle.jer.specs.Valid.{goodPointers, namesDiffer, noneOptional, goodArray, goodUnwrapped, goodRules};
+ghost use Rattle.jer.specs.Valid.{good_pointers, names_differ, none_optional, good_array, good_unwrapped, good_rules};
 ghost use Rattle.jer.specs.Table.{table};
 
 use crate::members::{By, Rule, all_keep};
@@ -8,7 +8,7 @@ use crate::row::{Row, wide};
 use jer::Layout;
 
 pub fn good_pointers(rows: &[u32], names: &[u8], r: usize) -> bool
-    ensures { result ≡ goodPointers (table rows.now names.now) r }
+    ensures { result ≡ good_pointers (table rows.now names.now) r }
 {
     let row = Row::at(rows, r);
     let carried = Row::carries(row.kind);
@@ -23,31 +23,31 @@ pub fn good_pointers(rows: &[u32], names: &[u8], r: usize) -> bool
 }
 
 pub fn names_differ(rows: &[u32], names: &[u8], r: usize) -> bool
-    ensures { result ≡ namesDiffer (table rows.now names.now) r }
+    ensures { result ≡ names_differ (table rows.now names.now) r }
 {
     all_keep(rows, names, Rule::Differs(By::Name), r)
 }
 
 pub fn none_optional(rows: &[u32], names: &[u8], r: usize) -> bool
-    ensures { result ≡ noneOptional (table rows.now names.now) r }
+    ensures { result ≡ none_optional (table rows.now names.now) r }
 {
     all_keep(rows, names, Rule::Required, r)
 }
 
 pub fn good_array(rows: &[u32], names: &[u8], r: usize) -> bool
-    ensures { result ≡ goodArray (table rows.now names.now) r }
+    ensures { result ≡ good_array (table rows.now names.now) r }
 {
     all_keep(rows, names, Rule::NullFree, r)
 }
 
 pub fn good_unwrapped(rows: &[u32], names: &[u8], r: usize) -> bool
-    ensures { result ≡ goodUnwrapped (table rows.now names.now) r }
+    ensures { result ≡ good_unwrapped (table rows.now names.now) r }
 {
     all_keep(rows, names, Rule::Wrapped, r) & all_keep(rows, names, Rule::Differs(By::Token), r)
 }
 
 pub fn good_rules(rows: &[u32], names: &[u8], r: usize) -> bool
-    ensures { result ≡ goodRules (table rows.now names.now) r }
+    ensures { result ≡ good_rules (table rows.now names.now) r }
 {
     let row = Row::at(rows, r);
     let kind = row.kind;

@@ -1,6 +1,6 @@
 // The second and the third pass at once, quick, over rows that are read without a test for each field: yes only if surely neither finds a bad row.
 ghost use Rattle.std.specs.Prelude.{◌≡◌, List, true, ℕ, ◌+◌, ◌≤◌, ◌<◌, ◌/◌, length, get_or};
-ghost use Rattle.jer.specs.Table.{is_type, nameIn, table};
+ghost use Rattle.jer.specs.Table.{is_type, name_in, table};
 ghost use Rattle.types.specs.Sure.{Alone, BlockInside, sign_of, NameInside, NamesInside, Apart, Fits, SureMembers, SureLinks};
 
 use crate::bytes::same_bytes;
@@ -31,7 +31,7 @@ fn fits(rows: &[u32], m: usize, marks: u32, types: u32) -> bool
 // Its name.
 fn name_inside<'a>(rows: &[u32], names: &'a [u8], m: usize) -> &'a [u8]
     requires { (m < length rows.now / 8) × NameInside (table rows.now names.now) m }
-    ensures { result.now ≡ nameIn (table rows.now names.now) m }
+    ensures { result.now ≡ name_in (table rows.now names.now) m }
 {
     let row = row_in(rows, m);
     let start = wide(row.members);

@@ -1,7 +1,7 @@
 // The JSON token that a value of a type begins with, and the types that take null for themselves.
 ghost use Rattle.std.specs.Prelude.{◌≡◌, List, ℕ};
-ghost use Rattle.jer.specs.Table.{Token, tokenCode, code_of, tokenOf, alternative, canBeNull, openUnwrapped, nullTaken, table};
-ghost use Rattle.types.specs.Rows.{foundOf};
+ghost use Rattle.jer.specs.Table.{Token, token_code, code_of, token_of, alternative, can_be_null, open_unwrapped, null_taken, table};
+ghost use Rattle.types.specs.Rows.{found_of};
 
 use crate::row::{Row, count_of, type_at};
 
@@ -30,14 +30,14 @@ pub enum Found {
 
 // The token of the type at r, if it is not UNWRAPPED.
 pub fn token_of(rows: &[u32], r: usize) -> u32
-    ensures { (ns : List ℕ) → result ≡ code_of (tokenOf (table rows.now ns) r) }
+    ensures { (ns : List ℕ) → result ≡ code_of (token_of (table rows.now ns) r) }
 {
     Row::at(rows, r).begins()
 }
 
 // The alternative of the UNWRAPPED choice at r that a token picks.
 pub fn alternative(rows: &[u32], r: usize, token: u32) -> Found
-    ensures { (ns : List ℕ) (k : Token) → token ≡ tokenCode k → result ≡ foundOf (alternative (table rows.now ns) r k) }
+    ensures { (ns : List ℕ) (k : Token) → token ≡ token_code k → result ≡ found_of (alternative (table rows.now ns) r k) }
 {
     let count = count_of(rows, r);
     let mut i: u32 = 0;
@@ -51,7 +51,7 @@ pub fn alternative(rows: &[u32], r: usize, token: u32) -> Found
 }
 
 pub fn can_be_null(rows: &[u32], r: usize) -> bool
-    ensures { (ns : List ℕ) → result ≡ canBeNull (table rows.now ns) r }
+    ensures { (ns : List ℕ) → result ≡ can_be_null (table rows.now ns) r }
 {
     let row = Row::at(rows, r);
     if row.kind == Row::NULL {
@@ -67,7 +67,7 @@ pub fn can_be_null(rows: &[u32], r: usize) -> bool
 }
 
 pub fn open_unwrapped(rows: &[u32], r: usize) -> bool
-    ensures { (ns : List ℕ) → result ≡ openUnwrapped (table rows.now ns) r }
+    ensures { (ns : List ℕ) → result ≡ open_unwrapped (table rows.now ns) r }
 {
     let row = Row::at(rows, r);
     row.is_unwrapped() & row.extensible()
@@ -75,7 +75,7 @@ pub fn open_unwrapped(rows: &[u32], r: usize) -> bool
 
 // Null cannot stand for an absent member of the type at r.
 pub fn null_taken(rows: &[u32], r: usize) -> bool
-    ensures { (ns : List ℕ) → result ≡ nullTaken (table rows.now ns) r }
+    ensures { (ns : List ℕ) → result ≡ null_taken (table rows.now ns) r }
 {
     can_be_null(rows, r) | open_unwrapped(rows, r)
 }

@@ -17,59 +17,59 @@ use Rattle.jer.specs.declared.Judged.TheVariants as judged
 use Rattle.jer.specs.declared.Writing.{Writing}
 use Rattle.jer.specs.declared.Writing.TheVariants as writing
 use Rattle.jer.specs.Table.{Table}
-use Rattle.jer.specs.Valid.{goodAlone, goodPointers, goodRules, goodSizes, or_else, pass, firstBad}
+use Rattle.jer.specs.Valid.{good_alone, good_pointers, good_rules, good_sizes, or_else, pass, first_bad}
 use Rattle.jer.proofs.ValidRows.{both}
 use Rattle.jer.specs.Value.{Val}
 use Rattle.jer.specs.Answer.{Res, ok, no, bind}
 use Rattle.jer.specs.Rows.{ValueRow}
-use Rattle.jer.specs.Judge.{took, rowsIn, allTaken, judge}
+use Rattle.jer.specs.Judge.{took, rows_in, all_taken, judge}
 use Rattle.jer.specs.Write.{write}
-use Rattle.jer.specs.Calls.{table_of, goodTable, judgedBy, tableJudged, over, writeText, amount, writeAnswer, textAfter}
-use Rattle.jer.proofs.ValidSane.{valid-sane}
+use Rattle.jer.specs.Calls.{table_of, good_table, judged_by, table_judged, over, write_text, amount, write_answer, text_after}
+use Rattle.jer.proofs.ValidSane.{valid_sane}
 use Rattle.octets.proofs.AmountLaws.{amount-within}
 use Rattle.written.specs.declared.taken.Taken.{Taken}
-use Rattle.written.specs.Text.{Puts, valueText, Stored, Writes}
+use Rattle.written.specs.Text.{Puts, value_text, Stored, Writes}
 use Rattle.written.proofs.PutLaws.{fits}
 use Rattle.written.proofs.TextLaws.{Value, NoValue, text-of}
-use Rattle.writing.specs.Call.{GoodTable, valueWritten, Answers}
+use Rattle.writing.specs.Call.{GoodTable, value_written, Answers}
 
 -- ---- 1
 
 pub record Good (t : Table) (ns pool : List ℕ) : Type 0 where
   pub table : GoodTable t.rows t.names
-  pub text : valueWritten t ns pool ≡ writeText t ns pool
+  pub text : value_written t ns pool ≡ write_text t ns pool
 
-rows_whole : (t : Table) → firstBad t ≡ none → length t.rows % 8 ≡ 0
-unfolding firstBad goodSizes
-rows_whole t e = go (goodSizes t) refl e
+rows_whole : (t : Table) → first_bad t ≡ none → length t.rows % 8 ≡ 0
+unfolding first_bad good_sizes
+rows_whole t e = go (good_sizes t) refl e
   where
-    go : (c : Bool) → goodSizes t ≡ c → ◌≡◌ {A = Option ℕ} (elim c [ false ↦ some 0 | true ↦ or_else (pass t (goodAlone t)) (or_else (pass t (goodPointers t)) (pass t (goodRules t))) ]) none → length t.rows % 8 ≡ 0
+    go : (c : Bool) → good_sizes t ≡ c → ◌≡◌ {A = Option ℕ} (elim c [ false ↦ some 0 | true ↦ or_else (pass t (good_alone t)) (or_else (pass t (good_pointers t)) (pass t (good_rules t))) ]) none → length t.rows % 8 ≡ 0
     go true s w = let p = simp both at s in eqb-true (length t.rows % 8) 0 p.1.0
     go false s w = absurd (let z : ◌≡◌ {A = ℕ} 0 1 = cc in omega arith)
 
-pub table-good : {t : Table} {ns pool : List ℕ} → judged.Good ≡ tableJudged t → Good t ns pool
-unfolding tableJudged judgedBy goodTable table_of writeText valueWritten bind
-table-good {t} {ns} {pool} h = go (firstBad t) refl h
+pub table-good : {t : Table} {ns pool : List ℕ} → judged.Good ≡ table_judged t → Good t ns pool
+unfolding table_judged judged_by good_table table_of write_text value_written bind
+table-good {t} {ns} {pool} h = go (first_bad t) refl h
   where
-    go : (x : Option ℕ) → firstBad t ≡ x → judged.Good ≡ judgedBy (table_of t x) → Good t ns pool
-    go none e f = record { table = record { wrapped = (valid-sane t e).plain; whole = rows_whole t e }; text = rw e }
+    go : (x : Option ℕ) → first_bad t ≡ x → judged.Good ≡ judged_by (table_of t x) → Good t ns pool
+    go none e f = record { table = record { wrapped = (valid_sane t e).plain; whole = rows_whole t e }; text = rw e }
     go (some r) e f = absurd (let z : ◌≡◌ {A = ℕ} 0 1 = cc in omega arith)
 
-pub table-bad : (t : Table) (ns pool : List ℕ) {e : Refusal} → judged.Refused e ≡ tableJudged t → no e ≡ writeText t ns pool
-unfolding tableJudged judgedBy writeText valueWritten bind
-table-bad t ns pool {e} h = go (goodTable t) h
+pub table-bad : (t : Table) (ns pool : List ℕ) {e : Refusal} → judged.Refused e ≡ table_judged t → no e ≡ write_text t ns pool
+unfolding table_judged judged_by write_text value_written bind
+table-bad t ns pool {e} h = go (good_table t) h
   where
-    go : (x : Res Table) → judged.Refused e ≡ judgedBy x → no e ≡ bind x (λ u. valueWritten t ns pool)
+    go : (x : Res Table) → judged.Refused e ≡ judged_by x → no e ≡ bind x (λ u. value_written t ns pool)
     go (no f) g = cc
     go (ok u) g = absurd (let z : ◌≡◌ {A = ℕ} 0 1 = cc in omega arith)
 
 -- ---- answers
 
-pub answers-as : {x y : Res (List ℕ)} {l m : List ℕ} {a : Writing} → x ≡ y → Answers x l m a → Answers y l m a
-answers-as h f = rw h at f
+pub answers_as : {x y : Res (List ℕ)} {l m : List ℕ} {a : Writing} → x ≡ y → Answers x l m a → Answers y l m a
+answers_as h f = rw h at f
 
 pub refuses : {x : Res (List ℕ)} {e : Refusal} (l : List ℕ) → no e ≡ x → Answers x l l (writing.Refused e)
-unfolding writeAnswer textAfter
+unfolding write_answer text_after
 refuses l h = rw (← h) record { answer = refl; text = refl }
 
 module _ (l s : List ℕ) {e : ℕ} (h : e ≡ amount (length s)) where
@@ -78,10 +78,10 @@ module _ (l s : List ℕ) {e : ℕ} (h : e ≡ amount (length s)) where
 
   -- 13
   pub too_long : 65536 < e → Answers (ok s) l l (writing.Refused (Amounts HouseSize e 0))
-  unfolding writeAnswer textAfter
+  unfolding write_answer text_after
   too_long b =
       let n : 65536 < length s = long in
-      record { answer = rw (lt-leb (length s) 65536 n, writeAnswer) (ap (λ (x : ℕ). writing.Refused (Amounts HouseSize x 0)) h); text = rw (lt-leb (length s) 65536 n, textAfter) }
+      record { answer = rw (lt-leb (length s) 65536 n, write_answer) (ap (λ (x : ℕ). writing.Refused (Amounts HouseSize x 0)) h); text = rw (lt-leb (length s) 65536 n, text_after) }
     where
       long : 65536 < length s
       long = go (leb (length s) 65536) refl
@@ -93,20 +93,20 @@ module _ (l s : List ℕ) {e : ℕ} (h : e ≡ amount (length s)) where
   module _ (b : e ≤ 65536) where
     -- 14
     pub too_small : length l < e → Answers (ok s) l l (writing.Refused (Amounts LentRoom e 0))
-    unfolding writeAnswer textAfter
+    unfolding write_answer text_after
     too_small c =
         let f = end_is b in
         let n : length l < length s = omega arith in
         let m : length s ≤ 65536 = omega arith in
-        record { answer = rw (le-leb (length s) 65536 m, writeAnswer) (rw (lt-leb (length s) (length l) n) (ap (λ (x : ℕ). writing.Refused (Amounts LentRoom x 0)) f)); text = rw (le-leb (length s) 65536 m, lt-leb (length s) (length l) n, textAfter) }
+        record { answer = rw (le-leb (length s) 65536 m, write_answer) (rw (lt-leb (length s) (length l) n) (ap (λ (x : ℕ). writing.Refused (Amounts LentRoom x 0)) f)); text = rw (le-leb (length s) 65536 m, lt-leb (length s) (length l) n, text_after) }
 
     pub written : {m : List ℕ} → e ≤ length l → m ≡ sets l 0 s → Answers (ok s) l m (writing.Written e)
-    unfolding writeAnswer textAfter over
+    unfolding write_answer text_after over
     written c g =
         let f = end_is b in
         let n : length s ≤ length l = omega arith in
         let m : length s ≤ 65536 = omega arith in
-        record { answer = rw (le-leb (length s) 65536 m, writeAnswer) (rw (le-leb (length s) (length l) n) (ap writing.Written f)); text = rw (le-leb (length s) 65536 m, le-leb (length s) (length l) n, textAfter) (g ∙ sets-eq s l 0 (omega arith) ∙ ap (λ (i : ℕ). s ++ drop i l) (let z : 0 + length s ≡ length s = omega arith in z)) }
+        record { answer = rw (le-leb (length s) 65536 m, write_answer) (rw (le-leb (length s) (length l) n) (ap writing.Written f)); text = rw (le-leb (length s) 65536 m, le-leb (length s) (length l) n, text_after) (g ∙ sets-eq s l 0 (omega arith) ∙ ap (λ (i : ℕ). s ++ drop i l) (let z : 0 + length s ≡ length s = omega arith in z)) }
 
 -- ---- 12
 
@@ -127,26 +127,26 @@ all-rows n q = go (eqb n (q * 4)) refl
         rest false f = rw f
 
 module _ (t : Table) (ns pool : List ℕ) where
-  taken_is : (v : Val) (ws : List ValueRow) (q o : ℕ) (c : Bool) → (eqb (length ns) (q * 4) && eqb (length pool) o) ≡ c → allTaken (length ns) (length pool) (took v ws q o) ≡ elim c [ true ↦ ok v | false ↦ no (AtRow ValueTable q) ]
-  unfolding allTaken
-  taken_is v ws q o c h = rw (h, allTaken)
+  taken_is : (v : Val) (ws : List ValueRow) (q o : ℕ) (c : Bool) → (eqb (length ns) (q * 4) && eqb (length pool) o) ≡ c → all_taken (length ns) (length pool) (took v ws q o) ≡ elim c [ true ↦ ok v | false ↦ no (AtRow ValueTable q) ]
+  unfolding all_taken
+  taken_is v ws q o c h = rw (h, all_taken)
 
-  pub value-bad : {q : ℕ} → NoValue 32 t pool (rowsIn ns) 0 0 0 q → no (AtRow ValueTable q) ≡ valueWritten t ns pool
-  unfolding valueWritten judge allTaken bind
+  pub value-bad : {q : ℕ} → NoValue 32 t pool (rows_in ns) 0 0 0 q → no (AtRow ValueTable q) ≡ value_written t ns pool
+  unfolding value_written judge all_taken bind
   value-bad v = sym (rw v.is)
 
-  module _ {k q o e : ℕ} {l m : List ℕ} (v : Value 32 t pool (rowsIn ns) 0 0 0 k l m q o e) where
-    taken-text : (c : Bool) → ((eqb (length ns % 4) 0 && eqb (length ns / 4) q) && eqb (length pool) o) ≡ c → bind (elim c [ true ↦ ok v.what | false ↦ no (AtRow ValueTable q) ]) (λ u. ok (write u t 0)) ≡ valueWritten t ns pool
-    unfolding valueWritten judge
+  module _ {k q o e : ℕ} {l m : List ℕ} (v : Value 32 t pool (rows_in ns) 0 0 0 k l m q o e) where
+    taken-text : (c : Bool) → ((eqb (length ns % 4) 0 && eqb (length ns / 4) q) && eqb (length pool) o) ≡ c → bind (elim c [ true ↦ ok v.what | false ↦ no (AtRow ValueTable q) ]) (λ u. ok (write u t 0)) ≡ value_written t ns pool
+    unfolding value_written judge
     taken-text c h =
         let g : (eqb (length ns) (q * 4) && eqb (length pool) o) ≡ c = ap (λ (x : Bool). x && eqb (length pool) o) (sym (all-rows (length ns) q)) ∙ h in
-        sym (rw v.is (ap (λ (x : Res Val). bind x (λ u. ok (write u t 0))) (taken_is v.what (drop q (rowsIn ns)) q o c g)))
+        sym (rw v.is (ap (λ (x : Res Val). bind x (λ u. ok (write u t 0))) (taken_is v.what (drop q (rows_in ns)) q o c g)))
 
-    pub left_over : ((eqb (length ns % 4) 0 && eqb (length ns / 4) q) && eqb (length pool) o) ≡ false → no (AtRow ValueTable q) ≡ valueWritten t ns pool
+    pub left_over : ((eqb (length ns % 4) 0 && eqb (length ns / 4) q) && eqb (length pool) o) ≡ false → no (AtRow ValueTable q) ≡ value_written t ns pool
     unfolding bind
     left_over h = taken-text false h
 
-    pub all-taken : ((eqb (length ns % 4) 0 && eqb (length ns / 4) q) && eqb (length pool) o) ≡ true → ok (write v.what t 0) ≡ valueWritten t ns pool
+    pub all-taken : ((eqb (length ns % 4) 0 && eqb (length ns / 4) q) && eqb (length pool) o) ≡ true → ok (write v.what t 0) ≡ value_written t ns pool
     unfolding bind
     all-taken h = taken-text true h
 
@@ -177,9 +177,9 @@ front-few e m f = rw f (few e m)
     few (suc e) (x ∷ l) = let h = few e l in omega arith
 
 -- the same value once more
-pub stored-again : (t : Table) (ns pool : List ℕ) {k q o e : ℕ} {l m l₁ m₁ : List ℕ} {a : Taken} (v : Value 32 t pool (rowsIn ns) 0 0 0 k l m q o e) → Writes (valueText 32 t pool (drop 0 (rowsIn ns)) 0 0 0) 0 l₁ m₁ a → e ≡ amount (length (write v.what t 0)) → e ≤ 65536 → m₁ ≡ sets l₁ 0 (write v.what t 0)
+pub stored-again : (t : Table) (ns pool : List ℕ) {k q o e : ℕ} {l m l₁ m₁ : List ℕ} {a : Taken} (v : Value 32 t pool (rows_in ns) 0 0 0 k l m q o e) → Writes (value_text 32 t pool (drop 0 (rows_in ns)) 0 0 0) 0 l₁ m₁ a → e ≡ amount (length (write v.what t 0)) → e ≤ 65536 → m₁ ≡ sets l₁ 0 (write v.what t 0)
 stored-again t ns pool {q = q} {o = o} {l₁ = l₁} {m₁ = m₁} v w h b =
-    let x : valueText 32 t pool (drop 0 (rowsIn ns)) 0 0 0 ≡ took (write v.what t 0) (drop q (rowsIn ns)) q o = text-of v in
-    let g : Stored (took (write v.what t 0) (drop q (rowsIn ns)) q o) 0 l₁ m₁ = rw x at w.stored in
+    let x : value_text 32 t pool (drop 0 (rows_in ns)) 0 0 0 ≡ took (write v.what t 0) (drop q (rows_in ns)) q o = text-of v in
+    let g : Stored (took (write v.what t 0) (drop q (rows_in ns)) q o) 0 l₁ m₁ = rw x at w.stored in
     let z = fits (write v.what t 0) 0 (h ∙ ap amount (let y : length (write v.what t 0) ≡ 0 + length (write v.what t 0) = omega arith in y)) b in
     g z

@@ -1,5 +1,5 @@
 // The call that writes: type table and value table judged, the text measured, and stored in the text that is lent.
-ghost use Rattle.jer.specs.Contracts.{WriteCall};
+ghost use Rattle.jer.specs.CallClauses.{WriteCall};
 ghost use Rattle.jer.specs.Table.{table};
 ghost use Rattle.writing.specs.Call.{GoodTable, WritesText};
 
@@ -87,7 +87,7 @@ fn through(
         0,
         0,
         0,
-        json::BRACKETS,
+        json_text::BRACKETS,
     ) {
         Taken::Wrong(slot) => Writing::Refused(Refusal::AtRow(Which::ValueTable, slot)),
         Taken::Took { next, used, end } => {
@@ -95,7 +95,7 @@ fn through(
             if !(rows & (pool.len() == used)) {
                 return Writing::Refused(Refusal::AtRow(Which::ValueTable, next));
             }
-            if json::TEXT < end {
+            if json_text::TEXT < end {
                 return Writing::Refused(Refusal::Amounts(Limit::HouseSize, end as u64, 0));
             }
             if text.len() < end {
@@ -116,7 +116,7 @@ fn through(
                 0,
                 0,
                 0,
-                json::BRACKETS,
+                json_text::BRACKETS,
             );
             Writing::Written(end)
         }

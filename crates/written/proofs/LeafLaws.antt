@@ -9,14 +9,14 @@ use native.Mathlib.Numerals.{add-one}
 use lib.Dec.{eqb, ltb, leb}
 use lib.ListN.{length, take, drop}
 use borrow.Author.Tests.{eqb-true, eqb-false, eq-eqb, ne_eqb}
-use Rattle.json.specs.Bytes.{pick}
-use Rattle.json.specs.Utf8.{utf8}
-use Rattle.jer.specs.Table.{Table, UTF8String, tag_of, kind_of, isBase64, countOf, memberRow, nameIn, name_at}
-use Rattle.jer.proofs.Forms.{kind-tag}
-use Rattle.jer.specs.Value.{Val, vBool, vInt, vEnum, vNull, vBytes}
+use Rattle.json_text.specs.Bytes.{pick}
+use Rattle.json_text.specs.Utf8.{utf8}
+use Rattle.jer.specs.Table.{Table, UTF8String, tag_of, kind_of, is_base64, count_of, member_row, name_in, name_at}
+use Rattle.jer.proofs.Forms.{kind_tag}
+use Rattle.jer.specs.Value.{Val, v_bool, v_int, v_enum, v_null, v_bytes}
 use Rattle.jer.specs.Rows.{ValueRow, row}
-use Rattle.jer.specs.Judge.{Taker, rightRow, leaf, stringRow, take_row}
-use Rattle.jer.specs.Write.{nullText, boolText, intText, quotes, stringText, bytesText, write}
+use Rattle.jer.specs.Judge.{Taker, right_row, leaf, string_row, take_row}
+use Rattle.jer.specs.Write.{null_text, bool_text, int_text, quotes, string_text, bytes_text, write}
 use Rattle.jer.specs.Calls.{amount}
 use Rattle.jer.proofs.ValidRows.{both}
 use Rattle.octets.proofs.AmountLaws.{amount-within}
@@ -24,38 +24,38 @@ use Rattle.written.specs.declared.taken.Taken.{Taken}
 use Rattle.written.specs.declared.put.Form.{Form}
 use Rattle.written.specs.declared.put.Form.TheVariants.{Escaped, Hexadecimal, Base64}
 use Rattle.written.specs.Text.{Puts, spelled, form_of, text_of, Writes, ended_as}
-use Rattle.written.proofs.PutLaws.{puts-as}
+use Rattle.written.proofs.PutLaws.{puts_as}
 use Rattle.written.proofs.TextLaws.{closed, ends, text-ended}
 
 -- ---- how a string is spelled
 
 module _ (t : Table) (r : ℕ) where
-  pub form-text : {k : ℕ} → k ≡ kind_of t r → k ≡ 5 → Escaped ≡ form_of t r
+  pub form_text : {k : ℕ} → k ≡ kind_of t r → k ≡ 5 → Escaped ≡ form_of t r
   unfolding form_of
-  form-text e h = sym (rw (eq-eqb (kind_of t r) UTF8String (sym e ∙ h), form_of))
+  form_text e h = sym (rw (eq-eqb (kind_of t r) UTF8String (sym e ∙ h), form_of))
 
-  module _ {k : ℕ} (e : k ≡ kind_of t r) (h : k ≡ 5 → ⊥) {b : Bool} (g : b ≡ isBase64 t r) where
-    pub form-base64 : b ≡ true → Base64 ≡ form_of t r
+  module _ {k : ℕ} (e : k ≡ kind_of t r) (h : k ≡ 5 → ⊥) {b : Bool} (g : b ≡ is_base64 t r) where
+    pub form_base64 : b ≡ true → Base64 ≡ form_of t r
     unfolding form_of
-    form-base64 f = sym (rw (ne_eqb (kind_of t r) UTF8String (λ x. h (e ∙ x)), form_of) (rw (sym g ∙ f)))
+    form_base64 f = sym (rw (ne_eqb (kind_of t r) UTF8String (λ x. h (e ∙ x)), form_of) (rw (sym g ∙ f)))
 
-    pub form-hex : b ≡ false → Hexadecimal ≡ form_of t r
+    pub form_hex : b ≡ false → Hexadecimal ≡ form_of t r
     unfolding form_of
-    form-hex f = sym (rw (ne_eqb (kind_of t r) UTF8String (λ x. h (e ∙ x)), form_of) (rw (sym g ∙ f)))
+    form_hex f = sym (rw (ne_eqb (kind_of t r) UTF8String (λ x. h (e ∙ x)), form_of) (rw (sym g ∙ f)))
 
-  bytes-text : (s : List ℕ) → quotes (spelled (form_of t r) s) ≡ write (vBytes s) t r
-  unfolding write bytesText stringText form_of spelled
-  bytes-text s = go (eqb (kind_of t r) UTF8String) (isBase64 t r) refl refl
+  bytes-text : (s : List ℕ) → quotes (spelled (form_of t r) s) ≡ write (v_bytes s) t r
+  unfolding write bytes_text string_text form_of spelled
+  bytes-text s = go (eqb (kind_of t r) UTF8String) (is_base64 t r) refl refl
     where
-      go : (c d : Bool) → eqb (kind_of t r) UTF8String ≡ c → isBase64 t r ≡ d → quotes (spelled (form_of t r) s) ≡ bytesText t r s
-      go true d e f = rw (e, form_of, bytesText)
-      go false true e f = rw (e, f, form_of, bytesText)
-      go false false e f = rw (e, f, form_of, bytesText)
+      go : (c d : Bool) → eqb (kind_of t r) UTF8String ≡ c → is_base64 t r ≡ d → quotes (spelled (form_of t r) s) ≡ bytes_text t r s
+      go true d e f = rw (e, form_of, bytes_text)
+      go false true e f = rw (e, f, form_of, bytes_text)
+      go false false e f = rw (e, f, form_of, bytes_text)
 
 -- ---- a row that has no parts
 
-right-text : (f : Val → List ℕ) (c : Bool) (v : Val) (ws : List ValueRow) (q o : ℕ) → closed c (f v) q ws (suc q) o ≡ text_of f (rightRow c v ws q o)
-unfolding rightRow
+right-text : (f : Val → List ℕ) (c : Bool) (v : Val) (ws : List ValueRow) (q o : ℕ) → closed c (f v) q ws (suc q) o ≡ text_of f (right_row c v ws q o)
+unfolding right_row
 right-text f true v ws q o = sym (text-ended f true v ws q (suc q) o)
 right-text f false v ws q o = sym (text-ended f false v ws q (suc q) o)
 
@@ -68,63 +68,63 @@ and_assoc false b c = refl
 
 module _ (i : Option Taker) (t : Table) (pool : List ℕ) (r a b n : ℕ) (ws : List ValueRow) (q o : ℕ) {k : ℕ} (m : k ≡ kind_of t r) where
   tagged : eqb k (tag_of t r) ≡ true
-  tagged = eq-eqb k (tag_of t r) (m ∙ kind-tag t r)
+  tagged = eq-eqb k (tag_of t r) (m ∙ kind_tag t r)
 
-  row-bool : k ≡ 0 → take_row i t pool r (row k a b n) ws q o ≡ rightRow (ltb a 2 && (eqb b 0 && eqb n 1)) (vBool (eqb a 1)) ws q o
+  row_bool : k ≡ 0 → take_row i t pool r (row k a b n) ws q o ≡ right_row (ltb a 2 && (eqb b 0 && eqb n 1)) (v_bool (eqb a 1)) ws q o
   unfolding take_row pick leaf
-  row-bool h = rw (tagged, take_row) (rw (sym m ∙ h))
+  row_bool h = rw (tagged, take_row) (rw (sym m ∙ h))
 
-  row-int : k ≡ 1 → take_row i t pool r (row k a b n) ws q o ≡ rightRow (eqb n 1) (vInt (b * 2 ^ 32 + a)) ws q o
+  row-int : k ≡ 1 → take_row i t pool r (row k a b n) ws q o ≡ right_row (eqb n 1) (v_int (b * 2 ^ 32 + a)) ws q o
   unfolding take_row pick
   row-int h = rw (tagged, take_row) (rw (sym m ∙ h))
 
-  row-enum : k ≡ 2 → take_row i t pool r (row k a b n) ws q o ≡ rightRow (ltb a (countOf t r) && (eqb b 0 && eqb n 1)) (vEnum a) ws q o
+  row_enum : k ≡ 2 → take_row i t pool r (row k a b n) ws q o ≡ right_row (ltb a (count_of t r) && (eqb b 0 && eqb n 1)) (v_enum a) ws q o
   unfolding take_row pick leaf
-  row-enum h = rw (tagged, take_row) (rw (sym m ∙ h))
+  row_enum h = rw (tagged, take_row) (rw (sym m ∙ h))
 
-  row-null : k ≡ 3 → take_row i t pool r (row k a b n) ws q o ≡ rightRow (eqb a 0 && (eqb b 0 && eqb n 1)) vNull ws q o
+  row-null : k ≡ 3 → take_row i t pool r (row k a b n) ws q o ≡ right_row (eqb a 0 && (eqb b 0 && eqb n 1)) v_null ws q o
   unfolding take_row pick leaf
   row-null h = rw (tagged, take_row) (rw (sym m ∙ h))
 
-  row-string : 4 ≤ k → k ≤ 5 → take_row i t pool r (row k a b n) ws q o ≡ stringRow (not (eqb k 4)) pool (row k a b n) ws q o
+  row-string : 4 ≤ k → k ≤ 5 → take_row i t pool r (row k a b n) ws q o ≡ string_row (not (eqb k 4)) pool (row k a b n) ws q o
   unfolding take_row pick
   row-string x y = go (eqb k 4) refl
     where
-      go : (c : Bool) → eqb k 4 ≡ c → take_row i t pool r (row k a b n) ws q o ≡ stringRow (not (eqb k 4)) pool (row k a b n) ws q o
+      go : (c : Bool) → eqb k 4 ≡ c → take_row i t pool r (row k a b n) ws q o ≡ string_row (not (eqb k 4)) pool (row k a b n) ws q o
       go true e = rw (tagged, e, take_row) (rw (sym m ∙ eqb-true k 4 e))
       go false e = let g = eqb-false k 4 e in let h : k ≡ 5 = omega arith in rw (tagged, e, take_row) (rw (sym m ∙ h))
 
 module _ (i : Option Taker) (t : Table) (pool : List ℕ) (r : ℕ) (w : ValueRow) (ws : List ValueRow) (q o : ℕ) {k e : ℕ} {l m : List ℕ} {x : Taken} where
-  row_ends : (c : Bool) {d : Bool} (v : Val) → take_row i t pool r w ws q o ≡ rightRow c v ws q o → c ≡ d → Puts (write v t r) k l m e → x ≡ ended_as d q (q + 1) o e → Writes (text_of (λ v. write v t r) (take_row i t pool r w ws q o)) k l m x
+  row_ends : (c : Bool) {d : Bool} (v : Val) → take_row i t pool r w ws q o ≡ right_row c v ws q o → c ≡ d → Puts (write v t r) k l m e → x ≡ ended_as d q (q + 1) o e → Writes (text_of (λ v. write v t r) (take_row i t pool r w ws q o)) k l m x
   row_ends c v h f p g = rw (g, h, ← f, add-one q) (ends c ws q (suc q) o (right-text (λ v. write v t r) c v ws q o) p)
 
 module _ (i : Option Taker) (t : Table) (pool : List ℕ) (r a b n : ℕ) (ws : List ValueRow) (q o : ℕ) {kind : ℕ} (y : kind ≡ kind_of t r) {k e : ℕ} {l m : List ℕ} {x : Taken} where
-  pub bool-ends : kind ≡ 0 → Puts (boolText (eqb a 1)) k l m e → x ≡ ended_as ((ltb a 2 && eqb b 0) && eqb n (q + 1 - q)) q (q + 1) o e → Writes (text_of (λ v. write v t r) (take_row i t pool r (row kind a b n) ws q o)) k l m x
+  pub bool_ends : kind ≡ 0 → Puts (bool_text (eqb a 1)) k l m e → x ≡ ended_as ((ltb a 2 && eqb b 0) && eqb n (q + 1 - q)) q (q + 1) o e → Writes (text_of (λ v. write v t r) (take_row i t pool r (row kind a b n) ws q o)) k l m x
   unfolding write
-  bool-ends h p g = row_ends i t pool r (row kind a b n) ws q o _ (vBool (eqb a 1)) (row-bool i t pool r a b n ws q o y h) (and_assoc (ltb a 2) (eqb b 0) (eqb n 1) ∙ one-row (ltb a 2 && eqb b 0) n q) p g
+  bool_ends h p g = row_ends i t pool r (row kind a b n) ws q o _ (v_bool (eqb a 1)) (row_bool i t pool r a b n ws q o y h) (and_assoc (ltb a 2) (eqb b 0) (eqb n 1) ∙ one-row (ltb a 2 && eqb b 0) n q) p g
 
-  pub int-ends : kind ≡ 1 → Puts (intText (b * 2 ^ 32 + a)) k l m e → x ≡ ended_as (true && eqb n (q + 1 - q)) q (q + 1) o e → Writes (text_of (λ v. write v t r) (take_row i t pool r (row kind a b n) ws q o)) k l m x
+  pub int-ends : kind ≡ 1 → Puts (int_text (b * 2 ^ 32 + a)) k l m e → x ≡ ended_as (true && eqb n (q + 1 - q)) q (q + 1) o e → Writes (text_of (λ v. write v t r) (take_row i t pool r (row kind a b n) ws q o)) k l m x
   unfolding write
-  int-ends h p g = row_ends i t pool r (row kind a b n) ws q o _ (vInt (b * 2 ^ 32 + a)) (row-int i t pool r a b n ws q o y h) (one-row true n q) p g
+  int-ends h p g = row_ends i t pool r (row kind a b n) ws q o _ (v_int (b * 2 ^ 32 + a)) (row-int i t pool r a b n ws q o y h) (one-row true n q) p g
 
-  pub enum-ends : {c j : ℕ} {s : List ℕ} → kind ≡ 2 → c ≡ countOf t r → j ≡ memberRow t r a → s ≡ nameIn t j → Puts (stringText s) k l m e → x ≡ ended_as ((ltb a c && eqb b 0) && eqb n (q + 1 - q)) q (q + 1) o e → Writes (text_of (λ v. write v t r) (take_row i t pool r (row kind a b n) ws q o)) k l m x
+  pub enum_ends : {c j : ℕ} {s : List ℕ} → kind ≡ 2 → c ≡ count_of t r → j ≡ member_row t r a → s ≡ name_in t j → Puts (string_text s) k l m e → x ≡ ended_as ((ltb a c && eqb b 0) && eqb n (q + 1 - q)) q (q + 1) o e → Writes (text_of (λ v. write v t r) (take_row i t pool r (row kind a b n) ws q o)) k l m x
   unfolding write name_at
-  enum-ends {c} h d u v p g =
-      let f = puts-as (ap stringText (v ∙ ap (nameIn t) u)) p in
-      row_ends i t pool r (row kind a b n) ws q o _ (vEnum a) (row-enum i t pool r a b n ws q o y h) (ap (λ (z : ℕ). ltb a z && (eqb b 0 && eqb n 1)) (sym d) ∙ and_assoc (ltb a c) (eqb b 0) (eqb n 1) ∙ one-row (ltb a c && eqb b 0) n q) f g
+  enum_ends {c} h d u v p g =
+      let f = puts_as (ap string_text (v ∙ ap (name_in t) u)) p in
+      row_ends i t pool r (row kind a b n) ws q o _ (v_enum a) (row_enum i t pool r a b n ws q o y h) (ap (λ (z : ℕ). ltb a z && (eqb b 0 && eqb n 1)) (sym d) ∙ and_assoc (ltb a c) (eqb b 0) (eqb n 1) ∙ one-row (ltb a c && eqb b 0) n q) f g
 
-  pub null-ends : kind ≡ 3 → Puts nullText k l m e → x ≡ ended_as ((eqb a 0 && eqb b 0) && eqb n (q + 1 - q)) q (q + 1) o e → Writes (text_of (λ v. write v t r) (take_row i t pool r (row kind a b n) ws q o)) k l m x
+  pub null-ends : kind ≡ 3 → Puts null_text k l m e → x ≡ ended_as ((eqb a 0 && eqb b 0) && eqb n (q + 1 - q)) q (q + 1) o e → Writes (text_of (λ v. write v t r) (take_row i t pool r (row kind a b n) ws q o)) k l m x
   unfolding write
-  null-ends h p g = row_ends i t pool r (row kind a b n) ws q o _ vNull (row-null i t pool r a b n ws q o y h) (and_assoc (eqb a 0) (eqb b 0) (eqb n 1) ∙ one-row (eqb a 0 && eqb b 0) n q) p g
+  null-ends h p g = row_ends i t pool r (row kind a b n) ws q o _ v_null (row-null i t pool r a b n ws q o y h) (and_assoc (eqb a 0) (eqb b 0) (eqb n 1) ∙ one-row (eqb a 0 && eqb b 0) n q) p g
 
 -- ---- a string
 
-and-swap : (a b c : Bool) → ((a && b) && c) ≡ ((a && c) && b)
-and-swap true true true = refl
-and-swap true true false = refl
-and-swap true false true = refl
-and-swap true false false = refl
-and-swap false b c = refl
+and_swap : (a b c : Bool) → ((a && b) && c) ≡ ((a && c) && b)
+and_swap true true true = refl
+and_swap true true false = refl
+and_swap true false true = refl
+and_swap true false false = refl
+and_swap false b c = refl
 
 not-not : (b : Bool) → not (not b) ≡ b
 not-not true = refl
@@ -135,21 +135,21 @@ string-flag : (a b o n size : ℕ) (c u : Bool) → ((eqb a o && (leb (o + b) n 
 string-flag a b o n size c u = go (eqb a o) refl
   where
     go : (d : Bool) → eqb a o ≡ d → ((eqb a o && (leb (o + b) n && eqb size 1)) && (not (not c) || u)) ≡ (((eqb a o && leb (a + b) n) && (c || u)) && eqb size 1)
-    go true e = let h = eqb-true a o e in rw (e, not-not c, h) (and-swap (leb (o + b) n) (eqb size 1) (c || u))
+    go true e = let h = eqb-true a o e in rw (e, not-not c, h) (and_swap (leb (o + b) n) (eqb size 1) (c || u))
     go false e = rw e
 
 module _ (text : Bool) (pool : List ℕ) (w : ValueRow) (ws : List ValueRow) (q o : ℕ) (f : Val → List ℕ) where
-  string-text : closed ((eqb w.a o && (leb (o + w.b) (length pool) && eqb w.size 1)) && (not text || utf8 (take w.b (drop o pool)))) (f (vBytes (take w.b (drop o pool)))) q ws (suc q) (o + w.b) ≡ text_of f (stringRow text pool w ws q o)
-  unfolding stringRow
+  string-text : closed ((eqb w.a o && (leb (o + w.b) (length pool) && eqb w.size 1)) && (not text || utf8 (take w.b (drop o pool)))) (f (v_bytes (take w.b (drop o pool)))) q ws (suc q) (o + w.b) ≡ text_of f (string_row text pool w ws q o)
+  unfolding string_row
   string-text = go (eqb w.a o && (leb (o + w.b) (length pool) && eqb w.size 1)) refl
     where
       s : List ℕ
       s = take w.b (drop o pool)
 
       go : (c : Bool) → (eqb w.a o && (leb (o + w.b) (length pool) && eqb w.size 1)) ≡ c
-          → closed ((eqb w.a o && (leb (o + w.b) (length pool) && eqb w.size 1)) && (not text || utf8 (take w.b (drop o pool)))) (f (vBytes (take w.b (drop o pool)))) q ws (suc q) (o + w.b) ≡ text_of f (stringRow text pool w ws q o)
-      go false e = rw (e, stringRow) (sym (text-ended f false (vBytes (take w.b (drop o pool))) ws q (suc q) (o + w.b)))
-      go true e = rw (e, stringRow) (sym (text-ended f (not text || utf8 (take w.b (drop o pool))) (vBytes (take w.b (drop o pool))) ws q (suc q) (o + w.b)))
+          → closed ((eqb w.a o && (leb (o + w.b) (length pool) && eqb w.size 1)) && (not text || utf8 (take w.b (drop o pool)))) (f (v_bytes (take w.b (drop o pool)))) q ws (suc q) (o + w.b) ≡ text_of f (string_row text pool w ws q o)
+      go false e = rw (e, string_row) (sym (text-ended f false (v_bytes (take w.b (drop o pool))) ws q (suc q) (o + w.b)))
+      go true e = rw (e, string_row) (sym (text-ended f (not text || utf8 (take w.b (drop o pool))) (v_bytes (take w.b (drop o pool))) ws q (suc q) (o + w.b)))
 
 module _ (i : Option Taker) (t : Table) (pool : List ℕ) (r a b n : ℕ) (ws : List ValueRow) (q o : ℕ) {kind : ℕ} (y : kind ≡ kind_of t r) {k e : ℕ} {l m : List ℕ} {x : Taken} where
   pub string-ends : {c d used : ℕ} {s : List ℕ} {u : Bool} {g : Form} → 4 ≤ kind → kind ≤ 5 → a < 4294967296 → b < 4294967296 → c ≡ a → d ≡ b → s ≡ take d (drop o pool) → g ≡ form_of t r → u ≡ utf8 s → used ≡ amount (o + d)
@@ -158,7 +158,7 @@ module _ (i : Option Taker) (t : Table) (pool : List ℕ) (r a b n : ℕ) (ws : 
   string-ends {c} {d} {used} {s} {u} {g} lo hi fa fb ca db ss gf uu us p h =
       let S = take b (drop o pool) in
       let flag : test ≡ (((eqb c o && leb (c + d) (length pool)) && (eqb kind 4 || u)) && eqb n (q + 1 - q)) = string-flag a b o (length pool) n (eqb kind 4) (utf8 S) ∙ rw (ca, uu, ss, db) (one-row (((eqb a o && leb (a + b) (length pool)) && (eqb kind 4 || utf8 S))) n q) in
-      let f = puts-as (ap (λ (z : List ℕ). quotes (spelled g z)) (ss ∙ ap (λ (z : ℕ). take z (drop o pool)) db) ∙ ap (λ (z : Form). quotes (spelled z S)) gf ∙ bytes-text t r S) p in
+      let f = puts_as (ap (λ (z : List ℕ). quotes (spelled g z)) (ss ∙ ap (λ (z : ℕ). take z (drop o pool)) db) ∙ ap (λ (z : Form). quotes (spelled z S)) gf ∙ bytes-text t r S) p in
       let x : x ≡ ended_as test q (suc q) (o + b) e = h ∙ ap (λ (z : Bool). ended_as z q (q + 1) used e) (sym flag) ∙ moved test used (λ v. us ∙ ap (λ (z : ℕ). amount (o + z)) db ∙ within fa fb v) in
       rw x (ends test ws q (suc q) (o + b) (string-text (not (eqb kind 4)) pool (row kind a b n) ws q o (λ v. write v t r) ∙ ap (text_of (λ v. write v t r)) (sym (row-string i t pool r a b n ws q o y lo hi))) f)
     where
@@ -187,9 +187,9 @@ module _ (i : Option Taker) (t : Table) (pool : List ℕ) (r a b n : ℕ) (ws : 
       let z : inside ≡ (inside && (eqb kind 4 || utf8 s)) = rw (eq-eqb kind 4 h) (and-true (eqb c o && leb (c + d) (length pool))) in
       string-ends i t pool r a b n ws q o y (omega arith) (omega arith) fa fb ca db ss f refl us p (flagged n q used e z g)
 
-  pub chars-ends : {u : Bool} → kind ≡ 5 → u ≡ utf8 s → Puts (stringText s) k l m e → x ≡ ended_as (((eqb c o && leb (c + d) (length pool)) && u) && eqb n (q + 1 - q)) q (q + 1) used e → Writes (text_of (λ v. write v t r) (take_row i t pool r (row kind a b n) ws q o)) k l m x
-  unfolding stringText spelled
+  pub chars-ends : {u : Bool} → kind ≡ 5 → u ≡ utf8 s → Puts (string_text s) k l m e → x ≡ ended_as (((eqb c o && leb (c + d) (length pool)) && u) && eqb n (q + 1 - q)) q (q + 1) used e → Writes (text_of (λ v. write v t r) (take_row i t pool r (row kind a b n) ws q o)) k l m x
+  unfolding string_text spelled
   chars-ends {u} h f p g =
       let inside = eqb c o && leb (c + d) (length pool) in
       let z : (inside && u) ≡ (inside && (eqb kind 4 || u)) = rw (ne_eqb kind 4 (λ v. omega arith)) in
-      string-ends i t pool r a b n ws q o y (omega arith) (omega arith) fa fb ca db ss (form-text t r y h) f us p (flagged n q used e z g)
+      string-ends i t pool r a b n ws q o y (omega arith) (omega arith) fa fb ca db ss (form_text t r y h) f us p (flagged n q used e z g)

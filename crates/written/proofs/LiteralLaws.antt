@@ -10,12 +10,12 @@ use borrow.Author.Tests.{eqb-true, eqb-false, leb-true}
 use lib.Dec.{eqb, leb}
 use lib.ListN.{length, get_or, set, take, length-append}
 use lib.Seq.{sets, take-suc, take_all, length-take-le, set_comm, set-set}
-use Rattle.json.specs.Utf8.{utf8}
-use Rattle.jer.specs.Table.{sameBytes}
-use Rattle.jer.specs.Write.{escaped, escapes, quotes, stringText}
+use Rattle.json_text.specs.Utf8.{utf8}
+use Rattle.jer.specs.Table.{same_bytes}
+use Rattle.jer.specs.Write.{escaped, escapes, quotes, string_text}
 use Rattle.jer.specs.Calls.{amount}
-use Rattle.jer.proofs.ValidLaws.{sameBytes-eq}
-use Rattle.slices.proofs.PartLaws.{sets-append}
+use Rattle.jer.proofs.ValidLaws.{same_bytes-eq}
+use Rattle.slices.proofs.PartLaws.{sets_append}
 use Rattle.octets.proofs.AmountLaws.{amount-within}
 use Rattle.octets.proofs.EscapeLaws.{escapes-few}
 use Rattle.types.proofs.ByteLaws.{ascii-utf8}
@@ -29,31 +29,31 @@ use Rattle.written.proofs.RowLaws.{never}
 -- ---- the table
 
 -- the entry for a byte
-unfoldable pub literalOf : ℕ → ℕ
-literalOf b = elim (sameBytes (escaped b) (b ∷ [])) [ true ↦ elim (leb b 0x7F) [ true ↦ 0x2E | false ↦ 0x2D ] | false ↦ 0x21 ]
+unfoldable pub literal_of : ℕ → ℕ
+literal_of b = elim (same_bytes (escaped b) (b ∷ [])) [ true ↦ elim (leb b 0x7F) [ true ↦ 0x2E | false ↦ 0x2D ] | false ↦ 0x21 ]
 
 -- the entries for n bytes from b on
 abbrev pub entries : ℕ → ℕ → List ℕ
 entries b zero = []
-entries b (suc n) = literalOf b ∷ entries (suc b) n
+entries b (suc n) = literal_of b ∷ entries (suc b) n
 
-entry_at : (b n i : ℕ) → i < n → get_or (entries b n) i 0 ≡ literalOf (b + i)
+entry_at : (b n i : ℕ) → i < n → get_or (entries b n) i 0 ≡ literal_of (b + i)
 entry_at b zero i h = absurd (omega arith)
-entry_at b (suc n) zero h = ap literalOf (sym (add-zero b))
-entry_at b (suc n) (suc i) h = entry_at (suc b) n i (omega arith) ∙ ap literalOf (let e : suc b + i ≡ b + suc i = omega arith in e)
+entry_at b (suc n) zero h = ap literal_of (sym (add-zero b))
+entry_at b (suc n) (suc i) h = entry_at (suc b) n i (omega arith) ∙ ap literal_of (let e : suc b + i ≡ b + suc i = omega arith in e)
 
-entry-right : (b mark : ℕ) → 0x2D ≤ mark → mark ≤ literalOf b → LiteralByte mark b
-unfolding literalOf
-entry-right b mark h l = go (sameBytes (escaped b) (b ∷ [])) (leb b 0x7F) refl refl l
+entry-right : (b mark : ℕ) → 0x2D ≤ mark → mark ≤ literal_of b → LiteralByte mark b
+unfolding literal_of
+entry-right b mark h l = go (same_bytes (escaped b) (b ∷ [])) (leb b 0x7F) refl refl l
   where
-    go : (c d : Bool) → sameBytes (escaped b) (b ∷ []) ≡ c → leb b 0x7F ≡ d → mark ≤ elim c as (λ x. ℕ) [ true ↦ elim d as (λ x. ℕ) [ true ↦ 0x2E | false ↦ 0x2D ] | false ↦ 0x21 ] → LiteralByte mark b
-    go true true u w l = (sameBytes-eq (escaped b) (b ∷ []) u, λ _. leb-true b 0x7F w)
-    go true false u w l = (sameBytes-eq (escaped b) (b ∷ []) u, λ z. absurd (omega arith))
+    go : (c d : Bool) → same_bytes (escaped b) (b ∷ []) ≡ c → leb b 0x7F ≡ d → mark ≤ elim c as (λ x. ℕ) [ true ↦ elim d as (λ x. ℕ) [ true ↦ 0x2E | false ↦ 0x2D ] | false ↦ 0x21 ] → LiteralByte mark b
+    go true true u w l = (same_bytes-eq (escaped b) (b ∷ []) u, λ _. leb-true b 0x7F w)
+    go true false u w l = (same_bytes-eq (escaped b) (b ∷ []) u, λ z. absurd (omega arith))
     go false d u w l = absurd (omega arith)
 
 pub table-literal : IsLiteral (entries 0 256)
 table-literal b mark h low l =
-    let e : get_or (entries 0 256) b 0 ≡ literalOf b = entry_at 0 256 b h ∙ ap literalOf (let z : 0 + b ≡ b = omega arith in z) in
+    let e : get_or (entries 0 256) b 0 ≡ literal_of b = entry_at 0 256 b h ∙ ap literal_of (let z : 0 + b ≡ b = omega arith in z) in
     entry-right b mark low (rw e at l)
 
 -- ---- a string of such bytes
@@ -84,15 +84,15 @@ literal-next {mark} s k l {m} j p h b = record { few = omega arith; same = λ i 
         let n : length (take j s) ≡ j = length-take-le j s (omega arith) in
         ap (λ (u : List ℕ). set u (k + j) (get_or s j 0)) p.stands
         ∙ ap (λ (i : ℕ). set (sets l k (take j s)) (k + i) (get_or s j 0)) (sym n)
-        ∙ sym (sets-append l k (take j s) (get_or s j 0 ∷ []))
+        ∙ sym (sets_append l k (take j s) (get_or s j 0 ∷ []))
         ∙ ap (sets l k) (sym (ap (λ (i : ℕ). take i s) (add-one j) ∙ take-suc s j 0 h))
 
 -- ---- between quotation marks
 
 -- all of them
 pub quoted : {mark : ℕ} (s : List ℕ) (k : ℕ) (l : List ℕ) {m : List ℕ} {n : ℕ} → PutsLiteral mark s (k + 1) (set l k 0x22) m n → length s ≤ n → k + length s + 2 ≤ length l → length l ≤ 18446744073709551615
-    → Puts (stringText s) k l (set m (k + 1 + n) 0x22) (k + n + 2)
-unfolding stringText quotes
+    → Puts (string_text s) k l (set m (k + 1 + n) 0x22) (k + n + 2)
+unfolding string_text quotes
 quoted {mark} s k l {m} {n} p h r f =
     let e : n ≡ length s = omega (arith, p.few) in
     let x : escapes s ≡ s = literal-escapes mark s (λ i c. p.same i (omega arith)) in
@@ -103,7 +103,7 @@ quoted {mark} s k l {m} {n} p h r f =
     stand e =
         ap (λ (u : List ℕ). set u (k + 1 + n) 0x22) (p.stands ∙ ap (sets (set l k 0x22) (k + 1)) (take_all n s (omega arith)))
         ∙ ap (λ (i : ℕ). set (sets (set l k 0x22) (k + 1) s) (k + 1 + i) 0x22) e
-        ∙ sym (sets-append (set l k 0x22) (k + 1) s (0x22 ∷ []))
+        ∙ sym (sets_append (set l k 0x22) (k + 1) s (0x22 ∷ []))
         ∙ ap (λ (i : ℕ). sets (set l k 0x22) i (s ++ (0x22 ∷ []))) (add-one k)
 
 set-sets : (l : List ℕ) (i j v : ℕ) (vs : List ℕ) → i < j → set (sets l j vs) i v ≡ sets (set l i v) j vs
@@ -119,8 +119,8 @@ over l k (y ∷ ys) (x ∷ xs) h =
     ∙ over (set l k x) (suc k) ys xs (omega arith)
 
 -- some of them, and then the string with its escapes
-pub escaped-over : {mark : ℕ} (s : List ℕ) (k : ℕ) (l : List ℕ) {m o : List ℕ} {n e : ℕ} → PutsLiteral mark s (k + 1) (set l k 0x22) m n → Puts (quotes (spelled Escaped s)) k m o e → Puts (stringText s) k l o e
-unfolding stringText quotes spelled
+pub escaped-over : {mark : ℕ} (s : List ℕ) (k : ℕ) (l : List ℕ) {m o : List ℕ} {n e : ℕ} → PutsLiteral mark s (k + 1) (set l k 0x22) m n → Puts (quotes (spelled Escaped s)) k m o e → Puts (string_text s) k l o e
+unfolding string_text quotes spelled
 escaped-over s k l {m} {o} {n} {e} p f = record { ends = f.ends; stands = λ z. f.stands z ∙ ap (λ (u : List ℕ). sets u k (0x22 ∷ (escapes s ++ (0x22 ∷ [])))) first ∙ over l k (0x22 ∷ take n s) (0x22 ∷ (escapes s ++ (0x22 ∷ []))) few }
   where
     first : m ≡ sets l k (0x22 ∷ take n s)
@@ -129,14 +129,14 @@ escaped-over s k l {m} {o} {n} {e} p f = record { ends = f.ends; stands = λ z. 
     few : length (0x22 ∷ take n s) ≤ length (0x22 ∷ (escapes s ++ (0x22 ∷ [])))
     few = omega (arith, length-take-le n s p.few, escapes-few s, p.few, length-append (escapes s) (0x22 ∷ []))
 
-pub escaped-all : (s : List ℕ) {k e : ℕ} {l o : List ℕ} → Puts (quotes (spelled Escaped s)) k l o e → Puts (stringText s) k l o e
-unfolding stringText spelled
+pub escaped-all : (s : List ℕ) {k e : ℕ} {l o : List ℕ} → Puts (quotes (spelled Escaped s)) k l o e → Puts (string_text s) k l o e
+unfolding string_text spelled
 escaped-all s f = f
 
 -- ---- whole, or some of it
 
 pub whole-all : {mark : ℕ} (s : List ℕ) (k : ℕ) (l : List ℕ) {m : List ℕ} {n : ℕ} → PutsLiteral mark s (k + 1) (set l k 0x22) m n → length s ≤ n → k + length s + 2 ≤ length l → length l ≤ 18446744073709551615 → PutsWhole Escaped s k l (set m (k + 1 + n) 0x22) true
-unfolding stringText spelled
+unfolding string_text spelled
 whole-all s k l {m} {n} p h r f =
     let e : n ≡ length s = omega (arith, p.few) in
     record { all = λ _. (ap-end (ap (λ (i : ℕ). k + i + 2) e) (quoted s k l p h r f), r); some = λ z. never (sym z) }

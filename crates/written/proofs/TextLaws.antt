@@ -10,13 +10,13 @@ use lib.Seq.{sets}
 use Rattle.jer.specs.Table.{Table}
 use Rattle.jer.specs.Value.{Val}
 use Rattle.jer.specs.Rows.{ValueRow}
-use Rattle.jer.specs.Judge.{Took, took, wrong, and_then, onRow, takeWith, takeValue}
+use Rattle.jer.specs.Judge.{Took, took, wrong, and_then, on_row, take_with, take_value}
 use Rattle.jer.specs.Write.{joined, write}
 use Rattle.jer.specs.Calls.{amount}
 use Rattle.jer.proofs.JudgeSpent.{After}
 use Rattle.written.specs.declared.taken.Taken.{Taken}
 use Rattle.written.specs.declared.taken.Taken.TheVariants as taken
-use Rattle.written.specs.Text.{Puts, text_of, valueText, taken_of, Stored, Writes, comma, ended_as}
+use Rattle.written.specs.Text.{Puts, text_of, value_text, taken_of, Stored, Writes, comma, ended_as}
 use Rattle.written.proofs.RestLaws.{Rest, value-rest}
 
 -- ---- answers
@@ -94,44 +94,44 @@ source-wrong f (wrong p) h = cc
 -- a value was taken, and its text put from k on
 pub record Value (d : ℕ) (t : Table) (pool : List ℕ) (rows : List ValueRow) (r q o k : ℕ) (l m : List ℕ) (q' o' e : ℕ) : Type 0 where
   pub what : Val
-  pub is : takeValue d t pool r (drop q rows) q o ≡ took what (drop q' rows) q' o'
+  pub is : take_value d t pool r (drop q rows) q o ≡ took what (drop q' rows) q' o'
   pub puts : Puts (write what t r) k l m e
 
 -- a value was not taken
 pub record NoValue (d : ℕ) (t : Table) (pool : List ℕ) (rows : List ValueRow) (r q o q' : ℕ) : Type 0 where
-  pub is : takeValue d t pool r (drop q rows) q o ≡ wrong q'
+  pub is : take_value d t pool r (drop q rows) q o ≡ wrong q'
 
 -- of the type at x, which is r
-module _ {d : ℕ} {t : Table} {pool : List ℕ} (rows : List ValueRow) {x r : ℕ} (same : x ≡ r) (q : ℕ) {o k : ℕ} {l m : List ℕ} {a : Taken} (w : Writes (valueText d t pool (drop q rows) x q o) k l m a) where
+module _ {d : ℕ} {t : Table} {pool : List ℕ} (rows : List ValueRow) {x r : ℕ} (same : x ≡ r) (q : ℕ) {o k : ℕ} {l m : List ℕ} {a : Taken} (w : Writes (value_text d t pool (drop q rows) x q o) k l m a) where
   pub value-got : {q' o' e : ℕ} → a ≡ taken.Took q' o' e → Value d t pool rows r q o k l m q' o' e
-  unfolding valueText
+  unfolding value_text
   value-got {q'} {o'} {e} h =
-      let g : Got (text_of (λ v. write v t r) (takeValue d t pool r (drop q rows) q o)) k l m q' o' e = rw same at (got w h) in
-      let s = source (λ v. write v t r) (takeValue d t pool r (drop q rows) q o) g.is in
+      let g : Got (text_of (λ v. write v t r) (take_value d t pool r (drop q rows) q o)) k l m q' o' e = rw same at (got w h) in
+      let s = source (λ v. write v t r) (take_value d t pool r (drop q rows) q o) g.is in
       let y : After (Rest rows Val) (took s.what g.ws q' o') = rw s.is at (value-rest rows t pool d r (drop q rows) q o refl) in
       record { what = s.what; is = s.is ∙ ap (λ (ws : List ValueRow). took s.what ws q' o') y.is; puts = rw s.text g.puts }
 
   pub value-wrong : {q' : ℕ} → a ≡ taken.Wrong q' → NoValue d t pool rows r q o q'
-  unfolding valueText
+  unfolding value_text
   value-wrong {q'} h =
-      let g : text_of (λ v. write v t r) (takeValue d t pool r (drop q rows) q o) ≡ wrong q' = rw same at (got-wrong w h) in
+      let g : text_of (λ v. write v t r) (take_value d t pool r (drop q rows) q o) ≡ wrong q' = rw same at (got-wrong w h) in
       record { is = source-wrong (λ v. write v t r) _ g }
 
-pub text-of : {d : ℕ} {t : Table} {pool : List ℕ} {rows : List ValueRow} {r q o k q' o' e : ℕ} {l m : List ℕ} (v : Value d t pool rows r q o k l m q' o' e) → valueText d t pool (drop q rows) r q o ≡ took (write v.what t r) (drop q' rows) q' o'
-unfolding valueText text_of and_then
+pub text-of : {d : ℕ} {t : Table} {pool : List ℕ} {rows : List ValueRow} {r q o k q' o' e : ℕ} {l m : List ℕ} (v : Value d t pool rows r q o k l m q' o' e) → value_text d t pool (drop q rows) r q o ≡ took (write v.what t r) (drop q' rows) q' o'
+unfolding value_text text_of and_then
 text-of v = rw v.is
 
-pub value_none : (d : ℕ) (t : Table) (pool : List ℕ) (r q o : ℕ) → takeValue d t pool r [] q o ≡ wrong q
-unfolding takeValue takeWith onRow
+pub value_none : (d : ℕ) (t : Table) (pool : List ℕ) (r q o : ℕ) → take_value d t pool r [] q o ≡ wrong q
+unfolding take_value take_with on_row
 value_none zero t pool r q o = refl
 value_none (suc d) t pool r q o = refl
 
 -- ---- one thing after the other
 
-pub then-as : {A B : Type 0} (x : Took A) {f g : A → List ValueRow → ℕ → ℕ → Took B} → ((a : A) (ws : List ValueRow) (q o : ℕ) → f a ws q o ≡ g a ws q o) → and_then x f ≡ and_then x g
+pub then_as : {A B : Type 0} (x : Took A) {f g : A → List ValueRow → ℕ → ℕ → Took B} → ((a : A) (ws : List ValueRow) (q o : ℕ) → f a ws q o ≡ g a ws q o) → and_then x f ≡ and_then x g
 unfolding and_then
-then-as (took a ws q o) h = h a ws q o
-then-as (wrong q) h = refl
+then_as (took a ws q o) h = h a ws q o
+then_as (wrong q) h = refl
 
 pub then-then : {A B C : Type 0} (x : Took A) (f : A → List ValueRow → ℕ → ℕ → Took B) (g : B → List ValueRow → ℕ → ℕ → Took C) → and_then (and_then x f) g ≡ and_then x (λ a ws q o. and_then (f a ws q o) g)
 unfolding and_then

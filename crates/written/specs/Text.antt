@@ -2,18 +2,18 @@
 use Rattle.std.specs.Prelude.{ℕ, zero, suc, ◌+◌, ◌-◌, ◌%◌, ◌≤◌, ◌<◌, ◌≡◌, List, [], ◌∷◌, ◌++◌, Bool, true, false, eqb, length, take}
 use Rattle.std.proofs.Math.Option.{Option}
 use Rattle.std.proofs.lemmas.List.Edits.{sets}
-use Rattle.slices.specs.Lent.{Lent, before, after, tableIn}
-use Rattle.jer.specs.Table.{Table, table, memberRow, UTF8String, kind_of, isBase64, isUnwrapped, countOf, type_at, name_at}
+use Rattle.slices.specs.Lent.{Lent, before, after, table_in}
+use Rattle.jer.specs.Table.{Table, table, member_row, UTF8String, kind_of, is_base64, is_unwrapped, count_of, type_at, name_at}
 use Rattle.types.specs.Rows.{row_of}
 use Rattle.types.specs.declared.row.Row.{Row}
 use Rattle.jer.specs.Value.{Val}
 use Rattle.jer.specs.Rows.{ValueRow}
-use Rattle.jer.specs.Judge.{Took, took, wrong, and_then, Taker, take_row, takeValue}
+use Rattle.jer.specs.Judge.{Took, took, wrong, and_then, Taker, take_row, take_value}
 use Rattle.jer.specs.Octets.{hex, base64}
-use Rattle.jer.specs.Write.{nullText, escapes, quotes, stringText, write}
+use Rattle.jer.specs.Write.{null_text, escapes, quotes, string_text, write}
 use Rattle.jer.specs.Calls.{amount}
 use Rattle.written.specs.Literal.{IsLiteral}
-use Rattle.written.specs.Rows.{rows_from, valueRow}
+use Rattle.written.specs.Rows.{rows_from, value_row}
 use Rattle.written.specs.declared.rows.ValueRow.{ValueRow as Cells}
 use Rattle.written.specs.declared.put.Form.{Form}
 use Rattle.written.specs.declared.put.Form.TheVariants.{Escaped, Hexadecimal, Base64}
@@ -29,12 +29,12 @@ pub record Puts (s : List ℕ) (k : ℕ) (before after : List ℕ) (e : ℕ) : T
 unfoldable pub text_of : {A : Type 0} → (A → List ℕ) → Took A → Took (List ℕ)
 text_of f x = and_then x (λ a ws q o. took (f a) ws q o)
 
-unfoldable pub valueText : ℕ → Table → List ℕ → List ValueRow → ℕ → ℕ → ℕ → Took (List ℕ)
-valueText d t pool ws r q o = text_of (λ v. write v t r) (takeValue d t pool r ws q o)
+unfoldable pub value_text : ℕ → Table → List ℕ → List ValueRow → ℕ → ℕ → ℕ → Took (List ℕ)
+value_text d t pool ws r q o = text_of (λ v. write v t r) (take_value d t pool r ws q o)
 
 -- the text of a value in a bracket, in which at most d more may be open
-unfoldable pub bracketText : (Taker → Took Val) → ℕ → Table → List ℕ → ℕ → Took (List ℕ)
-bracketText F d t pool r = text_of (λ v. write v t r) (F (takeValue d t pool))
+unfoldable pub bracket_text : (Taker → Took Val) → ℕ → Table → List ℕ → ℕ → Took (List ℕ)
+bracket_text F d t pool r = text_of (λ v. write v t r) (F (take_value d t pool))
 
 -- what is answered of a text that is put from k on
 unfoldable pub taken_of : ℕ → Took (List ℕ) → Taken
@@ -51,7 +51,7 @@ pub record Writes (x : Took (List ℕ)) (k : ℕ) (before after : List ℕ) (a :
 
 -- 01, Type table: "An UNWRAPPED choice has no UNWRAPPED alternative"
 abbrev pub Wrapped : Table → Type 0
-Wrapped t = (r i : ℕ) → isUnwrapped t r ≡ true → i < countOf t r → isUnwrapped t (type_at t r i) ≡ false
+Wrapped t = (r i : ℕ) → is_unwrapped t r ≡ true → i < count_of t r → is_unwrapped t (type_at t r i) ≡ false
 
 -- what the members of the cycle ask for: a type table that was judged good is so, and the table of bytes is
 pub record Ready (types names bytes : List ℕ) : Type 0 where
@@ -61,11 +61,11 @@ pub record Ready (types names bytes : List ℕ) : Type 0 where
 
 -- the kind of the type at r, which is not UNWRAPPED
 abbrev pub PlainRow : Table → ℕ → ℕ → Type 0
-PlainRow t kind r = (kind ≡ kind_of t r) × (isUnwrapped t r ≡ false)
+PlainRow t kind r = (kind ≡ kind_of t r) × (is_unwrapped t r ≡ false)
 
 -- the row w of a value with parts is the one at q; the type at r is not UNWRAPPED
 abbrev pub BracketRow : Table → List ℕ → Cells → ℕ → ℕ → Type 0
-BracketRow t ns w r q = (rows_from ns q ≡ valueRow w ∷ rows_from ns (suc q)) × (q < length ns) × (w.kind ≡ kind_of t r) × (6 ≤ w.kind) × (isUnwrapped t r ≡ false)
+BracketRow t ns w r q = (rows_from ns q ≡ value_row w ∷ rows_from ns (suc q)) × (q < length ns) × (w.kind ≡ kind_of t r) × (6 ≤ w.kind) × (is_unwrapped t r ≡ false)
 
 -- ---- strings
 
@@ -81,7 +81,7 @@ pub record PutsWhole (form : Form) (s : List ℕ) (k : ℕ) (before after : List
 
 -- how a string of the type at r is spelled
 unfoldable pub form_of : Table → ℕ → Form
-form_of t r = elim (eqb (kind_of t r) UTF8String) [ true ↦ Escaped | false ↦ elim (isBase64 t r) [ true ↦ Base64 | false ↦ Hexadecimal ] ]
+form_of t r = elim (eqb (kind_of t r) UTF8String) [ true ↦ Escaped | false ↦ elim (is_base64 t r) [ true ↦ Base64 | false ↦ Hexadecimal ] ]
 
 -- ---- what stands before the parts of a bracket
 
@@ -93,20 +93,20 @@ comma (suc n) = 0x2C ∷ []
 -- n nulls, as the elements from i on
 unfoldable pub nulls : ℕ → ℕ → List ℕ
 nulls i zero = []
-nulls i (suc n) = comma i ++ (nullText ++ nulls (suc i) n)
+nulls i (suc n) = comma i ++ (null_text ++ nulls (suc i) n)
 
-unfoldable pub nameText : List ℕ → List ℕ
-nameText name = stringText name ++ (0x3A ∷ [])
+unfoldable pub name_text : List ℕ → List ℕ
+name_text name = string_text name ++ (0x3A ∷ [])
 
 -- before the member at i, with n parts written: in an ARRAY the nulls that are due, else its name
 unfoldable pub lead : Bool → Table → ℕ → ℕ → ℕ → List ℕ
 lead true t r i n = nulls n (i - n) ++ comma i
-lead false t r i n = comma n ++ nameText (name_at t r i)
+lead false t r i n = comma n ++ name_text (name_at t r i)
 
 -- it is put, for a member whose row is `member`
 abbrev pub Leads : Bool → List ℕ → Lent → Row → ℕ → ℕ → ℕ → ℕ → Lent → ℕ → Type 0
 Leads array types names member r i n k text e =
-    member ≡ row_of (table types (before names)) (memberRow (table types (before names)) r i) → Puts (lead array (table types (before names)) r i n) k (before text) (after text) e
+    member ≡ row_of (table types (before names)) (member_row (table types (before names)) r i) → Puts (lead array (table types (before names)) r i n) k (before text) (after text) e
 
 -- ---- the end of a bracket
 
@@ -125,28 +125,28 @@ closing true = 0x5D
 closing false = 0x7D
 
 -- how many parts are written once the member at i is, after n
-unfoldable pub keptAfter : Bool → ℕ → ℕ → ℕ
-keptAfter true i n = suc i
-keptAfter false i n = suc n
+unfoldable pub kept_after : Bool → ℕ → ℕ → ℕ
+kept_after true i n = suc i
+kept_after false i n = suc n
 
 -- ---- what the members of the cycle write
 
 -- the value from a slot of the value table and an offset of the pool on, of the type at a row, into the text from a place on
 abbrev pub WritesValue : ℕ → Lent → Lent → Lent → Lent → ℕ → ℕ → ℕ → ℕ → Lent → Taken → Type 0
 WritesValue depth types names values pool row slot offset place text a =
-    Writes (valueText depth (tableIn types names) (before pool) (rows_from (before values) slot) row slot offset) place (before text) (after text) a
+    Writes (value_text depth (table_in types names) (before pool) (rows_from (before values) slot) row slot offset) place (before text) (after text) a
 
 -- the same with no text to write into: it is measured
 abbrev pub Measures : ℕ → Lent → Lent → Lent → Lent → ℕ → ℕ → ℕ → Taken → Type 0
-Measures depth types names values pool row slot offset a = Writes (valueText depth (tableIn types names) (before pool) (rows_from (before values) slot) row slot offset) 0 [] [] a
+Measures depth types names values pool row slot offset a = Writes (value_text depth (table_in types names) (before pool) (rows_from (before values) slot) row slot offset) 0 [] [] a
 
 -- a value with a bracket, whose row is w and whose parts are taken so
 abbrev pub WritesParts : (Table → ℕ → ValueRow → List ValueRow → ℕ → ℕ → Taker → Took Val) → ℕ → Lent → Lent → Lent → Lent → ℕ → ValueRow → ℕ → ℕ → ℕ → Lent → Taken → Type 0
 WritesParts parts depth types names values pool row w slot offset place text a =
-    Writes (bracketText (parts (tableIn types names) row w (rows_from (before values) (suc slot)) slot offset) depth (tableIn types names) (before pool) row) place (before text) (after text) a
+    Writes (bracket_text (parts (table_in types names) row w (rows_from (before values) (suc slot)) slot offset) depth (table_in types names) (before pool) row) place (before text) (after text) a
 
 -- a leaf, whose row is w
 abbrev pub WritesLeaf : Lent → Lent → Lent → ℕ → ValueRow → ℕ → ℕ → ℕ → Lent → Taken → Type 0
 WritesLeaf types names pool row w slot offset place text a =
     (i : Option Taker) (ws : List ValueRow)
-    → Writes (text_of (λ v. write v (tableIn types names) row) (take_row i (tableIn types names) (before pool) row w ws slot offset)) place (before text) (after text) a
+    → Writes (text_of (λ v. write v (table_in types names) row) (take_row i (table_in types names) (before pool) row w ws slot offset)) place (before text) (after text) a

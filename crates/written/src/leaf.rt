@@ -1,9 +1,9 @@
 // A value of one row. Its text is put first; a row that is not right is answered as wrong, and of a wrong row's text nothing is said.
 ghost use Rattle.std.specs.Prelude.{◌≡◌, true, List, ℕ, ◌≤◌, ◌<◌};
 ghost use Rattle.jer.specs.Table.{kind_of, table};
-ghost use Rattle.json.specs.Utf8.{utf8};
+ghost use Rattle.json_text.specs.Utf8.{utf8};
 ghost use Rattle.written.specs.Literal.{IsLiteral};
-ghost use Rattle.written.specs.Rows.{valueRow};
+ghost use Rattle.written.specs.Rows.{value_row};
 ghost use Rattle.written.specs.Text.{form_of, WritesLeaf};
 
 use crate::put::{Form, add, put_bool, put_chars, put_integer, put_null, put_string};
@@ -37,7 +37,7 @@ fn octets(
     place: usize,
 ) -> Taken
     requires { (w.kind ≡ kind_of (table types.now names.now) row) × (w.kind ≡ 4) × (slot < 18446744073709551615) × IsLiteral literal.now }
-    ensures { WritesLeaf types names pool row (valueRow w) slot offset place text result }
+    ensures { WritesLeaf types names pool row (value_row w) slot offset place text result }
 {
     let start = wide(w.a);
     let len = wide(w.b);
@@ -72,7 +72,7 @@ fn string(
     place: usize,
 ) -> Taken
     requires { (w.kind ≡ kind_of (table types.now names.now) row) × (w.kind ≡ 5) × (slot < 18446744073709551615) × IsLiteral literal.now }
-    ensures { WritesLeaf types names pool row (valueRow w) slot offset place text result }
+    ensures { WritesLeaf types names pool row (value_row w) slot offset place text result }
 {
     let start = wide(w.a);
     let len = wide(w.b);
@@ -96,7 +96,7 @@ pub fn leaf(
     place: usize,
 ) -> Taken
     requires { (w.kind ≡ kind_of (table types.now names.now) row) × (w.kind ≤ 5) × (slot < 18446744073709551615) × IsLiteral literal.now }
-    ensures { WritesLeaf types names pool row (valueRow w) slot offset place text result }
+    ensures { WritesLeaf types names pool row (value_row w) slot offset place text result }
 {
     let kind = w.kind;
     match kind {

@@ -1,12 +1,12 @@
 // Pieces of text, stored from a place on as far as there is room. Each call hands back the place after its piece; a place that would pass 2^64-1 is 2^64-1.
 ghost use Rattle.std.specs.Prelude.{◌≡◌, true, List, [], ◌∷◌, ℕ, ◌+◌, ◌-◌, ◌*◌, ◌^◌, ◌≤◌, ◌<◌, length};
 ghost use Rattle.std.proofs.lemmas.List.Edits.{sets};
-ghost use Rattle.jer.specs.Write.{nullText, boolText, intText, quotes, stringText};
+ghost use Rattle.jer.specs.Write.{null_text, bool_text, int_text, quotes, string_text};
 ghost use Rattle.jer.specs.Calls.{amount};
-ghost use Rattle.json.specs.Utf8.{utf8};
+ghost use Rattle.json_text.specs.Utf8.{utf8};
 ghost use Rattle.written.specs.Literal.{IsLiteral, PutsLiteral};
 ghost use Rattle.written.specs.declared.put.Form.TheVariants.{Escaped};
-ghost use Rattle.written.specs.Text.{Puts, PutsWhole, Leads, spelled, comma, nulls, nameText, opening, closing, keptAfter};
+ghost use Rattle.written.specs.Text.{Puts, PutsWhole, Leads, spelled, comma, nulls, name_text, opening, closing, kept_after};
 
 use crate::literal::{ANY, ASCII};
 use octets::{amount, encode, escape, integer};
@@ -86,7 +86,7 @@ pub fn put_comma(text: &mut [u8], k: usize, n: u32) -> usize
 }
 
 pub fn put_null(text: &mut [u8], k: usize) -> usize
-    ensures { Puts nullText k text.old text.new result }
+    ensures { Puts null_text k text.old text.new result }
 {
     put_bytes(text, k, b"null")
 }
@@ -106,7 +106,7 @@ pub fn put_nulls(text: &mut [u8], k: usize, n: u32, i: u32) -> usize
 }
 
 pub fn put_bool(text: &mut [u8], k: usize, b: bool) -> usize
-    ensures { Puts (boolText b) k text.old text.new result }
+    ensures { Puts (bool_text b) k text.old text.new result }
 {
     if b {
         return put_bytes(text, k, b"true");
@@ -115,9 +115,9 @@ pub fn put_bool(text: &mut [u8], k: usize, b: bool) -> usize
 }
 
 pub fn put_integer(text: &mut [u8], k: usize, low: u32, high: u32) -> usize
-    ensures { Puts (intText (high * 2 ^ 32 + low)) k text.old text.new result }
+    ensures { Puts (int_text (high * 2 ^ 32 + low)) k text.old text.new result }
 {
-    if k <= json::TEXT {
+    if k <= json_text::TEXT {
         let n = integer::put_integer(text, k, low, high);
         return add(k, n);
     }
@@ -169,10 +169,10 @@ fn put_spelled(text: &mut [u8], k: usize, form: Form, s: &[u8]) -> usize
     if text.len() <= k {
         return end_of(k, form, s);
     }
-    if json::TEXT < k {
+    if json_text::TEXT < k {
         return end_of(k, form, s);
     }
-    if json::TEXT < s.len() {
+    if json_text::TEXT < s.len() {
         return end_of(k, form, s);
     }
     let n = store(text, k, form, s);
@@ -247,7 +247,7 @@ pub struct Chars {
 // A string of characters in quotation marks: as it stands if it is ASCII that stands for itself, else once more.
 pub fn put_chars(literal: &[u8; 256], text: &mut [u8], k: usize, s: &[u8]) -> Chars
     requires { IsLiteral literal.now }
-    ensures puts { Puts (stringText s.now) k text.old text.new result.end }
+    ensures puts { Puts (string_text s.now) k text.old text.new result.end }
     ensures s_value { result.ascii ≡ true → utf8 s.now ≡ true }
 {
     if !has_quoted(text.len(), k, s.len()) {
@@ -276,7 +276,7 @@ pub fn put_chars(literal: &[u8; 256], text: &mut [u8], k: usize, s: &[u8]) -> Ch
 // A member's name and the colon.
 pub fn put_name(literal: &[u8; 256], text: &mut [u8], k: usize, name: &[u8]) -> usize
     requires { IsLiteral literal.now }
-    ensures { Puts (nameText name.now) k text.old text.new result }
+    ensures { Puts (name_text name.now) k text.old text.new result }
 {
     let chars = put_chars(literal, text, k, name);
     put_byte(text, chars.end, 0x3A)
@@ -328,7 +328,7 @@ pub fn put_closing(text: &mut [u8], k: usize, array: bool) -> usize
 // How many parts are written once the member at i is, after n.
 pub fn kept_after(array: bool, i: u32, n: u32) -> u32
     requires { (i < 4294967295) × (n < 4294967295) }
-    ensures { result ≡ keptAfter array i n }
+    ensures { result ≡ kept_after array i n }
 {
     if array { i + 1 } else { n + 1 }
 }

@@ -1,9 +1,9 @@
 // The rows of the value table.
 ghost use Rattle.std.specs.Prelude.{◌≡◌, true, ◌&&◌, List, ℕ, ◌<◌, ◌%◌, length};
-ghost use Rattle.jer.specs.Judge.{isAbsent};
+ghost use Rattle.jer.specs.Judge.{is_absent};
 ghost use Rattle.jer.specs.Table.{table};
 ghost use Rattle.types.specs.Rows.{row_of};
-ghost use Rattle.written.specs.Rows.{valueRow, rows_from, Finds, absentNext, nullNext};
+ghost use Rattle.written.specs.Rows.{value_row, rows_from, Finds, absent_next, null_next};
 
 use types::row::{Row, kind_of, may_be_absent, row_in, type_at};
 
@@ -40,7 +40,7 @@ pub fn row_at(values: &[u32], q: usize) -> Found
 impl ValueRow {
     // The row of an absent member.
     pub fn is_absent(self) -> bool
-        ensures { result ≡ isAbsent (valueRow self) }
+        ensures { result ≡ is_absent (value_row self) }
     {
         (self.kind == 15) & ((self.a == 0) & ((self.b == 0) & (self.size == 1)))
     }
@@ -48,7 +48,7 @@ impl ValueRow {
 
 // The member at i of the type at r is absent, by the row q.
 pub fn absent_at(types: &[u32], values: &[u32], r: usize, i: u32, q: usize) -> bool
-    ensures by_index { (ns : List ℕ) → result ≡ absentNext (table types.now ns) r i (rows_from values.now q) }
+    ensures by_index { (ns : List ℕ) → result ≡ absent_next (table types.now ns) r i (rows_from values.now q) }
     ensures q_bound { result ≡ true → q < 18446744073709551615 }
 {
     match row_at(values, q) {
@@ -64,7 +64,7 @@ pub fn absent_at(types: &[u32], values: &[u32], r: usize, i: u32, q: usize) -> b
 
 // A value of the type at r that begins at the row q, if it is right, is null.
 fn null_at(types: &[u32], values: &[u32], r: usize, q: usize) -> bool
-    ensures { (ns : List ℕ) → result ≡ nullNext (table types.now ns) r (rows_from values.now q) }
+    ensures { (ns : List ℕ) → result ≡ null_next (table types.now ns) r (rows_from values.now q) }
 {
     match row_at(values, q) {
         Found::Row(w) => {
@@ -78,7 +78,7 @@ fn null_at(types: &[u32], values: &[u32], r: usize, q: usize) -> bool
 
 // An element of the type at r is null, by the row q; a member of an object is written in any case.
 pub fn null_in(array: bool, types: &[u32], values: &[u32], r: usize, q: usize) -> bool
-    ensures { (ns : List ℕ) → result ≡ (array && nullNext (table types.now ns) r (rows_from values.now q)) }
+    ensures { (ns : List ℕ) → result ≡ (array && null_next (table types.now ns) r (rows_from values.now q)) }
 {
     if array {
         return null_at(types, values, r, q);

@@ -1,8 +1,8 @@
 // Where a value begins: of an UNWRAPPED choice, with its alternative.
 ghost use Rattle.std.specs.Prelude.{◌≡◌, List, ℕ, ◌%◌, length};
-ghost use Rattle.jer.specs.Judge.{rowsIn};
+ghost use Rattle.jer.specs.Judge.{rows_in};
 ghost use Rattle.jer.specs.Table.{table};
-ghost use Rattle.written.specs.Start.{Starts, closedAs};
+ghost use Rattle.written.specs.Start.{Starts, closed_as};
 
 use crate::rows::{Found, row_at, type_row};
 use crate::taken::{Taken, ended};
@@ -23,7 +23,7 @@ pub struct Start {
 // Of a value of the type at `row`, whose rows begin at `slot`.
 pub fn start_of(types: &[u32], values: &[u32], row: usize, slot: usize) -> Start
     requires { length types.now % 8 ≡ 0 }
-    ensures { (ns : List ℕ) → Starts (table types.now ns) (rowsIn values.now) row slot result }
+    ensures { (ns : List ℕ) → Starts (table types.now ns) (rows_in values.now) row slot result }
 {
     let own = type_row(types, row);
     let kind = own.kind;
@@ -68,7 +68,7 @@ pub fn start_of(types: &[u32], values: &[u32], row: usize, slot: usize) -> Start
 
 // A value is taken whose row is at `slot`, from the slot `first` on: an UNWRAPPED choice, if they differ.
 pub fn closed(first: usize, size: u32, slot: usize, next: usize, used: usize, end: usize) -> Taken
-    ensures { result ≡ closedAs first size slot next used end }
+    ensures { result ≡ closed_as first size slot next used end }
 {
     if first == slot {
         return Taken::Took {

@@ -1,8 +1,8 @@
 // A value of any type, judged row by row and written, in one cycle of calls: the brackets that may still be opened fall.
 ghost use Rattle.std.specs.Prelude.{◌≡◌, false, [], ◌<◌, length};
-ghost use Rattle.jer.specs.Table.{isUnwrapped, table};
-ghost use Rattle.jer.specs.Judge.{takeSequence, takeList, takeChoice};
-ghost use Rattle.written.specs.Rows.{valueRow};
+ghost use Rattle.jer.specs.Table.{is_unwrapped, table};
+ghost use Rattle.jer.specs.Judge.{take_sequence, take_list, take_choice};
+ghost use Rattle.written.specs.Rows.{value_row};
 ghost use Rattle.written.specs.Text.{PlainRow, BracketRow, WritesValue, Measures, WritesParts, Ready};
 
 use crate::leaf::leaf;
@@ -178,7 +178,7 @@ fn list(
     depth: u32,
 ) -> Taken
     requires { Ready types.now names.now literal.now × (slot < length values.now) }
-    ensures { WritesParts takeList depth types names values pool row (valueRow w) slot offset place text result }
+    ensures { WritesParts take_list depth types names values pool row (value_row w) slot offset place text result }
 {
     let e = element_of(types, row);
     let mut i: u32 = 0;
@@ -224,7 +224,7 @@ fn sequence(
     depth: u32,
 ) -> Taken
     requires { Ready types.now names.now literal.now × (slot < length values.now) }
-    ensures { WritesParts takeSequence depth types names values pool row (valueRow w) slot offset place text result }
+    ensures { WritesParts take_sequence depth types names values pool row (value_row w) slot offset place text result }
 {
     let own = type_row(types, row);
     let array = own.is_array();
@@ -355,8 +355,8 @@ fn choice(
     place: usize,
     depth: u32,
 ) -> Taken
-    requires { Ready types.now names.now literal.now × (slot < length values.now) × (isUnwrapped (table types.now names.now) row ≡ false) }
-    ensures { WritesParts takeChoice depth types names values pool row (valueRow w) slot offset place text result }
+    requires { Ready types.now names.now literal.now × (slot < length values.now) × (is_unwrapped (table types.now names.now) row ≡ false) }
+    ensures { WritesParts take_choice depth types names values pool row (value_row w) slot offset place text result }
 {
     let p = put_byte(text, place, 0x7B);
     let start = put_name(

@@ -1,6 +1,6 @@
 -- Made by tools/answers.py from answers/attrywind_check_table.ans: edit that. 080b2c17738b4444
 use mathlib.Core.Path.{refl}
-use Rattle.capi.specs.Answers.{ofTable}
+use Rattle.capi.specs.Answers.{of_table}
 use borrow.Author.Rules.{rules}
 use Rattle.capi.proofs.attrywind_check_table.Statement.{statement}
 use Rattle.capi.proofs.attrywind_check_table.Tie as tie
@@ -24,7 +24,7 @@ same_length : tie.Need-same-length
 same_length c = search rules
 
 returns : tie.Need-returns
-unfolding ofTable
+unfolding of_table
 returns c =
     let is = c.before.before.before.before.before.e.given.1 in
     let refused = c.before.before.refused.ensures in
@@ -34,7 +34,7 @@ same-length-2 : tie.Need-same-length-2
 same-length-2 c = search rules
 
 returns-2 : tie.Need-returns-2
-unfolding ofTable
+unfolding of_table
 returns-2 c =
     let is = c.before.before.before.before.enum_told.given.1 in
     record { answer = _; call = c.before.before.before.before.before.before.check.ensures; number = rw is refl; told = rw is c.before.before.told.ensures }

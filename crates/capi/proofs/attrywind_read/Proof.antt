@@ -1,6 +1,6 @@
 -- Made by tools/answers.py from answers/attrywind_read.ans: edit that. 24eac97aeae3d837
 use mathlib.Core.Path.{refl}
-use Rattle.capi.specs.Answers.{ofReading}
+use Rattle.capi.specs.Answers.{of_reading}
 use borrow.Author.Rules.{rules}
 use Rattle.capi.proofs.attrywind_read.Statement.{statement}
 use Rattle.capi.proofs.attrywind_read.Tie as tie
@@ -30,7 +30,7 @@ same-length-3 : tie.Need-same-length-3
 same-length-3 c = search rules
 
 returns : tie.Need-returns
-unfolding ofReading
+unfolding of_reading
 returns c =
     let read = c.before.before.before.before.before.before.before.before.before.before.before.read.ensures in
     let refused = c.before.before.refused.ensures in
@@ -47,7 +47,7 @@ same-length-6 : tie.Need-same-length-6
 same-length-6 c = search rules
 
 returns-2 : tie.Need-returns-2
-unfolding ofReading
+unfolding of_reading
 returns-2 c =
     let read = c.before.before.before.before.before.before.before.before.before.before.before.read.ensures in
     let is = c.before.before.before.before.before.n.given.1 in

@@ -1,6 +1,6 @@
 -- Made by tools/answers.py from answers/attrywind_read_each.ans: edit that. cead3f2544aaa2fa
 use mathlib.Core.Path.{refl}
-use Rattle.capi.specs.Answers.{ofReadings}
+use Rattle.capi.specs.Answers.{of_readings}
 use borrow.Author.Rules.{rules}
 use Rattle.capi.proofs.attrywind_read_each.Statement.{statement}
 use Rattle.capi.proofs.attrywind_read_each.Tie as tie
@@ -33,7 +33,7 @@ same-length-4 : tie.Need-same-length-4
 same-length-4 c = search rules
 
 returns : tie.Need-returns
-unfolding ofReadings
+unfolding of_readings
 returns c =
     let each = c.before.before.before.before.before.before.before.before.before.before.before.before.before.read-each.ensures in
     let refused = c.before.before.refused.ensures in
@@ -53,7 +53,7 @@ same-length-8 : tie.Need-same-length-8
 same-length-8 c = search rules
 
 returns-2 : tie.Need-returns-2
-unfolding ofReadings
+unfolding of_readings
 returns-2 c =
     let each = c.before.before.before.before.before.before.before.before.before.before.before.before.before.read-each.ensures in
     let is = c.before.before.before.before.before.n.given.1 in

@@ -1,6 +1,6 @@
 -- Made by tools/answers.py from answers/attrywind_write.ans: edit that. 9b55c4515df60df5
 use mathlib.Core.Path.{refl}
-use Rattle.capi.specs.Answers.{ofWriting}
+use Rattle.capi.specs.Answers.{of_writing}
 use borrow.Author.Rules.{rules}
 use Rattle.capi.proofs.attrywind_write.Statement.{statement}
 use Rattle.capi.proofs.attrywind_write.Tie as tie
@@ -27,7 +27,7 @@ same-length-2 : tie.Need-same-length-2
 same-length-2 c = search rules
 
 returns : tie.Need-returns
-unfolding ofWriting
+unfolding of_writing
 returns c =
     let write = c.before.before.before.before.before.before.before.before.before.write.ensures in
     let refused = c.before.before.refused.ensures in
@@ -41,7 +41,7 @@ same-length-4 : tie.Need-same-length-4
 same-length-4 c = search rules
 
 returns-2 : tie.Need-returns-2
-unfolding ofWriting
+unfolding of_writing
 returns-2 c =
     let write = c.before.before.before.before.before.before.before.before.before.write.ensures in
     let is = c.before.before.before.before.before.n.given.1 in

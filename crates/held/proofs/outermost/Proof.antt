@@ -39,7 +39,7 @@ use denote.Triple.Table.{entered, cited}
 use denote.Triple.Walked.{says, Stays, stay_none_slice, walk_of, Goes-none_slice, Walks, ends_at, walked, walk_Meets}
 use denote.Exit.{yes}
 use denote.Triple.Clauses.{ensured, lasts}
-use Rattle.tokens.specs.Places.{pastSpace}
+use Rattle.tokens.specs.Places.{past_space}
 use Rattle.held.specs.declared.Reader.{Reader}
 use Rattle.held.specs.contracts.Reader as T
 use Rattle.held.proofs.Reader.TheLaws as T'
@@ -76,11 +76,11 @@ abbrev IsNew : Bor (List ℕ) → Reader → Type 0
 IsNew s r = (r.src ≡ s) × (r.at ≡ 0)
 
 abbrev IsToken : Reader → Reader → Type 0
-IsToken r t = (t.src ≡ r.src) × (t.at ≡ pastSpace r.src.now r.at)
+IsToken r t = (t.src ≡ r.src) × (t.at ≡ past_space r.src.now r.at)
 
 -- so its place is what the contract says
-is-place : (s : Bor (List ℕ)) (r t : Reader) → IsNew s r → IsToken r t → t.at ≡ pastSpace s.now 0
-is-place s r t n k = k.1 ∙ (ap (λ (x : Bor (List ℕ)). pastSpace x.now r.at) n.0 ∙ ap (pastSpace s.now) n.1)
+is-place : (s : Bor (List ℕ)) (r t : Reader) → IsNew s r → IsToken r t → t.at ≡ past_space s.now 0
+is-place s r t n k = k.1 ∙ (ap (λ (x : Bor (List ℕ)). past_space x.now r.at) n.0 ∙ ap (past_space s.now) n.1)
 
 module _ {M : Type 1} {𝓤 : Ura M} (𝓛 : Logic 𝓤) (mem : Memory → SProp 𝓤) (run : Routine → Fun 𝓤) (κ : Lft) (q : Share) (s : Bor (List ℕ)) where
   -- the machine value that s has
@@ -133,13 +133,13 @@ module _ {M : Type 1} {𝓤 : Ura M} (𝓛 : Logic 𝓤) (mem : Memory → SProp
     to-token-said : (t : Reader) → ent 𝓤 (ensured 𝓛 to-token.ended (to-token.clauses 𝓛 mem run) (κ, tt) (r, tt) tt t) (fact 𝓤 (IsToken r t))
     to-token-said t = ex_e 𝓤 _ (λ ws. snd∗ 𝓤 (sem 𝓛 (lasts to-token.ended (κ, tt) (r, tt) ws)) (fact 𝓤 (IsToken r t)))
 
-  gives : (p : ℕ) → p ≡ pastSpace s.now 0 → ent 𝓤 (⋆ 𝓛 (‵ (usize.own_val p (vint w64 p ∷ [])) ∷ (‵ (flft κ q) ⊛ ‵ ftrue) ∷ ‵ Own ∷ [])) (Post (vint w64 p))
+  gives : (p : ℕ) → p ≡ past_space s.now 0 → ent 𝓤 (⋆ 𝓛 (‵ (usize.own_val p (vint w64 p ∷ [])) ∷ (‵ (flft κ q) ⊛ ‵ ftrue) ∷ ‵ Own ∷ [])) (Post (vint w64 p))
   gives p e =
       qed 𝓛 (‵ (usize.own_val p (vint w64 p ∷ [])) ∷ (‵ (flft κ q) ⊛ ‵ ftrue) ∷ ‵ Own ∷ []) ∵
       suffices ! _ (ends_at 𝓛 outermost.ended stayed (outermost.clauses 𝓛 mem run) (((κ, tt), (q, tt), tt, (s, tt), (v ∷ [], tt)), tt) (vint w64 p) p (tt, tt) (tt, tt)) $ says ! e $
       move ! (1 ∷ []) $ frame ! $ nothing ! $ move ! (2 ∷ 0 ∷ []) $ fjoin ! $ frame ! $ done !
 
-  exits : (p : ℕ) → p ≡ pastSpace s.now 0 → p < 2 ^ 64 → ent 𝓤 (⋆ 𝓛 ((‵ (flft κ q) ⊛ ‵ ftrue) ∷ ‵ Own ∷ [])) (Post (vint w64 p))
+  exits : (p : ℕ) → p ≡ past_space s.now 0 → p < 2 ^ 64 → ent 𝓤 (⋆ 𝓛 ((‵ (flft κ q) ⊛ ‵ ftrue) ∷ ‵ Own ∷ [])) (Post (vint w64 p))
   exits p e f = qed 𝓛 ((‵ (flft κ q) ⊛ ‵ ftrue) ∷ ‵ Own ∷ []) ∵ nothing ! $ owned ! usize (Is usize) (uint_Makes 𝓛 w64) p _ (refl, f) $ move ! (1 ∷ []) $ drop ! $ by ! (gives p e)
 
   module _ (C : Calls 𝓤 H) (Λ : Loops 𝓤 H) (fm : FmC 𝓤 H 𝓛.laws C) (known-new : Triple 𝓤 (C #held·new) (New 𝓛 mem run)) (known-to-token : Triple 𝓤 (C #held·to-token) (ToToken 𝓛 mem run)) where

@@ -42,7 +42,7 @@ use denote.Triple.Table.{entered, cited}
 use denote.Triple.Walked.{says, Stays, stay_none, walk_of, Goes-none, Walks, ends_at, walked, walk_Meets}
 use denote.Exit.{yes}
 use denote.Triple.Clauses.{ensured, lasts}
-use Rattle.tokens.specs.Places.{pastSpace}
+use Rattle.tokens.specs.Places.{past_space}
 use Rattle.held.specs.declared.Reader.{Reader}
 use Rattle.held.specs.contracts.Reader as T
 use Rattle.held.proofs.Reader.TheLaws as T'
@@ -78,7 +78,7 @@ module _ {M : Type 1} {𝓤 : Ura M} (𝓛 : Logic 𝓤) (mem : Memory → SProp
   v = slice_val d.src.ref_ptr (length d.src.now)
 
   abbrev found : ℕ
-  found = pastSpace d.src.now d.at
+  found = past_space d.src.now d.at
 
   abbrev Post : Val → SProp 𝓤
   Post = (walk_of 𝓛 to-token.ended stayed (to-token.clauses 𝓛 mem run)).post (((κ, tt), (q, tt), tt, (d, tt), (mach ∷ [], tt)), tt)

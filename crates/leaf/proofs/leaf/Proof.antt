@@ -1,7 +1,7 @@
 -- Made by tools/answers.py from answers/leaf.ans: edit that. 0cd608e97488dca6
-use Rattle.jer.specs.Table.{tNull, tBoolean, tNumber, tString, tokenCode, table}
+use Rattle.jer.specs.Table.{t_null, t_boolean, t_number, t_string, token_code, table}
 use Rattle.leaf.proofs.StoreLaws.{refuses}
-use Rattle.leaf.proofs.LeafLaws.{by_token, leaf-other}
+use Rattle.leaf.proofs.LeafLaws.{by_token_lem, leaf-other}
 use borrow.Author.Rules.{rules}
 use Rattle.leaf.proofs.leaf.Statement.{statement}
 use Rattle.leaf.proofs.leaf.Tie as tie
@@ -25,28 +25,28 @@ same_length : tie.Need-same-length
 same_length c = search rules
 
 returns : tie.Need-returns
-unfolding tokenCode
+unfolding token_code
 returns c =
     let a = c.before.before.before.before.before.before.before.before.before.before.args in
-    by_token a.s.now a.place tNull (c.before.before.null.ensures a.names.now a.pool.now a.offset) c.before.before.before.before.match.keys1
+    by_token_lem a.s.now a.place t_null (c.before.before.null.ensures a.names.now a.pool.now a.offset) c.before.before.before.before.match.keys1
 
 same-length-2 : tie.Need-same-length-2
 same-length-2 c = search rules
 
 returns-2 : tie.Need-returns-2
-unfolding tokenCode
+unfolding token_code
 returns-2 c =
     let a = c.before.before.before.before.before.before.before.before.before.before.args in
-    by_token a.s.now a.place tBoolean (c.before.before.boolean.ensures a.names.now a.pool.now a.offset) c.before.before.before.before.match.keys2
+    by_token_lem a.s.now a.place t_boolean (c.before.before.boolean.ensures a.names.now a.pool.now a.offset) c.before.before.before.before.match.keys2
 
 same-length-3 : tie.Need-same-length-3
 same-length-3 c = search rules
 
 returns-3 : tie.Need-returns-3
-unfolding tokenCode
+unfolding token_code
 returns-3 c =
     let a = c.before.before.before.before.before.before.before.before.before.before.args in
-    by_token a.s.now a.place tNumber (c.before.before.number.ensures a.names.now a.pool.now a.offset) c.before.before.before.before.match.keys3
+    by_token_lem a.s.now a.place t_number (c.before.before.number.ensures a.names.now a.pool.now a.offset) c.before.before.before.before.match.keys3
 
 same-length-4 : tie.Need-same-length-4
 same-length-4 c = search rules
@@ -55,10 +55,10 @@ same-length-5 : tie.Need-same-length-5
 same-length-5 c = search rules
 
 returns-4 : tie.Need-returns-4
-unfolding tokenCode
+unfolding token_code
 returns-4 c =
     let a = c.before.before.before.before.before.before.before.before.before.before.before.before.before.args in
-    by_token a.s.now a.place tString c.before.before.before.before.string.ensures c.before.before.before.before.before.before.before.match.keys4
+    by_token_lem a.s.now a.place t_string c.before.before.before.before.string.ensures c.before.before.before.before.before.before.before.match.keys4
 
 returns-5 : tie.Need-returns-5
 returns-5 c =

@@ -9,19 +9,19 @@ use lib.ListN.{length}
 use Rattle.jer.specs.Table.{extensible, position, table}
 use Rattle.jer.proofs.ValidLaws.{position_some}
 use Rattle.tokens.specs.Strings.{denoted}
-use Rattle.tokens.specs.Skip.{pastValue}
+use Rattle.tokens.specs.Skip.{past_value}
 use Rattle.places.specs.declared.Scanned.{Scanned}
-use Rattle.places.specs.ByPlaces.{firstPart, afterPart, scanAt, noPlaces}
+use Rattle.places.specs.ByPlaces.{first_part, after_part, scan_at, no_places}
 use Rattle.scan.proofs.WithinLaws.{value-within}
 use Rattle.scan.proofs.NameLaws.{found_at, found_nothing}
-use Rattle.scan.proofs.ScanLaws.{left, beyond, falls, Loop, Turn, loop-start, loop-shut, loop-turn, turn-unknown, turn-repeated, turn-skipped, turn-known}
+use Rattle.scan.proofs.ScanLaws.{left, beyond, falls, Loop, Turn, loop_start, loop_shut, loop_turn, turn-unknown, turn_repeated, turn-skipped, turn-known}
 use borrow.Author.Rules.{rules}
 use Rattle.scan.proofs.scan.Statement.{statement}
 use Rattle.scan.proofs.scan.Tie as tie
 
 -- the whole scan
 abbrev whole : List ℕ → List ℕ → List ℕ → ℕ → ℕ → ℕ → Scanned
-whole types names s row p depth = scanAt depth (table types names) s row (length s) (firstPart s 0x7D p) 0 noPlaces
+whole types names s row p depth = scan_at depth (table types names) s row (length s) (first_part s 0x7D p) 0 no_places
 
 abbrev invariant-loop : tie.invariant-loop
 invariant-loop types names s row p depth extensible places₀ met₀ next₀ places met next = Loop depth (table types names) s row (whole types names s row p depth) next met places
@@ -33,16 +33,16 @@ decreases-loop types names s row p depth extensible places₀ met₀ next₀ pla
 turn : (c : tie.After-known-told2 invariant-loop decreases-loop)
     → let a = c.before.before.before.before.before.before.before.before.before.before.args in
     Turn a.depth (table a.types.now a.names.now) a.s.now a.row (whole a.types.now a.names.now a.s.now a.row a.p a.depth) c.before.next2.given.0.0 c.before.before.before.loop.met c.before.before.before.loop.places
-turn c = loop-turn _ _ _ _ c.before.before.before.loop.invariant c.before.next2.given.1
+turn c = loop_turn _ _ _ _ c.before.before.before.loop.invariant c.before.next2.given.1
 
 -- past its value
-onward : (c : tie.After-after-part invariant-loop decreases-loop) → let a = c.before.before.before.before.before.before.before.before.before.before.before.before.before.args in c.after-part.result ≡ beyond a.depth a.s.now c.before.before.before.before.next2.given.0.0
+onward : (c : tie.After-after-part invariant-loop decreases-loop) → let a = c.before.before.before.before.before.before.before.before.before.before.before.before.before.args in c.after_part_lem.result ≡ beyond a.depth a.s.now c.before.before.before.before.next2.given.0.0
 onward c =
     let a = c.before.before.before.before.before.before.before.before.before.before.before.before.before.args in
-    c.after-part.ensures ∙ ap (afterPart a.s.now) (c.before.skip-value.ensures ∙ ap (pastValue a.depth a.s.now) c.before.before.value-place.ensures.0)
+    c.after_part_lem.ensures ∙ ap (after_part a.s.now) (c.before.skip-value.ensures ∙ ap (past_value a.depth a.s.now) c.before.before.value-place.ensures.0)
 
-less : (c : tie.After-after-part invariant-loop decreases-loop) → left c.before.before.before.before.before.before.before.before.before.before.before.before.before.args.s.now c.after-part.result < left c.before.before.before.before.before.before.before.before.before.before.before.before.before.args.s.now c.before.before.before.before.before.before.loop.next
-less c = let a = c.before.before.before.before.before.before.before.before.before.before.before.before.before.args in falls a.depth a.s.now _ c.after-part.result (turn c.before.before.before).within c.before.before.before.before.next2.given.1 (onward c)
+less : (c : tie.After-after-part invariant-loop decreases-loop) → left c.before.before.before.before.before.before.before.before.before.before.before.before.before.args.s.now c.after_part_lem.result < left c.before.before.before.before.before.before.before.before.before.before.before.before.before.args.s.now c.before.before.before.before.before.before.loop.next
+less c = let a = c.before.before.before.before.before.before.before.before.before.before.before.before.before.args in falls a.depth a.s.now _ c.after_part_lem.result (turn c.before.before.before).within c.before.before.before.before.next2.given.1 (onward c)
 
 -- at a name that no member has
 unknown : (c : tie.After-enum-told invariant-loop decreases-loop)
@@ -72,14 +72,14 @@ first-part-requires : tie.Need-first-part-requires invariant-loop decreases-loop
 first-part-requires c κs = search rules
 
 loop-holds : tie.Need-loop-init invariant-loop decreases-loop
-unfolding noPlaces
-loop-holds c = loop-start _ _ _ _ 0x7D c.before.before.before.before.before.before.args.p c.first_part.result c.before.before.before.before.before.before.requires.1 c.first_part.ensures
+unfolding no_places
+loop-holds c = loop_start _ _ _ _ 0x7D c.before.before.before.before.before.before.args.p c.first_part.result c.before.before.before.before.before.before.requires.1 c.first_part.ensures
 
 enum-known-next : tie.Need-enum-known-next invariant-loop decreases-loop
 enum-known-next c = search rules
 
 returns : tie.Need-returns invariant-loop decreases-loop
-returns c = loop-shut _ _ _ _ c.before.before.before.loop.invariant c.before.next.given.1
+returns c = loop_shut _ _ _ _ c.before.before.before.loop.invariant c.before.next.given.1
 
 enum-known-next-2 : tie.Need-enum-known-next-2 invariant-loop decreases-loop
 enum-known-next-2 c = search rules
@@ -117,7 +117,7 @@ bit-requires : tie.Need-bit-requires invariant-loop decreases-loop
 bit-requires c κs = few c
 
 returns-3 : tie.Need-returns-3 invariant-loop decreases-loop
-returns-3 c = turn-repeated _ _ _ _ (turn c.before.before.before.before.before.before.before.before.before) (known c.before.before) (sym c.before.bit.ensures ∙ c.if2.true)
+returns-3 c = turn_repeated _ _ _ _ (turn c.before.before.before.before.before.before.before.before.before) (known c.before.before) (sym c.before.bit.ensures ∙ c.if2.true)
 
 with-requires : tie.Need-with-requires invariant-loop decreases-loop
 with-requires c κs = few c.before.before

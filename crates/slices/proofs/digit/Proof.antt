@@ -1,6 +1,6 @@
 -- Made by tools/answers.py from answers/digit.ans: edit that. 237dce460eaded5b
 use native.Mathlib.Omega.{arith}
-use Rattle.slices.proofs.DigitLaws.{digit-decimal, digit-upper, digit-lower, digit-other}
+use Rattle.slices.proofs.DigitLaws.{digit_decimal, digit-upper, digit-lower, digit-other}
 use borrow.Author.Rules.{rules}
 use Rattle.slices.proofs.digit.Statement.{statement}
 use Rattle.slices.proofs.digit.Tie as tie
@@ -12,7 +12,7 @@ sub-result-2 : tie.Need-overflow-sub-result-2
 sub-result-2 c = search rules
 
 returns : tie.Need-returns
-returns c = (digit-decimal (omega arith), omega arith)
+returns c = (digit_decimal (omega arith), omega arith)
 
 returns-2 : tie.Need-returns-2
 returns-2 c = (digit-upper (omega arith), omega arith)

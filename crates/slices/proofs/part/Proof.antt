@@ -1,5 +1,5 @@
 -- Made by tools/answers.py from answers/part.ans: edit that. 3955bc850823d965
-use Rattle.slices.proofs.PartLaws.{part_none, part-rest, part-whole}
+use Rattle.slices.proofs.PartLaws.{part_none, part_rest, part_whole}
 use borrow.Author.Rules.{rules}
 use Rattle.slices.proofs.part.Statement.{statement}
 use Rattle.slices.proofs.part.Tie as tie
@@ -33,7 +33,7 @@ part-result-end-2 c = search rules
 returns-2 : tie.Need-returns-2
 returns-2 c =
     let a = c.before.before.before.args in
-    part-rest a.s.now a.at a.n c.before.if2.true
+    part_rest a.s.now a.at a.n c.before.if2.true
 
 add-stop : tie.Need-overflow-add-stop
 add-stop c = search rules
@@ -50,7 +50,7 @@ part-result-end-3 c = search rules
 returns-3 : tie.Need-returns-3
 returns-3 c =
     let a = c.before.before.before.args in
-    part-whole a.s.now a.at a.n
+    part_whole a.s.now a.at a.n
 
 pub part-spec : {M : Type 1} → statement M
 part-spec =

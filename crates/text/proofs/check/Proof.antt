@@ -4,16 +4,16 @@ use Prim.Native.Nat.{◌≤◌, ◌-◌}
 use mathlib.Core.Path.{◌≡◌, ◌∙◌, sym}
 use mathlib.Core.Bool.{true, false}
 use lib.ListN.{length, drop}
-use Rattle.jer.specs.Calls.{textJudged}
+use Rattle.jer.specs.Calls.{text_judged}
 use Rattle.text.specs.Class.{IsClasses}
-use Rattle.text.specs.Outline.{IsMode, IsActs, judgedFrom, judgedEnd}
-use Rattle.text.proofs.Texts.{too_long, started, goes_on, not-json, too-deep, ends}
+use Rattle.text.specs.Outline.{IsMode, IsActs, judged_from, judged_end}
+use Rattle.text.proofs.Texts.{too_long, started, goes_on, not-json, too_deep_lem, ends}
 use borrow.Author.Rules.{rules}
 use Rattle.text.proofs.check.Statement.{statement}
 use Rattle.text.proofs.check.Tie as tie
 
 abbrev invariant-loop : tie.invariant-loop
-invariant-loop s classes acts state₀ at₀ state at = IsClasses classes × IsActs acts × (at ≤ length s) × IsMode state.mode × (judgedFrom at state (drop at s) ≡ textJudged s)
+invariant-loop s classes acts state₀ at₀ state at = IsClasses classes × IsActs acts × (at ≤ length s) × IsMode state.mode × (judged_from at state (drop at s) ≡ text_judged s)
 
 abbrev decreases-loop : tie.decreases-loop
 decreases-loop s classes acts state₀ at₀ state at = length s - at
@@ -81,13 +81,13 @@ refused-requires-3 c κs = search rules
 returns-3 : tie.Need-returns-3 invariant-loop decreases-loop
 returns-3 c =
     let l = c.before.before.before.before.before.before.before.before.loop in
-    c.refused3.ensures ∙ too-deep c.before.before.before.before.before.before.before.before.before.before.before.before.before.before.args.s.now l.at l.state l.invariant.4 c.before.before.before.before.before.before.before.loop-test.true (sym c.before.enum-told2.given.1 ∙ c.before.before.before.step.ensures.0)
+    c.refused3.ensures ∙ too_deep_lem c.before.before.before.before.before.before.before.before.before.before.before.before.before.before.args.s.now l.at l.state l.invariant.4 c.before.before.before.before.before.before.before.loop-test.true (sym c.before.enum-told2.given.1 ∙ c.before.before.before.step.ensures.0)
 
 whole-requires : tie.Need-whole-requires invariant-loop decreases-loop
 whole-requires c κs = search rules
 
 returns-4 : tie.Need-returns-4 invariant-loop decreases-loop
-unfolding judgedEnd
+unfolding judged_end
 returns-4 c =
     let l = c.before.before.before.before.before.loop in
     ends c.before.before.before.before.before.before.before.before.before.before.before.args.s.now l.at l.state l.invariant.4 c.before.before.before.before.loop-test.false true (sym c.if2.true ∙ c.before.whole.ensures)
@@ -96,7 +96,7 @@ refused-requires-4 : tie.Need-refused-requires-4 invariant-loop decreases-loop
 refused-requires-4 c κs = search rules
 
 returns-5 : tie.Need-returns-5 invariant-loop decreases-loop
-unfolding judgedEnd
+unfolding judged_end
 returns-5 c =
     let l = c.before.before.before.before.before.before.loop in
     c.refused4.ensures ∙ ends c.before.before.before.before.before.before.before.before.before.before.before.before.args.s.now l.at l.state l.invariant.4 c.before.before.before.before.before.loop-test.false false (sym c.before.if2.false ∙ c.before.before.whole.ensures)

@@ -1,12 +1,12 @@
 -- Made by tools/answers.py from answers/through.ans: edit that. 70ac0ff10310cad4
 use mathlib.Core.Path.{refl}
 use borrow.Author.Tests.{not-true, not-false}
-use Rattle.jer.specs.Judge.{rowsIn}
+use Rattle.jer.specs.Judge.{rows_in}
 use Rattle.jer.specs.Write.{write}
 use Rattle.jer.specs.Table.{table}
 use Rattle.written.proofs.TextLaws.{value-got, value-wrong}
 use native.Mathlib.Omega.{arith}
-use Rattle.writing.proofs.CallLaws.{copied, front-few, answers-as, refuses, too_long, too_small, written, value-bad, left_over, all-taken, end_of, stored-again}
+use Rattle.writing.proofs.CallLaws.{copied, front-few, answers_as, refuses, too_long, too_small, written, value-bad, left_over, all-taken, end_of, stored-again}
 use borrow.Author.Rules.{rules}
 use Rattle.writing.proofs.through.Statement.{statement}
 use Rattle.writing.proofs.through.Tie as tie
@@ -30,7 +30,7 @@ returns : tie.Need-returns
 returns c =
     let a = c.before.before.before.before.before.before.before.before.before.before.before.before.before.before.before.before.args in
     let t = table a.types.now a.names.now in
-    let v = value-got (rowsIn a.values.now) refl 0 c.before.before.before.before.before.before.value.ensures c.before.before.next.given.1 in
+    let v = value-got (rows_in a.values.now) refl 0 c.before.before.before.before.before.before.value.ensures c.before.before.next.given.1 in
     refuses a.text.now (left_over t a.values.now a.pool.now v (not-true _ c.if1.true))
 
 same-length-2 : tie.Need-same-length-2
@@ -40,8 +40,8 @@ returns-2 : tie.Need-returns-2
 returns-2 c =
     let a = c.before.before.before.before.before.before.before.before.before.before.before.before.before.before.before.before.before.args in
     let t = table a.types.now a.names.now in
-    let v = value-got (rowsIn a.values.now) refl 0 c.before.before.before.before.before.before.before.value.ensures c.before.before.before.next.given.1 in
-    answers-as (all-taken t a.values.now a.pool.now v (not-false _ c.before.if1.false)) (too_long a.text.now (write v.what t 0) (end_of v.puts) c.if2.true)
+    let v = value-got (rows_in a.values.now) refl 0 c.before.before.before.before.before.before.before.value.ensures c.before.before.before.next.given.1 in
+    answers_as (all-taken t a.values.now a.pool.now v (not-false _ c.before.if1.false)) (too_long a.text.now (write v.what t 0) (end_of v.puts) c.if2.true)
 
 same-length-3 : tie.Need-same-length-3
 same-length-3 c = search rules
@@ -50,8 +50,8 @@ returns-3 : tie.Need-returns-3
 returns-3 c =
     let a = c.before.before.before.before.before.before.before.before.before.before.before.before.before.before.before.before.before.before.args in
     let t = table a.types.now a.names.now in
-    let v = value-got (rowsIn a.values.now) refl 0 c.before.before.before.before.before.before.before.before.value.ensures c.before.before.before.before.next.given.1 in
-    answers-as (all-taken t a.values.now a.pool.now v (not-false _ c.before.before.if1.false)) (too_small a.text.now (write v.what t 0) (end_of v.puts) c.before.if2.false c.if3.true)
+    let v = value-got (rows_in a.values.now) refl 0 c.before.before.before.before.before.before.before.before.value.ensures c.before.before.before.before.next.given.1 in
+    answers_as (all-taken t a.values.now a.pool.now v (not-false _ c.before.before.if1.false)) (too_small a.text.now (write v.what t 0) (end_of v.puts) c.before.if2.false c.if3.true)
 
 part-requires : tie.Need-part-requires
 part-requires c κs = search rules
@@ -69,9 +69,9 @@ returns-4 : tie.Need-returns-4
 returns-4 c =
     let a = c.before.before.before.before.before.before.before.before.before.before.before.before.before.before.before.before.before.before.before.before.before.before.before.before.before.args in
     let t = table a.types.now a.names.now in
-    let v = value-got (rowsIn a.values.now) refl 0 c.before.before.before.before.before.before.before.before.before.before.before.before.before.before.before.value.ensures c.before.before.before.before.before.before.before.before.before.before.before.next.given.1 in
+    let v = value-got (rows_in a.values.now) refl 0 c.before.before.before.before.before.before.before.before.before.before.before.before.before.before.before.value.ensures c.before.before.before.before.before.before.before.before.before.before.before.next.given.1 in
     let e = end_of v.puts in
-    answers-as (all-taken t a.values.now a.pool.now v (not-false _ c.before.before.before.before.before.before.before.before.before.if1.false))
+    answers_as (all-taken t a.values.now a.pool.now v (not-false _ c.before.before.before.before.before.before.before.before.before.if1.false))
     (written a.text.now (write v.what t 0) e c.before.before.before.before.before.before.before.before.if2.false c.before.before.before.before.before.before.before.if3.false (copied a.text.now v.puts c.before.before.before.before.before.before.before.before.if2.false (omega (arith, c.before.before.before.before.before.before.if4.true, c.before.before.before.before.before.before.before.before.before.before.before.before.before.before.before.value.auto.1.1.1.1.1.0)) c.before.before.before.part.ensures c.before.before.copy.ensures))
 
 value-requires-2 : tie.Need-value-requires-2
@@ -84,7 +84,7 @@ returns-5 : tie.Need-returns-5
 returns-5 c =
     let a = c.before.before.before.before.before.before.before.before.before.before.before.before.before.before.before.args in
     let t = table a.types.now a.names.now in
-    refuses a.text.now (value-bad t a.values.now a.pool.now (value-wrong (rowsIn a.values.now) refl 0 c.before.before.before.before.before.value.ensures c.before.slot.given.1))
+    refuses a.text.now (value-bad t a.values.now a.pool.now (value-wrong (rows_in a.values.now) refl 0 c.before.before.before.before.before.value.ensures c.before.slot.given.1))
 
 same-length-7 : tie.Need-same-length-7
 same-length-7 c = search rules
@@ -96,9 +96,9 @@ returns-6 : tie.Need-returns-6
 returns-6 c =
     let a = c.before.before.before.before.before.before.before.before.before.before.before.before.before.before.before.before.before.before.before.before.before.before.before.before.args in
     let t = table a.types.now a.names.now in
-    let v = value-got (rowsIn a.values.now) refl 0 c.before.before.before.before.before.before.before.before.before.before.before.before.before.before.value.ensures c.before.before.before.before.before.before.before.before.before.before.next.given.1 in
+    let v = value-got (rows_in a.values.now) refl 0 c.before.before.before.before.before.before.before.before.before.before.before.before.before.before.value.ensures c.before.before.before.before.before.before.before.before.before.before.next.given.1 in
     let e = end_of v.puts in
-    answers-as (all-taken t a.values.now a.pool.now v (not-false _ c.before.before.before.before.before.before.before.before.if1.false)) (written a.text.now (write v.what t 0) e c.before.before.before.before.before.before.before.if2.false c.before.before.before.before.before.before.if3.false (stored-again t a.values.now a.pool.now v c.before.before.value2.ensures e c.before.before.before.before.before.before.before.if2.false))
+    answers_as (all-taken t a.values.now a.pool.now v (not-false _ c.before.before.before.before.before.before.before.before.if1.false)) (written a.text.now (write v.what t 0) e c.before.before.before.before.before.before.before.if2.false c.before.before.before.before.before.before.if3.false (stored-again t a.values.now a.pool.now v c.before.before.value2.ensures e c.before.before.before.before.before.before.before.if2.false))
 
 pub through-spec : {M : Type 1} → statement M
 through-spec =

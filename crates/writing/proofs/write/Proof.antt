@@ -1,7 +1,7 @@
 -- Made by tools/answers.py from answers/write.ans: edit that. 47f2f16f06daf761
 use mathlib.Core.Path.{sym, ◌∙◌}
 use Rattle.jer.specs.Table.{table}
-use Rattle.writing.proofs.CallLaws.{answers-as, refuses, table-good, table-bad}
+use Rattle.writing.proofs.CallLaws.{answers_as, refuses, table-good, table-bad}
 use borrow.Author.Rules.{rules}
 use Rattle.writing.proofs.write.Statement.{statement}
 use Rattle.writing.proofs.write.Tie as tie
@@ -24,7 +24,7 @@ returns : tie.Need-returns
 returns c =
     let a = c.before.before.before.before.before.before.before.before.before.args in
     let r = refuses a.text.now (table-bad (table a.types.now a.names.now) a.values.now a.pool.now (sym c.before.e.given.1 ∙ c.before.before.before.check.ensures)) in
-    record { answer = r.answer; textLeft = r.text }
+    record { answer = r.answer; text_left = r.text }
 
 same_length : tie.Need-same-length
 same_length c = search rules
@@ -33,8 +33,8 @@ returns-2 : tie.Need-returns-2
 returns-2 c =
     let a = c.before.before.before.before.before.before.before.before.before.before.before.before.args in
     let g = table-good {t = table a.types.now a.names.now} {ns = a.values.now} {pool = a.pool.now} (sym c.before.before.before.before.enum_told.given.1 ∙ c.before.before.before.before.before.before.check.ensures) in
-    let r = answers-as g.text c.before.before.write-value.ensures in
-    record { answer = r.answer; textLeft = r.text }
+    let r = answers_as g.text c.before.before.write-value.ensures in
+    record { answer = r.answer; text_left = r.text }
 
 pub write_spec : {M : Type 1} → statement M
 write_spec =

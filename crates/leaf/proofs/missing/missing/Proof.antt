@@ -1,7 +1,7 @@
 -- Made by tools/answers.py from answers/missing/missing.ans: edit that. b9803703e120239a
 use mathlib.Core.Path.{refl, sym, ◌∙◌}
-use Rattle.jer.specs.Table.{tNull, tokenCode, table}
-use Rattle.leaf.proofs.LeafLaws.{missing-choice, missing-open, missing-closed, missing-null, missing-other, missing-refused, missing-one, missing-two}
+use Rattle.jer.specs.Table.{t_null, token_code, table}
+use Rattle.leaf.proofs.LeafLaws.{missing-choice, missing_open, missing-closed, missing-null, missing-other, missing-refused, missing-one, missing-two}
 use borrow.Author.Rules.{rules}
 use Rattle.leaf.proofs.missing.missing.Statement.{statement}
 use Rattle.leaf.proofs.missing.missing.Tie as tie
@@ -43,13 +43,13 @@ same_length : tie.Need-same-length
 same_length c = search rules
 
 returns : tie.Need-returns
-unfolding tokenCode
+unfolding token_code
 returns c =
     let a = c.before.before.before.before.before.before.before.before.before.before.before.before.before.before.before.before.before.before.before.before.before.args in
     let w = c.before.before.before.before.before.before.before.before.before.before.before.before.before.before.before.before.before.at in
     let m = c.before.before.before.before.before.before.before.before.before.before.before.before.before.before.before.before.before.before.type-at in
     λ ns pool o. let t = table a.types.now ns in
-    missing-two t a.row a.place a.member a.next (m.ensures ns) (missing-choice t m.result a.place a.member (c.before.before.before.before.before.before.before.before.before.before.before.before.before.before.before.before.is-unwrapped.ensures t m.result (w.ensures ns)) c.before.before.before.before.before.before.before.before.before.before.before.before.before.before.before.if1.true (sym c.before.before.before.before.before.before.before.before.before.before.before.before.k.given.1 ∙ c.before.before.before.before.before.before.before.before.before.before.before.before.before.before.alternative.ensures ns tNull refl)) (w.ensures ns) (c.before.before.before.before.before.type-at2.ensures ns) (c.before.before.before.before.kind-of.ensures ns) c.before.before.before.before.before.before.before.before.before.put-row.ensures c.before.before.before.put-row2.ensures c.read.ensures
+    missing-two t a.row a.place a.member a.next (m.ensures ns) (missing-choice t m.result a.place a.member (c.before.before.before.before.before.before.before.before.before.before.before.before.before.before.before.before.is-unwrapped.ensures t m.result (w.ensures ns)) c.before.before.before.before.before.before.before.before.before.before.before.before.before.before.before.if1.true (sym c.before.before.before.before.before.before.before.before.before.before.before.before.k.given.1 ∙ c.before.before.before.before.before.before.before.before.before.before.before.before.before.before.alternative.ensures ns t_null refl)) (w.ensures ns) (c.before.before.before.before.before.type-at2.ensures ns) (c.before.before.before.before.kind-of.ensures ns) c.before.before.before.before.before.before.before.before.before.put-row.ensures c.before.before.before.put-row2.ensures c.read.ensures
 
 enum_told : tie.Need-enum-told
 enum_told c = search rules
@@ -61,25 +61,25 @@ refused-requires : tie.Need-refused-requires
 refused-requires c κs = search rules
 
 returns-2 : tie.Need-returns-2
-unfolding tokenCode
+unfolding token_code
 returns-2 c =
     let a = c.before.before.before.before.before.before.before.before.before.before.before.before.args in
     let m = c.before.before.before.before.before.before.before.before.before.type-at in
     let w = c.before.before.before.before.before.before.before.before.at in
     λ ns pool o. let t = table a.types.now ns in
-    missing-refused t a.row a.place a.member a.next (m.ensures ns) (missing-open t m.result a.place a.member (c.before.before.before.before.before.before.before.is-unwrapped.ensures t m.result (w.ensures ns)) c.before.before.before.before.before.before.if1.true (sym c.before.before.before.enum_told.given.1 ∙ c.before.before.before.before.before.alternative.ensures ns tNull refl) (c.before.before.extensible.ensures t m.result (w.ensures ns)) c.before.if2.true) c.refused.ensures
+    missing-refused t a.row a.place a.member a.next (m.ensures ns) (missing_open t m.result a.place a.member (c.before.before.before.before.before.before.before.is-unwrapped.ensures t m.result (w.ensures ns)) c.before.before.before.before.before.before.if1.true (sym c.before.before.before.enum_told.given.1 ∙ c.before.before.before.before.before.alternative.ensures ns t_null refl) (c.before.before.extensible.ensures t m.result (w.ensures ns)) c.before.if2.true) c.refused.ensures
 
 refused-requires-2 : tie.Need-refused-requires-2
 refused-requires-2 c κs = search rules
 
 returns-3 : tie.Need-returns-3
-unfolding tokenCode
+unfolding token_code
 returns-3 c =
     let a = c.before.before.before.before.before.before.before.before.before.before.before.before.args in
     let m = c.before.before.before.before.before.before.before.before.before.type-at in
     let w = c.before.before.before.before.before.before.before.before.at in
     λ ns pool o. let t = table a.types.now ns in
-    missing-refused t a.row a.place a.member a.next (m.ensures ns) (missing-closed t m.result a.place a.member (c.before.before.before.before.before.before.before.is-unwrapped.ensures t m.result (w.ensures ns)) c.before.before.before.before.before.before.if1.true (sym c.before.before.before.enum_told.given.1 ∙ c.before.before.before.before.before.alternative.ensures ns tNull refl) (c.before.before.extensible.ensures t m.result (w.ensures ns)) c.before.if2.false) c.refused2.ensures
+    missing-refused t a.row a.place a.member a.next (m.ensures ns) (missing-closed t m.result a.place a.member (c.before.before.before.before.before.before.before.is-unwrapped.ensures t m.result (w.ensures ns)) c.before.before.before.before.before.before.if1.true (sym c.before.before.before.enum_told.given.1 ∙ c.before.before.before.before.before.alternative.ensures ns t_null refl) (c.before.before.extensible.ensures t m.result (w.ensures ns)) c.before.if2.false) c.refused2.ensures
 
 put-row-requires-3 : tie.Need-put-row-requires-3
 put-row-requires-3 c κs = search rules

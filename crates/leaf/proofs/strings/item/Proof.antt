@@ -2,7 +2,7 @@
 use mathlib.Core.Path.{sym, ◌∙◌}
 use Prim.Native.Nat.{◌+◌}
 use Rattle.jer.specs.Table.{position, table}
-use Rattle.tokens.specs.Strings.{denoted, stringEnd}
+use Rattle.tokens.specs.Strings.{denoted, string_end}
 use Rattle.leaf.proofs.StoreLaws.{refuses}
 use Rattle.leaf.proofs.LeafLaws.{item-none, item-bad, item-read}
 use borrow.Author.Rules.{rules}
@@ -49,19 +49,19 @@ returns : tie.Need-returns
 returns c =
     let a = c.before.before.before.before.before.before.before.before.before.before.before.before.before.before.before.args in
     let t = table a.types.now a.names.now in
-    λ pool o. item-read t a.row a.place (stringEnd a.s.now (a.place + 1)) (position t a.row (denoted a.s.now (a.place + 1))) (c.before.before.before.before.before.before.before.before.before.before.at.ensures a.names.now) (sym c.before.before.before.before.before.before.before.k.given.1 ∙ c.before.before.before.before.before.before.before.before.before.position.ensures) c.before.string-end.ensures c.before.before.before.before.put-row.ensures c.read.ensures
+    λ pool o. item-read t a.row a.place (string_end a.s.now (a.place + 1)) (position t a.row (denoted a.s.now (a.place + 1))) (c.before.before.before.before.before.before.before.before.before.before.at.ensures a.names.now) (sym c.before.before.before.before.before.before.before.k.given.1 ∙ c.before.before.before.before.before.before.before.before.before.position.ensures) c.before.string-end.ensures c.before.before.before.before.put-row.ensures c.read.ensures
 
 returns-2 : tie.Need-returns-2
 returns-2 c =
     let a = c.before.before.before.before.before.before.before.before.before.before.before.args in
     let t = table a.types.now a.names.now in
-    λ pool o. refuses (item-none t a.row a.place (stringEnd a.s.now (a.place + 1)) (position t a.row (denoted a.s.now (a.place + 1))) (sym c.before.before.before.enum_told.given.1 ∙ c.before.before.before.before.before.position.ensures) (c.before.before.extensible.ensures t a.row (c.before.before.before.before.before.before.at.ensures a.names.now)) c.before.if1.true) c.refused.ensures
+    λ pool o. refuses (item-none t a.row a.place (string_end a.s.now (a.place + 1)) (position t a.row (denoted a.s.now (a.place + 1))) (sym c.before.before.before.enum_told.given.1 ∙ c.before.before.before.before.before.position.ensures) (c.before.before.extensible.ensures t a.row (c.before.before.before.before.before.before.at.ensures a.names.now)) c.before.if1.true) c.refused.ensures
 
 returns-3 : tie.Need-returns-3
 returns-3 c =
     let a = c.before.before.before.before.before.before.before.before.before.before.before.args in
     let t = table a.types.now a.names.now in
-    λ pool o. refuses (item-bad t a.row a.place (stringEnd a.s.now (a.place + 1)) (position t a.row (denoted a.s.now (a.place + 1))) (sym c.before.before.before.enum_told.given.1 ∙ c.before.before.before.before.before.position.ensures) (c.before.before.extensible.ensures t a.row (c.before.before.before.before.before.before.at.ensures a.names.now)) c.before.if1.false) c.refused2.ensures
+    λ pool o. refuses (item-bad t a.row a.place (string_end a.s.now (a.place + 1)) (position t a.row (denoted a.s.now (a.place + 1))) (sym c.before.before.before.enum_told.given.1 ∙ c.before.before.before.before.before.position.ensures) (c.before.before.extensible.ensures t a.row (c.before.before.before.before.before.before.at.ensures a.names.now)) c.before.if1.false) c.refused2.ensures
 
 pub item-spec : {M : Type 1} → statement M
 item-spec =

@@ -2,7 +2,7 @@
 use mathlib.Core.Path.{ap, ◌∙◌}
 use Prim.Native.Nat.{◌+◌}
 use Rattle.tokens.specs.Strings.{denoted}
-use Rattle.octets.specs.Decode.{foundOf}
+use Rattle.octets.specs.Decode.{found_of}
 use Rattle.jer.specs.Table.{table}
 use Rattle.leaf.proofs.LeafLaws.{base64-of, hex-of, stored_at}
 use borrow.Author.Rules.{rules}
@@ -35,7 +35,7 @@ returns c =
     let a = c.before.before.before.before.before.before.before.before.before.before.before.before.args in
     let d = denoted a.s.now (a.place + 1) in
     let f = c.before.before.base64-octets in (
-      λ ns. f.ensures.0 ∙ ap foundOf (base64-of (table a.types.now ns) a.row d (c.before.before.before.before.before.is-base64.ensures _ _ (c.before.before.before.before.before.before.at.ensures ns)) c.before.before.before.before.if1.true),
+      λ ns. f.ensures.0 ∙ ap found_of (base64-of (table a.types.now ns) a.row d (c.before.before.before.before.before.is-base64.ensures _ _ (c.before.before.before.before.before.before.at.ensures ns)) c.before.before.before.before.if1.true),
       λ ns h. stored_at _ _ (base64-of (table a.types.now ns) a.row d (c.before.before.before.before.before.is-base64.ensures _ _ (c.before.before.before.before.before.before.at.ensures ns)) c.before.before.before.before.if1.true) (c.before.before.before.before.before.before.before.wide.ensures.0 ∙ c.before.before.before.before.before.before.before.before.narrow.ensures h) f.ensures.1,
     )
 
@@ -53,7 +53,7 @@ returns-2 c =
     let a = c.before.before.before.before.before.before.before.before.before.before.before.before.args in
     let d = denoted a.s.now (a.place + 1) in
     let f = c.before.before.hex-octets in (
-      λ ns. f.ensures.0 ∙ ap foundOf (hex-of (table a.types.now ns) a.row d (c.before.before.before.before.before.is-base64.ensures _ _ (c.before.before.before.before.before.before.at.ensures ns)) c.before.before.before.before.if1.false),
+      λ ns. f.ensures.0 ∙ ap found_of (hex-of (table a.types.now ns) a.row d (c.before.before.before.before.before.is-base64.ensures _ _ (c.before.before.before.before.before.before.at.ensures ns)) c.before.before.before.before.if1.false),
       λ ns h. stored_at _ _ (hex-of (table a.types.now ns) a.row d (c.before.before.before.before.before.is-base64.ensures _ _ (c.before.before.before.before.before.before.at.ensures ns)) c.before.before.before.before.if1.false) (c.before.before.before.before.before.before.before.wide.ensures.0 ∙ c.before.before.before.before.before.before.before.before.narrow.ensures h) f.ensures.1,
     )
 

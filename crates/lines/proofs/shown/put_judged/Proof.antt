@@ -1,5 +1,5 @@
 -- Made by tools/answers.py from answers/shown/put_judged.ans: edit that. e18d8172a3ea5a99
-use Rattle.lines.proofs.ShownLaws.{shown-as, judged-good, judged-refused}
+use Rattle.lines.proofs.ShownLaws.{shown_as, judged-good, judged-refused}
 use borrow.Author.Rules.{rules}
 use Rattle.lines.proofs.shown.put_judged.Statement.{statement}
 use Rattle.lines.proofs.shown.put_judged.Tie as tie
@@ -42,7 +42,7 @@ same-length-2 c = search rules
 returns-2 : tie.Need-returns-2
 returns-2 c =
     let a = c.before.before.before.before.before.before.before.before.before.before.args in
-    shown-as a.text.now 0 (judged-refused c.before.before.before.before.before.before.before.j.given.1 c.before.before.before.before.before.report.ensures) c.before.before.put-no.ensures
+    shown_as a.text.now 0 (judged-refused c.before.before.before.before.before.before.before.j.given.1 c.before.before.before.before.before.report.ensures) c.before.before.put-no.ensures
 
 pub put-judged-spec : {M : Type 1} → statement M
 put-judged-spec =

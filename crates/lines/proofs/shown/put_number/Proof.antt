@@ -1,7 +1,7 @@
 -- Made by tools/answers.py from answers/shown/put_number.ans: edit that. 4c46df590bad0989
 use mathlib.Core.Path.{◌∙◌}
 use native.Mathlib.Omega.{arith}
-use Rattle.octets.proofs.PutLaws.{sets-as}
+use Rattle.octets.proofs.PutLaws.{sets_as}
 use Rattle.lines.proofs.ShownLaws.{number_digits, number-length}
 use borrow.Author.Rules.{rules}
 use Rattle.lines.proofs.shown.put_number.Statement.{statement}
@@ -24,7 +24,7 @@ returns c =
     let a = c.before.before.before.before.before.before.before.args in
     let four = c.before.before.before.before.before.octets-of.ensures in
     let stored = c.before.before.put-hex.ensures in
-    (stored.0 ∙ number-length a.x four, sets-as a.text.now a.k (number_digits a.x four) stored.1)
+    (stored.0 ∙ number-length a.x four, sets_as a.text.now a.k (number_digits a.x four) stored.1)
 
 pub put-number-spec : {M : Type 1} → statement M
 put-number-spec =

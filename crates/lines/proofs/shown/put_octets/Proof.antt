@@ -2,7 +2,7 @@
 use native.Mathlib.Omega.{arith}
 use Rattle.jer.specs.Octets.{hex}
 use Rattle.octets.proofs.EncodeLaws.{hex-length}
-use Rattle.lines.proofs.ShownLaws.{line-length, line-stored}
+use Rattle.lines.proofs.ShownLaws.{line_length, line_stored}
 use borrow.Author.Rules.{rules}
 use Rattle.lines.proofs.shown.put_octets.Statement.{statement}
 use Rattle.lines.proofs.shown.put_octets.Tie as tie
@@ -26,7 +26,7 @@ returns : tie.Need-returns
 returns c =
     let a = c.before.before.before.before.before.before.before.before.before.before.args in
     let digits = c.before.before.before.before.before.before.put-hex.ensures in
-    (omega (arith, line-length (hex a.octets.now), digits.0), line-stored (hex a.octets.now) a.text.now a.k digits.0 digits.1 c.before.before.put.ensures)
+    (omega (arith, line_length (hex a.octets.now), digits.0), line_stored (hex a.octets.now) a.text.now a.k digits.0 digits.1 c.before.before.put.ensures)
 
 pub put-octets-spec : {M : Type 1} → statement M
 put-octets-spec =

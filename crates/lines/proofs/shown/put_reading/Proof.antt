@@ -2,10 +2,10 @@
 use native.Mathlib.Omega.{arith}
 use lib.ListN.{take}
 use Rattle.jer.specs.Octets.{hex}
-use Rattle.jer.specs.Programs.{endLine}
+use Rattle.jer.specs.Programs.{end_line}
 use Rattle.octets.proofs.EncodeLaws.{hex-length}
-use Rattle.lines.specs.Shown.{fourLines}
-use Rattle.lines.proofs.ShownLaws.{line-length, fours-length, shown-as, shown-next, part-line, part_length, reading-refused, reading-read}
+use Rattle.lines.specs.Shown.{four_lines}
+use Rattle.lines.proofs.ShownLaws.{line_length, fours_length, shown_as, shown-next, part_line, part_length, reading_refused, reading_read}
 use borrow.Author.Rules.{rules}
 use Rattle.lines.proofs.shown.put_reading.Statement.{statement}
 use Rattle.lines.proofs.shown.put_reading.Tie as tie
@@ -30,7 +30,7 @@ put-octets-requires c κs =
     let a = c.before.before.before.before.before.before.before.before.before.before.before.before.args in
     let n = c.before.before.before.before.before.before.before.r2.given.0.0 in
     let m = c.before.before.before.before.before.before.before.r2.given.0.1.0 in
-    omega (arith, c.before.before.before.before.put-rows.ensures.0, fours-length n a.rows.now, part_length m a.pool.now c.part.ensures)
+    omega (arith, c.before.before.before.before.put-rows.ensures.0, fours_length n a.rows.now, part_length m a.pool.now c.part.ensures)
 
 add-result : tie.Need-overflow-add-result
 add-result c =
@@ -38,7 +38,7 @@ add-result c =
     let n = c.before.before.before.before.before.before.before.before.before.before.r2.given.0.0 in
     let m = c.before.before.before.before.before.before.before.before.before.before.r2.given.0.1.0 in
     let os = c.before.before.before.part in
-    omega (arith, c.before.before.before.before.before.before.before.put-rows.ensures.0, fours-length n a.rows.now, part_length m a.pool.now os.ensures, hex-length os.result.now, line-length (hex os.result.now), c.before.before.put-octets.ensures.0)
+    omega (arith, c.before.before.before.before.before.before.before.put-rows.ensures.0, fours_length n a.rows.now, part_length m a.pool.now os.ensures, hex-length os.result.now, line_length (hex os.result.now), c.before.before.put-octets.ensures.0)
 
 same_length : tie.Need-same-length
 same_length c = search rules
@@ -46,7 +46,7 @@ same_length c = search rules
 returns : tie.Need-returns
 returns c =
     let a = c.before.before.before.before.before.before.before.before.before.before.args in
-    shown-as a.text.now 0 (reading-refused a.rows.now a.pool.now c.before.before.before.before.before.r.given.1) c.before.before.put-refusal.ensures
+    shown_as a.text.now 0 (reading_refused a.rows.now a.pool.now c.before.before.before.before.before.r.given.1) c.before.before.put-refusal.ensures
 
 same-length-2 : tie.Need-same-length-2
 same-length-2 c = search rules
@@ -57,8 +57,8 @@ returns-2 c =
     let r = c.before.before.before.before.before.before.before.before.before.before.r2.given in
     let m = r.0.1.0 in
     let k = c.before.before.before.before.before.before.before.put-rows in
-    let line = shown-as k.new.0 k.result (part-line m a.pool.now c.before.before.before.part.ensures) c.before.before.put-octets.ensures in
-    shown-as a.text.now 0 (reading-read a.rows.now a.pool.now r.1) (shown-next a.text.now (fourLines r.0.0 a.rows.now) (endLine (hex (take m a.pool.now))) k.ensures line)
+    let line = shown_as k.new.0 k.result (part_line m a.pool.now c.before.before.before.part.ensures) c.before.before.put-octets.ensures in
+    shown_as a.text.now 0 (reading_read a.rows.now a.pool.now r.1) (shown-next a.text.now (four_lines r.0.0 a.rows.now) (end_line (hex (take m a.pool.now))) k.ensures line)
 
 pub put-reading-spec : {M : Type 1} → statement M
 put-reading-spec =

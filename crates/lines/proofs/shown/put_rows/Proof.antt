@@ -2,15 +2,15 @@
 use Prim.Native.Nat.{◌+◌, ◌-◌, ◌≤◌}
 use native.Mathlib.Omega.{arith}
 use lib.ListN.{length, drop, get_or}
-use Rattle.octets.proofs.PutLaws.{Putting, putting-done}
-use Rattle.lines.specs.Shown.{fourLines}
-use Rattle.lines.proofs.ShownLaws.{four-length, fours-length, fours-start, fours-none, fours-done, fours-next}
+use Rattle.octets.proofs.PutLaws.{Putting, putting_done}
+use Rattle.lines.specs.Shown.{four_lines}
+use Rattle.lines.proofs.ShownLaws.{four-length, fours_length, fours_start, fours_none, fours_done, fours_next}
 use borrow.Author.Rules.{rules}
 use Rattle.lines.proofs.shown.put_rows.Statement.{statement}
 use Rattle.lines.proofs.shown.put_rows.Tie as tie
 
 abbrev invariant-loop : tie.invariant-loop
-invariant-loop text₀ rows n i₀ j₀ k₀ text i j k = Putting (fourLines n rows) (fourLines (n - j) (drop i rows)) text₀ text 0 k × (i ≤ length rows)
+invariant-loop text₀ rows n i₀ j₀ k₀ text i j k = Putting (four_lines n rows) (four_lines (n - j) (drop i rows)) text₀ text 0 k × (i ≤ length rows)
 
 abbrev decreases-loop : tie.decreases-loop
 decreases-loop text₀ rows n i₀ j₀ k₀ text i j k = length rows - i
@@ -18,7 +18,7 @@ decreases-loop text₀ rows n i₀ j₀ k₀ text i j k = length rows - i
 loop-holds : tie.Need-loop-init invariant-loop decreases-loop
 loop-holds c =
     let a = c.before.before.args in
-    (fours-start a.n a.rows.now a.text.now, omega arith)
+    (fours_start a.n a.rows.now a.text.now, omega arith)
 
 sub-loop : tie.Need-overflow-sub-loop invariant-loop decreases-loop
 sub-loop c = search rules
@@ -30,7 +30,7 @@ returns : tie.Need-returns invariant-loop decreases-loop
 returns c =
     let a = c.before.before.before.before.before.args in
     let l = c.before.before.loop in
-    putting-done l.invariant.0 (fours-none (a.n - l.j) (drop l.i a.rows.now) (omega arith))
+    putting_done l.invariant.0 (fours_none (a.n - l.j) (drop l.i a.rows.now) (omega arith))
 
 mul-put-four : tie.Need-overflow-mul-put-four invariant-loop decreases-loop
 mul-put-four c = search rules
@@ -80,13 +80,13 @@ cast-put-four-4 c = omega (arith, c.shared-slice-known5.given (c.before.before.b
 put-four-requires : tie.Need-put-four-requires invariant-loop decreases-loop
 put-four-requires c κs =
     let a = c.before.before.before.before.before.before.before.before.before.before.args in
-    omega (arith, fours-length a.n a.rows.now, c.before.before.before.before.before.before.before.loop.invariant.0.count)
+    omega (arith, fours_length a.n a.rows.now, c.before.before.before.before.before.before.before.loop.invariant.0.count)
 
 add-k : tie.Need-overflow-add-k invariant-loop decreases-loop
 add-k c =
     let a = c.before.before.before.before.before.before.before.before.before.before.before.before.before.args in
     let l = c.before.before.before.before.before.before.before.before.before.before.loop in
-    omega (arith, fours-length a.n a.rows.now, l.invariant.0.count, c.before.before.put_four.ensures.0, four-length (get_or a.rows.now l.i 0) (get_or a.rows.now (l.i + 1) 0) (get_or a.rows.now (l.i + 2) 0) (get_or a.rows.now (l.i + 3) 0))
+    omega (arith, fours_length a.n a.rows.now, l.invariant.0.count, c.before.before.put_four.ensures.0, four-length (get_or a.rows.now l.i 0) (get_or a.rows.now (l.i + 1) 0) (get_or a.rows.now (l.i + 2) 0) (get_or a.rows.now (l.i + 3) 0))
 
 add-i : tie.Need-overflow-add-i invariant-loop decreases-loop
 add-i c = search rules
@@ -102,7 +102,7 @@ loop-again c =
     let a = c.before.before.before.before.before.before.before.before.before.before.before.before.before.args in
     let l = c.before.before.before.before.before.before.before.before.before.before.loop in
     let f = c.before.before.put_four in
-    (fours-next a.rows.now a.n l.i l.j l.invariant.0 c.before.before.before.before.before.before.before.before.before.loop-test.true c.before.before.before.before.before.before.before.before.if1.false f.ensures.0 f.ensures.1 f.auto.0, omega arith)
+    (fours_next a.rows.now a.n l.i l.j l.invariant.0 c.before.before.before.before.before.before.before.before.before.loop-test.true c.before.before.before.before.before.before.before.before.if1.false f.ensures.0 f.ensures.1 f.auto.0, omega arith)
 
 same-length-2 : tie.Need-same-length-2 invariant-loop decreases-loop
 same-length-2 c = c.before.loop.invariant.0.kept
@@ -111,7 +111,7 @@ returns-2 : tie.Need-returns-2 invariant-loop decreases-loop
 returns-2 c =
     let a = c.before.before.before.before.args in
     let l = c.before.loop in
-    putting-done l.invariant.0 (fours-done a.rows.now a.n l.i l.j (omega arith))
+    putting_done l.invariant.0 (fours_done a.rows.now a.n l.i l.j (omega arith))
 
 pub put-rows-spec : {M : Type 1} → statement M
 put-rows-spec =

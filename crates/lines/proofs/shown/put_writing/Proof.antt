@@ -1,7 +1,7 @@
 -- Made by tools/answers.py from answers/shown/put_writing.ans: edit that. 279a1fa0ac3a27fe
 use mathlib.Core.Path.{◌∙◌}
 use native.Mathlib.Omega.{arith}
-use Rattle.lines.proofs.ShownLaws.{shown-as, part-line, part_length, writing-refused, writing-written}
+use Rattle.lines.proofs.ShownLaws.{shown_as, part_line, part_length, writing_refused, writing_written}
 use borrow.Author.Rules.{rules}
 use Rattle.lines.proofs.shown.put_writing.Statement.{statement}
 use Rattle.lines.proofs.shown.put_writing.Tie as tie
@@ -27,7 +27,7 @@ same_length c = search rules
 returns : tie.Need-returns
 returns c =
     let a = c.before.before.before.before.before.before.before.before.before.args in
-    shown-as a.out.now 0 (writing-refused a.text.now c.before.before.before.before.before.w.given.1) c.before.before.put-refusal.ensures
+    shown_as a.out.now 0 (writing_refused a.text.now c.before.before.before.before.before.w.given.1) c.before.before.put-refusal.ensures
 
 same-length-2 : tie.Need-same-length-2
 same-length-2 c = search rules
@@ -36,7 +36,7 @@ returns-2 : tie.Need-returns-2
 returns-2 c =
     let a = c.before.before.before.before.before.before.before.before.before.before.args in
     let w = c.before.before.before.before.before.before.w2.given in
-    shown-as a.out.now 0 (part-line w.0.0 a.text.now c.before.before.before.part.ensures ∙ writing-written a.text.now w.1) c.before.before.put-octets.ensures
+    shown_as a.out.now 0 (part_line w.0.0 a.text.now c.before.before.before.part.ensures ∙ writing_written a.text.now w.1) c.before.before.put-octets.ensures
 
 pub put-writing-spec : {M : Type 1} → statement M
 put-writing-spec =

@@ -1,6 +1,6 @@
 -- Made by tools/answers.py from answers/taken/is_good.ans: edit that. 7a51fe4fe99c57c4
 use mathlib.Core.Path.{◌∙◌}
-use Rattle.lines.proofs.TakenLaws.{over-long, odd-line, not-whole, whole}
+use Rattle.lines.proofs.TakenLaws.{over-long, odd_line, not-whole, whole}
 use borrow.Author.Rules.{rules}
 use Rattle.lines.proofs.taken.is_good.Statement.{statement}
 use Rattle.lines.proofs.taken.is_good.Tie as tie
@@ -9,7 +9,7 @@ returns : tie.Need-returns
 returns c = over-long c.before.before.args.unit c.before.before.args.line.now c.if1.true
 
 returns-2 : tie.Need-returns-2
-returns-2 c = odd-line c.before.before.before.args.unit c.before.before.before.args.line.now c.before.if1.false c.if2.true
+returns-2 c = odd_line c.before.before.before.args.unit c.before.before.before.args.line.now c.before.if1.false c.if2.true
 
 rem-if3 : tie.Need-nonzero-rem-if3
 rem-if3 c = search rules

@@ -3,14 +3,14 @@ use native.Mathlib.Omega.{arith}
 use Prim.Native.Nat.{◌-◌}
 use mathlib.Core.Path.{◌≡◌, sym, ◌∙◌}
 use lib.ListN.{length, drop}
-use Rattle.lines.specs.Taken.{isHex}
+use Rattle.lines.specs.Taken.{is_hex}
 use Rattle.lines.proofs.TakenLaws.{hex-none, hex-here, hex-more}
 use borrow.Author.Rules.{rules}
 use Rattle.lines.proofs.taken.is_hex.Statement.{statement}
 use Rattle.lines.proofs.taken.is_hex.Tie as tie
 
 abbrev invariant-loop : tie.invariant-loop
-invariant-loop line i₀ i = isHex (drop i line) ≡ isHex line
+invariant-loop line i₀ i = is_hex (drop i line) ≡ is_hex line
 
 abbrev decreases-loop : tie.decreases-loop
 decreases-loop line i₀ i = length line - i

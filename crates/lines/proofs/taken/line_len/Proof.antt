@@ -3,14 +3,14 @@ use Prim.Native.Nat.{◌+◌, ◌-◌, ◌≤◌}
 use mathlib.Core.Path.{◌≡◌}
 use native.Mathlib.Omega.{arith}
 use lib.ListN.{length, drop}
-use Rattle.jer.specs.Programs.{lineFrom}
-use Rattle.lines.proofs.TakenLaws.{line-none, line-here, line-more}
+use Rattle.jer.specs.Programs.{line_from}
+use Rattle.lines.proofs.TakenLaws.{line_none, line_here, line_more}
 use borrow.Author.Rules.{rules}
 use Rattle.lines.proofs.taken.line_len.Statement.{statement}
 use Rattle.lines.proofs.taken.line_len.Tie as tie
 
 abbrev invariant-loop : tie.invariant-loop
-invariant-loop s at i₀ i = (at ≤ i) × (i ≤ length s) × (i - at + length (lineFrom (drop i s)).bytes ≡ length (lineFrom (drop at s)).bytes)
+invariant-loop s at i₀ i = (at ≤ i) × (i ≤ length s) × (i - at + length (line_from (drop i s)).bytes ≡ length (line_from (drop at s)).bytes)
 
 abbrev decreases-loop : tie.decreases-loop
 decreases-loop s at i₀ i = length s - i
@@ -26,7 +26,7 @@ sub-result c = search rules
 
 returns : tie.Need-returns invariant-loop decreases-loop
 returns c =
-    let l = line-here c.before.before.before.before.args.s.now c.before.before.before.loop.i c.before.before.loop-test.true c.if1.true in omega (arith, l, c.before.before.before.loop.invariant)
+    let l = line_here c.before.before.before.before.args.s.now c.before.before.before.loop.i c.before.before.loop-test.true c.if1.true in omega (arith, l, c.before.before.before.loop.invariant)
 
 add-i : tie.Need-overflow-add-i invariant-loop decreases-loop
 add-i c = search rules
@@ -36,13 +36,13 @@ loop-less c = search rules
 
 loop-again : tie.Need-loop-preserved invariant-loop decreases-loop
 loop-again c =
-    let l = line-more c.before.before.before.before.args.s.now c.before.before.before.loop.i c.before.before.loop-test.true c.if1.false in (omega (arith, c.before.before.before.loop.invariant), omega (arith, c.before.before.before.loop.invariant), omega (arith, l, c.before.before.before.loop.invariant))
+    let l = line_more c.before.before.before.before.args.s.now c.before.before.before.loop.i c.before.before.loop-test.true c.if1.false in (omega (arith, c.before.before.before.loop.invariant), omega (arith, c.before.before.before.loop.invariant), omega (arith, l, c.before.before.before.loop.invariant))
 
 sub-result-2 : tie.Need-overflow-sub-result-2 invariant-loop decreases-loop
 sub-result-2 c = search rules
 
 returns-2 : tie.Need-returns-2 invariant-loop decreases-loop
-returns-2 c = omega (arith, line-none c.before.before.args.s.now c.before.loop.i c.loop-test.false, c.before.loop.invariant)
+returns-2 c = omega (arith, line_none c.before.before.args.s.now c.before.loop.i c.loop-test.false, c.before.loop.invariant)
 
 pub line-len-spec : {M : Type 1} → statement M
 line-len-spec =

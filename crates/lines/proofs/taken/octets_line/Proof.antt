@@ -1,7 +1,7 @@
 -- Made by tools/answers.py from answers/taken/octets_line.ans: edit that. ff5300ca0042268e
 use borrow.Author.Tests.{not-true, not-false}
 use mathlib.Core.Path.{sym, ◌∙◌}
-use Rattle.lines.proofs.TakenLaws.{good, line-ends, octets-missing, octets-bad, octets-taken}
+use Rattle.lines.proofs.TakenLaws.{good, line_ends, octets-missing, octets-bad, octets-taken}
 use borrow.Author.Rules.{rules}
 use Rattle.lines.proofs.taken.octets_line.Statement.{statement}
 use Rattle.lines.proofs.taken.octets_line.Tie as tie
@@ -26,12 +26,12 @@ store-octets-requires c κs = (good 1 c.before.before.before.part.result.now (sy
 
 add-t12 : tie.Need-overflow-add-t12
 add-t12 c =
-    let w = line-ends c.before.before.before.before.before.before.before.before.before.before.before.args.s.now c.before.before.before.before.before.before.before.before.before.before.before.args.at c.before.before.before.before.before.before.before.before.before.before.before.args.out.now c.before.before.before.before.before.before.before.before.if1.false c.before.before.before.before.before.before.before.line-len.ensures c.before.before.before.before.before.before.part.ensures in
+    let w = line_ends c.before.before.before.before.before.before.before.before.before.before.before.args.s.now c.before.before.before.before.before.before.before.before.before.before.before.args.at c.before.before.before.before.before.before.before.before.before.before.before.args.out.now c.before.before.before.before.before.before.before.before.if1.false c.before.before.before.before.before.before.before.line-len.ensures c.before.before.before.before.before.before.part.ensures in
     search rules
 
 add-t13 : tie.Need-overflow-add-t13
 add-t13 c =
-    let w = line-ends c.before.before.before.before.before.before.before.before.before.before.before.args.s.now c.before.before.before.before.before.before.before.before.before.before.before.args.at c.before.before.before.before.before.before.before.before.before.before.before.args.out.now c.before.before.before.before.before.before.before.before.if1.false c.before.before.before.before.before.before.before.line-len.ensures c.before.before.before.before.before.before.part.ensures in
+    let w = line_ends c.before.before.before.before.before.before.before.before.before.before.before.args.s.now c.before.before.before.before.before.before.before.before.before.before.before.args.at c.before.before.before.before.before.before.before.before.before.before.before.args.out.now c.before.before.before.before.before.before.before.before.if1.false c.before.before.before.before.before.before.before.line-len.ensures c.before.before.before.before.before.before.part.ensures in
     search rules
 
 same_length : tie.Need-same-length

@@ -3,15 +3,15 @@ use Prim.Native.Nat.{◌-◌, ◌≤◌}
 use native.Mathlib.Omega.{arith}
 use lib.ListN.{length, drop}
 use Rattle.octets.proofs.PutLaws.{Putting}
-use Rattle.jer.specs.Programs.{numbersIn}
-use Rattle.lines.specs.Taken.{octetsOf}
+use Rattle.jer.specs.Programs.{numbers_in}
+use Rattle.lines.specs.Taken.{octets_of}
 use Rattle.lines.proofs.TakenLaws.{numbers-next, numbers-stored}
 use borrow.Author.Rules.{rules}
 use Rattle.lines.proofs.taken.store_numbers.Statement.{statement}
 use Rattle.lines.proofs.taken.store_numbers.Tie as tie
 
 abbrev invariant-loop : tie.invariant-loop
-invariant-loop line out₀ i₀ k₀ out i k = Putting (numbersIn (octetsOf line)) (numbersIn (octetsOf (drop i line))) out₀ out 0 k × (i ≤ length line) × (k ≤ i)
+invariant-loop line out₀ i₀ k₀ out i k = Putting (numbers_in (octets_of line)) (numbers_in (octets_of (drop i line))) out₀ out 0 k × (i ≤ length line) × (k ≤ i)
 
 abbrev decreases-loop : tie.decreases-loop
 decreases-loop line out₀ i₀ k₀ out i k = length line - i

@@ -3,14 +3,14 @@ use Prim.Native.Nat.{◌-◌, ◌≤◌}
 use native.Mathlib.Omega.{arith}
 use lib.ListN.{length, drop}
 use Rattle.octets.proofs.PutLaws.{Putting}
-use Rattle.lines.specs.Taken.{octetsOf}
+use Rattle.lines.specs.Taken.{octets_of}
 use Rattle.lines.proofs.TakenLaws.{octets-next, octets-stored}
 use borrow.Author.Rules.{rules}
 use Rattle.lines.proofs.taken.store_octets.Statement.{statement}
 use Rattle.lines.proofs.taken.store_octets.Tie as tie
 
 abbrev invariant-loop : tie.invariant-loop
-invariant-loop line out₀ i₀ k₀ out i k = Putting (octetsOf line) (octetsOf (drop i line)) out₀ out 0 k × (i ≤ length line) × (k ≤ i)
+invariant-loop line out₀ i₀ k₀ out i k = Putting (octets_of line) (octets_of (drop i line)) out₀ out 0 k × (i ≤ length line) × (k ≤ i)
 
 abbrev decreases-loop : tie.decreases-loop
 decreases-loop line out₀ i₀ k₀ out i k = length line - i

@@ -2,10 +2,10 @@
 use mathlib.Core.Path.{sym, subst, ◌∙◌}
 use native.Mathlib.Omega.{arith}
 use borrow.Author.Tests.{not-true, not-false}
-use Rattle.jer.specs.Octets.{base64Value}
+use Rattle.jer.specs.Octets.{base64_value}
 use Rattle.octets.specs.Decode.{Reads}
 use Rattle.octets.proofs.DigitLaws.{base64-below}
-use Rattle.octets.proofs.GroupLaws.{without, tail-bits, tail-other, tail-one, tail-bits-2, tail-other-2, tail-two, tail-three}
+use Rattle.octets.proofs.GroupLaws.{without, tail-bits, tail-other, tail-one, tail-bits_2, tail-other_2, tail-two, tail-three}
 use borrow.Author.Rules.{rules}
 use Rattle.octets.proofs.decode.base64_tail.Statement.{statement}
 use Rattle.octets.proofs.decode.base64_tail.Tie as tie
@@ -47,8 +47,8 @@ enum-known-w c = search rules
 
 returns-4 : tie.Need-returns-4
 returns-4 c =
-    let d = subst (Reads base64Value c.before.before.before.before.before.before.before.before.args.s.now c.before.before.before.before.before.before.before.before.args.i) c.before.before.before.before.z.given.1 c.before.before.before.before.before.before.base64-digit.ensures in
-    tail-bits-2 d (without c.before.before.base64-digit2.result c.before.match2.keys2 c.before.before.base64-digit2.ensures) (λ e. c.if3.true (omega arith))
+    let d = subst (Reads base64_value c.before.before.before.before.before.before.before.before.args.s.now c.before.before.before.before.before.before.before.before.args.i) c.before.before.before.before.z.given.1 c.before.before.before.before.before.before.base64-digit.ensures in
+    tail-bits_2 d (without c.before.before.base64-digit2.result c.before.match2.keys2 c.before.before.base64-digit2.ensures) (λ e. c.if3.true (omega arith))
 
 slice-aggregate-same-as-2 : tie.Need-slice-aggregate-same-as-2
 slice-aggregate-same-as-2 c = search rules
@@ -58,8 +58,8 @@ same-as-requires-2 c κs = search rules
 
 returns-5 : tie.Need-returns-5
 returns-5 c =
-    let d = subst (Reads base64Value c.before.before.before.before.before.before.before.before.before.before.before.args.s.now c.before.before.before.before.before.before.before.before.before.before.before.args.i) c.before.before.before.before.before.before.before.z.given.1 c.before.before.before.before.before.before.before.before.before.base64-digit.ensures in
-    tail-other-2 d (without c.before.before.before.before.before.base64-digit2.result c.before.before.before.before.match2.keys2 c.before.before.before.before.before.base64-digit2.ensures) (sym c.before.same-as2.ensures ∙ not-true c.before.same-as2.result c.if4.true)
+    let d = subst (Reads base64_value c.before.before.before.before.before.before.before.before.before.before.before.args.s.now c.before.before.before.before.before.before.before.before.before.before.before.args.i) c.before.before.before.before.before.before.before.z.given.1 c.before.before.before.before.before.before.before.before.before.base64-digit.ensures in
+    tail-other_2 d (without c.before.before.before.before.before.base64-digit2.result c.before.before.before.before.match2.keys2 c.before.before.before.before.before.base64-digit2.ensures) (sym c.before.same-as2.ensures ∙ not-true c.before.same-as2.result c.if4.true)
 
 mul-t21 : tie.Need-overflow-mul-t21
 mul-t21 c = search rules
@@ -72,12 +72,12 @@ mul-t29 c = search rules
 
 add-t31 : tie.Need-overflow-add-t31
 add-t31 c =
-    let d = subst (Reads base64Value c.before.before.before.before.before.before.before.before.before.before.before.args.s.now c.before.before.before.before.before.before.before.before.before.before.before.args.i) c.before.before.before.before.before.before.before.z.given.1 c.before.before.before.before.before.before.before.before.before.base64-digit.ensures in
+    let d = subst (Reads base64_value c.before.before.before.before.before.before.before.before.before.before.before.args.s.now c.before.before.before.before.before.before.before.before.before.before.before.args.i) c.before.before.before.before.before.before.before.z.given.1 c.before.before.before.before.before.before.before.before.before.base64-digit.ensures in
     omega (arith, base64-below d)
 
 returns-6 : tie.Need-returns-6
 returns-6 c =
-    let d = subst (Reads base64Value c.before.before.before.before.before.before.before.before.before.before.before.args.s.now c.before.before.before.before.before.before.before.before.before.before.before.args.i) c.before.before.before.before.before.before.before.z.given.1 c.before.before.before.before.before.before.before.before.before.base64-digit.ensures in
+    let d = subst (Reads base64_value c.before.before.before.before.before.before.before.before.before.before.before.args.s.now c.before.before.before.before.before.before.before.before.before.before.before.args.i) c.before.before.before.before.before.before.before.z.given.1 c.before.before.before.before.before.before.before.before.before.base64-digit.ensures in
     tail-two d (omega arith) (sym c.before.same-as2.ensures ∙ not-false c.before.same-as2.result c.if4.false)
 
 mul-t33 : tie.Need-overflow-mul-t33
@@ -91,7 +91,7 @@ mul-t37 c = search rules
 
 add-t39 : tie.Need-overflow-add-t39
 add-t39 c =
-    let d = subst (Reads base64Value c.before.before.before.before.before.before.before.before.before.args.s.now c.before.before.before.before.before.before.before.before.before.args.i) c.before.before.before.before.before.z.given.1 c.before.before.before.before.before.before.before.base64-digit.ensures in
+    let d = subst (Reads base64_value c.before.before.before.before.before.before.before.before.before.args.s.now c.before.before.before.before.before.before.before.before.before.args.i) c.before.before.before.before.before.z.given.1 c.before.before.before.before.before.before.before.base64-digit.ensures in
     omega (arith, base64-below d)
 
 mul-t41 : tie.Need-overflow-mul-t41
@@ -99,14 +99,14 @@ mul-t41 c = search rules
 
 add-t42 : tie.Need-overflow-add-t42
 add-t42 c =
-    let d = subst (Reads base64Value c.before.before.before.before.before.before.before.before.before.args.s.now c.before.before.before.before.before.before.before.before.before.args.i) c.before.before.before.before.before.z.given.1 c.before.before.before.before.before.before.before.base64-digit.ensures in
-    let e = subst (Reads base64Value c.before.before.before.before.before.before.before.before.before.args.s.now c.before.before.before.before.before.z.given.0.1.0) c.before.w.given.1 c.before.before.before.base64-digit2.ensures in
+    let d = subst (Reads base64_value c.before.before.before.before.before.before.before.before.before.args.s.now c.before.before.before.before.before.before.before.before.before.args.i) c.before.before.before.before.before.z.given.1 c.before.before.before.before.before.before.before.base64-digit.ensures in
+    let e = subst (Reads base64_value c.before.before.before.before.before.before.before.before.before.args.s.now c.before.before.before.before.before.z.given.0.1.0) c.before.w.given.1 c.before.before.before.base64-digit2.ensures in
     omega (arith, base64-below d, base64-below e)
 
 returns-7 : tie.Need-returns-7
 returns-7 c =
-    let d = subst (Reads base64Value c.before.before.before.before.before.before.before.before.before.args.s.now c.before.before.before.before.before.before.before.before.before.args.i) c.before.before.before.before.before.z.given.1 c.before.before.before.before.before.before.before.base64-digit.ensures in
-    let e = subst (Reads base64Value c.before.before.before.before.before.before.before.before.before.args.s.now c.before.before.before.before.before.z.given.0.1.0) c.before.w.given.1 c.before.before.before.base64-digit2.ensures in
+    let d = subst (Reads base64_value c.before.before.before.before.before.before.before.before.before.args.s.now c.before.before.before.before.before.before.before.before.before.args.i) c.before.before.before.before.before.z.given.1 c.before.before.before.before.before.before.before.base64-digit.ensures in
+    let e = subst (Reads base64_value c.before.before.before.before.before.before.before.before.before.args.s.now c.before.before.before.before.before.z.given.0.1.0) c.before.w.given.1 c.before.before.before.base64-digit2.ensures in
     tail-three d e
 
 pub base64-tail-spec : {M : Type 1} → statement M

@@ -3,7 +3,7 @@ use mathlib.Core.Path.{sym, ap, subst, ◌∙◌}
 use mathlib.Core.Option.{some}
 use native.Mathlib.Omega.{arith}
 use Rattle.slices.proofs.DigitLaws as digits
-use Rattle.octets.specs.Decode.{asciiValue, Reads}
+use Rattle.octets.specs.Decode.{ascii_value, Reads}
 use Rattle.octets.proofs.DigitLaws.{digit-some, digit-none, digit-wide, hex-wide}
 use borrow.Author.Rules.{rules}
 use Rattle.octets.proofs.decode.hex_digit.Statement.{statement}
@@ -29,21 +29,21 @@ digit-requires c κs = search rules
 
 returns : tie.Need-returns
 returns c =
-    let d = subst (Reads asciiValue c.before.before.before.before.before.before.before.args.s.now c.before.before.before.before.before.before.before.args.i) c.before.before.before.b.given.1 c.before.before.before.before.before.next-char.ensures in
+    let d = subst (Reads ascii_value c.before.before.before.before.before.before.before.args.s.now c.before.before.before.before.before.before.before.args.i) c.before.before.before.b.given.1 c.before.before.before.before.before.next-char.ensures in
     digit-none d (digits.digit-none _ (sym c.before.digit.ensures.0 ∙ c.if1.true))
 
 cast-t10 : tie.Need-overflow-cast-t10
 cast-t10 c = search rules
 
 returns-2 : tie.Need-returns-2
-returns-2 c = subst (Reads asciiValue c.before.before.before.before.args.s.now c.before.before.before.before.args.i) c.enum_told.given.1 c.before.before.next-char.ensures
+returns-2 c = subst (Reads ascii_value c.before.before.before.before.args.s.now c.before.before.before.before.args.i) c.enum_told.given.1 c.before.before.next-char.ensures
 
 returns-3 : tie.Need-returns-3
-returns-3 c = digit-wide hex-wide (subst (Reads asciiValue c.before.before.before.before.args.s.now c.before.before.before.before.args.i) c.enum-told2.given.1 c.before.before.next-char.ensures)
+returns-3 c = digit-wide hex-wide (subst (Reads ascii_value c.before.before.before.before.args.s.now c.before.before.before.before.args.i) c.enum-told2.given.1 c.before.before.next-char.ensures)
 
 returns-4 : tie.Need-returns-4
 returns-4 c =
-    let d = subst (Reads asciiValue c.before.before.before.before.before.before.before.args.s.now c.before.before.before.before.before.before.before.args.i) c.before.before.before.b.given.1 c.before.before.before.before.before.next-char.ensures in
+    let d = subst (Reads ascii_value c.before.before.before.before.before.before.before.args.s.now c.before.before.before.before.before.before.before.args.i) c.before.before.before.b.given.1 c.before.before.before.before.before.next-char.ensures in
     digit-some d (digits.digit-some _ (λ e. c.if1.false (c.before.digit.ensures.0 ∙ e)) ∙ ap some (sym c.before.digit.ensures.0))
 
 pub hex-digit-spec : {M : Type 1} → statement M

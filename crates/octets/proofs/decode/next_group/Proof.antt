@@ -13,7 +13,7 @@ hex-group-requires : tie.Need-hex-group-requires
 hex-group-requires c κs = search rules
 
 returns : tie.Need-returns
-returns c = subst (λ (b : Bool). Groups (decoding b) c.before.before.before.args.s.now c.before.before.before.args.i c.base64-group.result) (sym c.before.if1.true) c.base64-group.ensures
+returns c = subst (λ (b : Bool). Groups (decoding b) c.before.before.before.args.s.now c.before.before.before.args.i c.base64_group.result) (sym c.before.if1.true) c.base64_group.ensures
 
 returns-2 : tie.Need-returns-2
 returns-2 c = subst (λ (b : Bool). Groups (decoding b) c.before.before.before.args.s.now c.before.before.before.args.i c.hex-group.result) (sym c.before.if1.false) c.hex-group.ensures

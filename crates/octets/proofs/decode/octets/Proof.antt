@@ -4,7 +4,7 @@ use mathlib.Core.Path.{subst}
 use native.Mathlib.Omega.{arith}
 use lib.ListN.{length}
 use Rattle.octets.specs.Decode.{Groups, decoding}
-use Rattle.octets.proofs.GroupLaws.{Decoding, decoding-start, decoding-end, decoding-bad, group-length, decoding-more}
+use Rattle.octets.proofs.GroupLaws.{Decoding, decoding-start, decoding-end, decoding-bad, group_length, decoding-more}
 use borrow.Author.Rules.{rules}
 use Rattle.octets.proofs.decode.octets.Statement.{statement}
 use Rattle.octets.proofs.decode.octets.Tie as tie
@@ -58,13 +58,13 @@ slice-aggregate-put-all : tie.Need-slice-aggregate-put-all invariant-loop decrea
 slice-aggregate-put-all c =
     let inv = c.before.before.before.before.before.before.loop.invariant in
     let g = subst (Groups (decoding c.before.before.before.before.before.before.before.before.before.args.base64) c.before.before.before.before.before.before.before.before.before.args.s.now c.before.before.before.before.before.before.loop.i) c.before.before.before.x.given.1 c.before.before.before.before.before.next-group.ensures in
-    group-length inv g
+    group_length inv g
 
 put-all-requires : tie.Need-put-all-requires invariant-loop decreases-loop
 put-all-requires c κs =
     let inv = c.before.before.before.before.before.before.loop.invariant in
     let g = subst (Groups (decoding c.before.before.before.before.before.before.before.before.before.args.base64) c.before.before.before.before.before.before.before.before.before.args.s.now c.before.before.before.before.before.before.loop.i) c.before.before.before.x.given.1 c.before.before.before.before.before.next-group.ensures in
-    omega (arith, g.inside, g.few, group-length inv g, inv.few, c.before.before.before.before.before.before.before.before.before.requires)
+    omega (arith, g.inside, g.few, group_length inv g, inv.few, c.before.before.before.before.before.before.before.before.before.requires)
 
 add-n : tie.Need-overflow-add-n invariant-loop decreases-loop
 add-n c =

@@ -1,6 +1,6 @@
 -- Made by tools/answers.py from answers/encode/base64_digit.ans: edit that. 85efff41d5ac49c3
 use native.Mathlib.Omega.{arith}
-use Rattle.octets.proofs.EncodeLaws.{base64-upper, base64-lower, base64-decimal, base64-plus, base64-slash}
+use Rattle.octets.proofs.EncodeLaws.{base64-upper, base64-lower, base64_decimal, base64-plus, base64-slash}
 use borrow.Author.Rules.{rules}
 use Rattle.octets.proofs.encode.base64_digit.Statement.{statement}
 use Rattle.octets.proofs.encode.base64_digit.Tie as tie
@@ -24,7 +24,7 @@ returns-3 : tie.Need-returns-3
 returns-3 c = base64-lower c.before.before.before.args.x c.before.if1.false c.if2.true
 
 returns-4 : tie.Need-returns-4
-returns-4 c = base64-decimal c.before.before.before.before.args.x c.before.if2.false c.if3.true
+returns-4 c = base64_decimal c.before.before.before.before.args.x c.before.if2.false c.if3.true
 
 returns-5 : tie.Need-returns-5
 returns-5 c = base64-slash c.before.before.before.before.args.x (omega (arith, c.before.before.before.match.rest.1))

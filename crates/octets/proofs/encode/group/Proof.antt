@@ -1,5 +1,5 @@
 -- Made by tools/answers.py from answers/encode/group.ans: edit that. 32b98abe313d6dc9
-use Rattle.octets.proofs.EncodeLaws.{base64-group}
+use Rattle.octets.proofs.EncodeLaws.{base64_group}
 use borrow.Author.Rules.{rules}
 use Rattle.octets.proofs.encode.group.Statement.{statement}
 use Rattle.octets.proofs.encode.group.Tie as tie
@@ -29,7 +29,7 @@ base64-digit-requires-4 : tie.Need-base64-digit-requires-4
 base64-digit-requires-4 c κs = search rules
 
 returns : tie.Need-returns
-returns c = base64-group c.before.before.before.before.args.a c.before.before.before.before.args.b c.before.before.before.before.args.c c.before.before.before.base64-digit.ensures c.before.before.base64-digit2.ensures c.before.base64-digit3.ensures c.base64-digit4.ensures
+returns c = base64_group c.before.before.before.before.args.a c.before.before.before.before.args.b c.before.before.before.before.args.c c.before.before.before.base64-digit.ensures c.before.before.base64-digit2.ensures c.before.base64-digit3.ensures c.base64-digit4.ensures
 
 pub group-spec : {M : Type 1} → statement M
 group-spec =

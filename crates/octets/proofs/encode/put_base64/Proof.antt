@@ -5,7 +5,7 @@ use native.Mathlib.Omega.{arith}
 use lib.ListN.{length, drop, get_or, length-set}
 use Rattle.jer.specs.Octets.{base64}
 use Rattle.octets.proofs.EncodeLaws.{one-pad, two-pads, base64-done, base64-next, base64-last-two, base64-last-one}
-use Rattle.octets.proofs.PutLaws.{sets-as, Putting, putting-start, putting-done}
+use Rattle.octets.proofs.PutLaws.{sets_as, Putting, putting_start, putting_done}
 use borrow.Author.Rules.{rules}
 use Rattle.octets.proofs.encode.put_base64.Statement.{statement}
 use Rattle.octets.proofs.encode.put_base64.Tie as tie
@@ -17,7 +17,7 @@ abbrev decreases-loop : tie.decreases-loop
 decreases-loop text₀ k octets i₀ n₀ text i n = length octets - i
 
 loop-holds : tie.Need-loop-init invariant-loop decreases-loop
-loop-holds c = (putting-start (base64 c.before.before.args.octets.now) c.before.before.args.text.now c.before.before.args.k, omega arith)
+loop-holds c = (putting_start (base64 c.before.before.args.octets.now) c.before.before.args.text.now c.before.before.args.k, omega arith)
 
 sub-loop : tie.Need-overflow-sub-loop invariant-loop decreases-loop
 sub-loop c = search rules
@@ -61,7 +61,7 @@ loop-less c = search rules
 loop-again : tie.Need-loop-preserved invariant-loop decreases-loop
 loop-again c =
     let entry = c.before.before.before.before.before.before.before.before.before.before.before.before.before in
-    (base64-next c.before.before.before.before.before.before.before.before.before.before.before.before.before.args.octets.now c.before.before.before.before.before.before.before.before.before.before.loop.i c.before.before.before.before.before.before.before.before.before.before.loop.invariant.0 c.before.before.before.before.before.before.before.before.before.loop-test.true (sets-as c.before.before.before.before.before.before.before.before.before.before.loop.text (c.before.before.before.before.before.before.before.before.before.before.before.before.before.args.k + c.before.before.before.before.before.before.before.before.before.before.loop.n) c.before.before.before.before.before.group.ensures c.before.before.put_all_lem.ensures) c.before.before.put_all_lem.auto.0, omega arith)
+    (base64-next c.before.before.before.before.before.before.before.before.before.before.before.before.before.args.octets.now c.before.before.before.before.before.before.before.before.before.before.loop.i c.before.before.before.before.before.before.before.before.before.before.loop.invariant.0 c.before.before.before.before.before.before.before.before.before.loop-test.true (sets_as c.before.before.before.before.before.before.before.before.before.before.loop.text (c.before.before.before.before.before.before.before.before.before.before.before.before.before.args.k + c.before.before.before.before.before.before.before.before.before.before.loop.n) c.before.before.before.before.before.group.ensures c.before.before.put_all_lem.ensures) c.before.before.put_all_lem.auto.0, omega arith)
 
 sub-if1 : tie.Need-overflow-sub-if1 invariant-loop decreases-loop
 sub-if1 c = search rules
@@ -100,7 +100,7 @@ returns : tie.Need-returns invariant-loop decreases-loop
 returns c =
     let os = c.before.before.before.before.before.before.before.before.before.before.before.before.before.args.octets.now in
     let i = c.before.before.before.before.before.before.before.before.before.before.loop.i in
-    base64-last-two os i c.before.before.before.before.before.before.before.before.before.before.loop.invariant.0 c.before.before.before.before.before.before.before.before.if1.true (sets-as c.before.before.before.before.before.before.before.before.before.before.loop.text (c.before.before.before.before.before.before.before.before.before.before.before.before.before.args.k + c.before.before.before.before.before.before.before.before.before.before.loop.n) (one-pad (get_or os i 0) (get_or os (i + 1) 0) c.before.before.before.before.before.group2.ensures) c.before.before.put-all2.ensures)
+    base64-last-two os i c.before.before.before.before.before.before.before.before.before.before.loop.invariant.0 c.before.before.before.before.before.before.before.before.if1.true (sets_as c.before.before.before.before.before.before.before.before.before.before.loop.text (c.before.before.before.before.before.before.before.before.before.before.before.before.before.args.k + c.before.before.before.before.before.before.before.before.before.before.loop.n) (one-pad (get_or os i 0) (get_or os (i + 1) 0) c.before.before.before.before.before.group2.ensures) c.before.before.put-all2.ensures)
 
 sub-if2 : tie.Need-overflow-sub-if2 invariant-loop decreases-loop
 sub-if2 c = search rules
@@ -136,13 +136,13 @@ returns-2 : tie.Need-returns-2 invariant-loop decreases-loop
 returns-2 c =
     let os = c.before.before.before.before.before.before.before.before.before.before.before.before.before.args.octets.now in
     let i = c.before.before.before.before.before.before.before.before.before.before.loop.i in
-    base64-last-one os i c.before.before.before.before.before.before.before.before.before.before.loop.invariant.0 c.before.before.before.before.before.before.before.if2.true (sets-as c.before.before.before.before.before.before.before.before.before.before.loop.text (c.before.before.before.before.before.before.before.before.before.before.before.before.before.args.k + c.before.before.before.before.before.before.before.before.before.before.loop.n) (two-pads (get_or os i 0) c.before.before.before.before.before.group3.ensures) c.before.before.put-all3.ensures)
+    base64-last-one os i c.before.before.before.before.before.before.before.before.before.before.loop.invariant.0 c.before.before.before.before.before.before.before.if2.true (sets_as c.before.before.before.before.before.before.before.before.before.before.loop.text (c.before.before.before.before.before.before.before.before.before.before.before.before.before.args.k + c.before.before.before.before.before.before.before.before.before.before.loop.n) (two-pads (get_or os i 0) c.before.before.before.before.before.group3.ensures) c.before.before.put-all3.ensures)
 
 same-length-3 : tie.Need-same-length-3 invariant-loop decreases-loop
 same-length-3 c = c.before.before.before.loop.invariant.0.kept
 
 returns-3 : tie.Need-returns-3 invariant-loop decreases-loop
-returns-3 c = putting-done c.before.before.before.loop.invariant.0 (base64-done c.before.before.before.before.before.before.args.octets.now c.before.before.before.loop.i (omega arith))
+returns-3 c = putting_done c.before.before.before.loop.invariant.0 (base64-done c.before.before.before.before.before.before.args.octets.now c.before.before.before.loop.i (omega arith))
 
 pub put-base64-spec : {M : Type 1} → statement M
 put-base64-spec =

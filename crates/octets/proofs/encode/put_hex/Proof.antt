@@ -4,7 +4,7 @@ use native.Mathlib.Omega.{arith}
 use lib.ListN.{length, drop, get_or}
 use Rattle.jer.specs.Octets.{hex}
 use Rattle.octets.proofs.EncodeLaws.{hex-one, hex-done, hex-next}
-use Rattle.octets.proofs.PutLaws.{sets-as, Putting, putting-start, putting-done}
+use Rattle.octets.proofs.PutLaws.{sets_as, Putting, putting_start, putting_done}
 use borrow.Author.Rules.{rules}
 use Rattle.octets.proofs.encode.put_hex.Statement.{statement}
 use Rattle.octets.proofs.encode.put_hex.Tie as tie
@@ -16,7 +16,7 @@ abbrev decreases-loop : tie.decreases-loop
 decreases-loop text₀ k octets i₀ n₀ text i n = length octets - i
 
 loop-holds : tie.Need-loop-init invariant-loop decreases-loop
-loop-holds c = putting-start (hex c.before.before.args.octets.now) c.before.before.args.text.now c.before.before.args.k
+loop-holds c = putting_start (hex c.before.before.args.octets.now) c.before.before.args.text.now c.before.before.args.k
 
 shared-slice-read-b : tie.Need-shared-slice-read-b invariant-loop decreases-loop
 shared-slice-read-b c = search rules
@@ -49,14 +49,14 @@ loop-again : tie.Need-loop-preserved invariant-loop decreases-loop
 loop-again c =
     let b = get_or c.before.before.before.before.before.before.before.before.before.before.before.before.args.octets.now c.before.before.before.before.before.before.before.before.before.loop.i 0 in
     hex-next c.before.before.before.before.before.before.before.before.before.before.before.before.args.octets.now c.before.before.before.before.before.before.before.before.before.loop.i c.before.before.before.before.before.before.before.before.before.loop.invariant c.before.before.before.before.before.before.before.before.loop-test.true
-    (sets-as c.before.before.before.before.before.before.before.before.before.loop.text (c.before.before.before.before.before.before.before.before.before.before.before.before.args.k + c.before.before.before.before.before.before.before.before.before.loop.n) (hex-one b c.before.before.before.before.before.before.hex-digit.ensures c.before.before.before.before.before.hex-digit2.ensures) c.before.before.put_all_lem.ensures)
+    (sets_as c.before.before.before.before.before.before.before.before.before.loop.text (c.before.before.before.before.before.before.before.before.before.before.before.before.args.k + c.before.before.before.before.before.before.before.before.before.loop.n) (hex-one b c.before.before.before.before.before.before.hex-digit.ensures c.before.before.before.before.before.hex-digit2.ensures) c.before.before.put_all_lem.ensures)
     c.before.before.put_all_lem.auto.0
 
 same_length : tie.Need-same-length invariant-loop decreases-loop
 same_length c = c.before.loop.invariant.kept
 
 returns : tie.Need-returns invariant-loop decreases-loop
-returns c = putting-done c.before.loop.invariant (hex-done c.before.before.before.before.args.octets.now c.before.loop.i c.loop-test.false)
+returns c = putting_done c.before.loop.invariant (hex-done c.before.before.before.before.args.octets.now c.before.loop.i c.loop-test.false)
 
 pub put-hex-spec : {M : Type 1} → statement M
 put-hex-spec =

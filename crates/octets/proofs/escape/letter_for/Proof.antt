@@ -1,36 +1,36 @@
 -- Made by tools/answers.py from answers/escape/letter_for.ans: edit that. 5cb0ed708a9363a4
-use Rattle.json.specs.Bytes.{pick}
-use Rattle.octets.specs.Encode.{letterFor}
+use Rattle.json_text.specs.Bytes.{pick}
+use Rattle.octets.specs.Encode.{letter_for}
 use Rattle.octets.proofs.EscapeLaws.{letter-none}
 use Rattle.octets.proofs.escape.letter_for.Statement.{statement}
 use Rattle.octets.proofs.escape.letter_for.Tie as tie
 
 returns : tie.Need-returns
-unfolding letterFor pick
+unfolding letter_for pick
 returns c = rw c.match.keys1
 
 returns-2 : tie.Need-returns-2
-unfolding letterFor pick
+unfolding letter_for pick
 returns-2 c = rw c.match.keys2
 
 returns-3 : tie.Need-returns-3
-unfolding letterFor pick
+unfolding letter_for pick
 returns-3 c = rw c.match.keys3
 
 returns-4 : tie.Need-returns-4
-unfolding letterFor pick
+unfolding letter_for pick
 returns-4 c = rw c.match.keys4
 
 returns-5 : tie.Need-returns-5
-unfolding letterFor pick
+unfolding letter_for pick
 returns-5 c = rw c.match.keys5
 
 returns-6 : tie.Need-returns-6
-unfolding letterFor pick
+unfolding letter_for pick
 returns-6 c = rw c.match.keys6
 
 returns-7 : tie.Need-returns-7
-unfolding letterFor pick
+unfolding letter_for pick
 returns-7 c = rw c.match.keys7
 
 returns-8 : tie.Need-returns-8

@@ -4,7 +4,7 @@ use native.Mathlib.Omega.{arith}
 use lib.ListN.{length, drop}
 use Rattle.jer.specs.Write.{escapes}
 use Rattle.octets.proofs.EscapeLaws.{escapes-done, escapes-room, escapes-next}
-use Rattle.octets.proofs.PutLaws.{Putting, putting-start, putting-done}
+use Rattle.octets.proofs.PutLaws.{Putting, putting_start, putting_done}
 use borrow.Author.Rules.{rules}
 use Rattle.octets.proofs.escape.put_escapes.Statement.{statement}
 use Rattle.octets.proofs.escape.put_escapes.Tie as tie
@@ -16,7 +16,7 @@ abbrev decreases-loop : tie.decreases-loop
 decreases-loop text₀ k octets i₀ n₀ text i n = length octets - i
 
 loop-holds : tie.Need-loop-init invariant-loop decreases-loop
-loop-holds c = putting-start (escapes c.before.before.args.octets.now) c.before.before.args.text.now c.before.before.args.k
+loop-holds c = putting_start (escapes c.before.before.args.octets.now) c.before.before.args.text.now c.before.before.args.k
 
 shared-slice-read-b : tie.Need-shared-slice-read-b invariant-loop decreases-loop
 shared-slice-read-b c = search rules
@@ -45,7 +45,7 @@ same_length : tie.Need-same-length invariant-loop decreases-loop
 same_length c = c.before.loop.invariant.kept
 
 returns : tie.Need-returns invariant-loop decreases-loop
-returns c = putting-done c.before.loop.invariant (escapes-done c.before.before.before.before.args.octets.now c.before.loop.i c.loop-test.false)
+returns c = putting_done c.before.loop.invariant (escapes-done c.before.before.before.before.args.octets.now c.before.loop.i c.loop-test.false)
 
 pub put-escapes-spec : {M : Type 1} → statement M
 put-escapes-spec =

@@ -2,7 +2,7 @@
 use mathlib.Core.Path.{sym, ap, ◌∙◌}
 use native.Mathlib.Omega.{arith}
 use lib.ListN.{length}
-use Rattle.jer.specs.Write.{intText}
+use Rattle.jer.specs.Write.{int_text}
 use Rattle.octets.proofs.IntegerLaws.{int-plus, int-minus}
 use borrow.Author.Rules.{rules}
 use Rattle.octets.proofs.integer.integer_len.Statement.{statement}
@@ -15,7 +15,7 @@ digit-count-requires : tie.Need-digit-count-requires
 digit-count-requires c κs = search rules
 
 returns : tie.Need-returns
-returns c = c.digit-count.ensures.0 ∙ ap length (sym (int-plus c.before.before.joined.result c.before.if1.true) ∙ ap intText c.before.before.joined.ensures)
+returns c = c.digit-count.ensures.0 ∙ ap length (sym (int-plus c.before.before.joined.result c.before.if1.true) ∙ ap int_text c.before.before.joined.ensures)
 
 sub-digit-count : tie.Need-overflow-sub-digit-count
 sub-digit-count c = search rules
@@ -31,7 +31,7 @@ add-result c = search rules
 
 returns-2 : tie.Need-returns-2
 returns-2 c =
-    let e = sym (int-minus c.before.before.joined.result c.before.if1.false (omega arith)) ∙ ap intText c.before.before.joined.ensures in
+    let e = sym (int-minus c.before.before.joined.result c.before.if1.false (omega arith)) ∙ ap int_text c.before.before.joined.ensures in
     omega (arith, ap length e, c.digit-count2.ensures.0)
 
 pub integer-len-spec : {M : Type 1} → statement M

@@ -5,7 +5,7 @@ use mathlib.Core.List.{List, [], ◌∷◌}
 use native.Mathlib.Omega.{arith}
 use lib.ListN.{length}
 use lib.Seq.{sets}
-use Rattle.jer.specs.Write.{digits, intText}
+use Rattle.jer.specs.Write.{digits, int_text}
 use Rattle.octets.proofs.IntegerLaws.{int-plus, int-minus}
 use Rattle.octets.proofs.PutLaws.{sets-next}
 use borrow.Author.Rules.{rules}
@@ -25,7 +25,7 @@ returns : tie.Need-returns
 returns c =
     let a = c.before.before.before.before.before.before.before.args in
     let r = c.before.before.put-digits.ensures in
-    let e = sym (int-plus c.before.before.before.before.before.joined.result c.before.before.before.before.if1.true) ∙ ap intText c.before.before.before.before.before.joined.ensures in
+    let e = sym (int-plus c.before.before.before.before.before.joined.result c.before.before.before.before.if1.true) ∙ ap int_text c.before.before.before.before.before.joined.ensures in
     (r.0 ∙ ap length e, r.1.1 ∙ ap (λ (l : List ℕ). sets a.text.now a.k l) e)
 
 put-requires : tie.Need-put-requires
@@ -53,7 +53,7 @@ returns-2 : tie.Need-returns-2
 returns-2 c =
     let a = c.before.before.before.before.before.before.before.before.before.before.before.args in
     let r = c.before.before.put-digits2.ensures in
-    let e = sym (int-minus c.before.before.before.before.before.before.before.before.before.joined.result c.before.before.before.before.before.before.before.before.if1.false (omega arith)) ∙ ap intText c.before.before.before.before.before.before.before.before.before.joined.ensures in
+    let e = sym (int-minus c.before.before.before.before.before.before.before.before.before.joined.result c.before.before.before.before.before.before.before.before.if1.false (omega arith)) ∙ ap int_text c.before.before.before.before.before.before.before.before.before.joined.ensures in
     (omega (arith, ap length e, r.0), sets-next a.text.now a.k (0x2D ∷ []) (digits 20 (18446744073709551615 - c.before.before.before.before.before.before.before.before.before.joined.result + 1) []) c.before.before.before.before.before.before.put.ensures r.1.1 ∙ ap (λ (l : List ℕ). sets a.text.now a.k l) e)
 
 pub put-integer-spec : {M : Type 1} → statement M

@@ -1,7 +1,7 @@
 -- Made by tools/answers.py from answers/bare/boolean.ans: edit that. 77a3f66cdb6fc517
 use mathlib.Core.Path.{refl}
 use mathlib.Core.Bool.{true, false}
-use Rattle.quick.proofs.BareLaws.{bool-true, bool_false}
+use Rattle.quick.proofs.BareLaws.{bool_true, bool_false}
 use borrow.Author.Rules.{rules}
 use Rattle.quick.proofs.bare.boolean.Statement.{statement}
 use Rattle.quick.proofs.bare.boolean.Tie as tie
@@ -16,7 +16,7 @@ taken-requires : tie.Need-taken-requires
 taken-requires c κs = search rules
 
 returns : tie.Need-returns
-returns c = λ h t row e. bool-true e c.before.literal-true.ensures c.taken.ensures h
+returns c = λ h t row e. bool_true e c.before.literal-true.ensures c.taken.ensures h
 
 literal-false-requires : tie.Need-literal-false-requires
 literal-false-requires c κs = search rules

@@ -2,10 +2,10 @@
 use mathlib.Core.Path.{ap, ◌∙◌}
 use Prim.Native.Nat.{◌+◌}
 use Rattle.tokens.specs.Strings.{denoted}
-use Rattle.octets.specs.Decode.{foundOf}
+use Rattle.octets.specs.Decode.{found_of}
 use Rattle.jer.specs.Table.{table}
 use Rattle.leaf.proofs.LeafLaws.{base64-of, hex-of}
-use Rattle.quick.proofs.BareLaws.{stored-as}
+use Rattle.quick.proofs.BareLaws.{stored_as}
 use borrow.Author.Rules.{rules}
 use Rattle.quick.proofs.coded.octets_at.Statement.{statement}
 use Rattle.quick.proofs.coded.octets_at.Tie as tie
@@ -30,8 +30,8 @@ returns c =
     let a = c.before.before.before.before.before.before.before.before.before.before.args in
     let d = denoted a.s.now (a.place + 1) in
     let f = c.before.before.base64-octets in (
-      λ ns. f.ensures.0 ∙ ap foundOf (base64-of (table a.types.now ns) a.row d (c.before.before.before.before.before.is-base64.ensures _ _ (c.before.before.before.before.before.before.at.ensures ns)) c.before.before.before.before.if1.true),
-      λ ns. stored-as _ c.before.before.before.before.before.before.before.before.before.before.args.pool.now c.before.before.before.before.before.before.before.before.before.before.args.offset (base64-of (table a.types.now ns) a.row d (c.before.before.before.before.before.is-base64.ensures _ _ (c.before.before.before.before.before.before.at.ensures ns)) c.before.before.before.before.if1.true) f.ensures.1,
+      λ ns. f.ensures.0 ∙ ap found_of (base64-of (table a.types.now ns) a.row d (c.before.before.before.before.before.is-base64.ensures _ _ (c.before.before.before.before.before.before.at.ensures ns)) c.before.before.before.before.if1.true),
+      λ ns. stored_as _ c.before.before.before.before.before.before.before.before.before.before.args.pool.now c.before.before.before.before.before.before.before.before.before.before.args.offset (base64-of (table a.types.now ns) a.row d (c.before.before.before.before.before.is-base64.ensures _ _ (c.before.before.before.before.before.before.at.ensures ns)) c.before.before.before.before.if1.true) f.ensures.1,
     )
 
 add-hex-octets : tie.Need-overflow-add-hex-octets
@@ -48,8 +48,8 @@ returns-2 c =
     let a = c.before.before.before.before.before.before.before.before.before.before.args in
     let d = denoted a.s.now (a.place + 1) in
     let f = c.before.before.hex-octets in (
-      λ ns. f.ensures.0 ∙ ap foundOf (hex-of (table a.types.now ns) a.row d (c.before.before.before.before.before.is-base64.ensures _ _ (c.before.before.before.before.before.before.at.ensures ns)) c.before.before.before.before.if1.false),
-      λ ns. stored-as _ c.before.before.before.before.before.before.before.before.before.before.args.pool.now c.before.before.before.before.before.before.before.before.before.before.args.offset (hex-of (table a.types.now ns) a.row d (c.before.before.before.before.before.is-base64.ensures _ _ (c.before.before.before.before.before.before.at.ensures ns)) c.before.before.before.before.if1.false) f.ensures.1,
+      λ ns. f.ensures.0 ∙ ap found_of (hex-of (table a.types.now ns) a.row d (c.before.before.before.before.before.is-base64.ensures _ _ (c.before.before.before.before.before.before.at.ensures ns)) c.before.before.before.before.if1.false),
+      λ ns. stored_as _ c.before.before.before.before.before.before.before.before.before.before.args.pool.now c.before.before.before.before.before.before.before.before.before.before.args.offset (hex-of (table a.types.now ns) a.row d (c.before.before.before.before.before.is-base64.ensures _ _ (c.before.before.before.before.before.before.at.ensures ns)) c.before.before.before.before.if1.false) f.ensures.1,
     )
 
 pub octets-at-spec : {M : Type 1} → statement M

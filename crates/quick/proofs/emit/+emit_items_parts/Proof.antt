@@ -4,8 +4,8 @@ use mathlib.Core.Path.{◌≡◌, refl, sym, ap, ◌∙◌}
 use mathlib.Core.List.{List}
 use native.Mathlib.Omega.{arith}
 use lib.ListN.{length, get_or}
-use Rattle.quick.proofs.EmitLaws.{noted-two, noted-three, noted-nodes, noted-slot, row-stored, parts-given, items-given, choice-given, list-emitted, parts-emitted, choice-emitted}
-use Rattle.quick.proofs.PourLaws.{ItemsLoop, pouring-start, items-noted, items-step, items-again, items-end, PartsLoop, filling-start, link-inside, parts-some, parts-absent, parts-noted, parts-ahead, parts_again, parts-step, parts-end}
+use Rattle.quick.proofs.EmitLaws.{noted_two, noted_three, noted_nodes, noted_slot, row-stored, parts-given, items-given, choice-given, list_emitted, parts_emitted, choice_emitted}
+use Rattle.quick.proofs.PourLaws.{ItemsLoop, pouring-start, items_noted, items-step, items-again, items-end, PartsLoop, filling-start, link-inside, parts-some, parts-absent, parts_noted, parts-ahead, parts_again, parts-step, parts-end}
 use borrow.Author.Rules.{rules}
 use borrow.Fn.Kinds.{In}
 use borrow.Fn.PlainCycle.{Measures, is, falls, and}
@@ -44,8 +44,8 @@ emit-at t = and 5 emit-kinds.ps (is 5 emit-kinds.ps μ-emit t) emit.Pre
 abbrev emit-below : ℕ → In 5 emit-kinds.ps
 emit-below t = and 5 emit-kinds.ps (falls 5 emit-kinds.ps ◌<◌ μ-emit t) emit.Pre
 
-abbrev items_at : ℕ → In 5 items-kinds.ps
-items_at t = and 5 items-kinds.ps (is 5 items-kinds.ps μ-items t) items.Pre
+abbrev items_at_lem : ℕ → In 5 items-kinds.ps
+items_at_lem t = and 5 items-kinds.ps (is 5 items-kinds.ps μ-items t) items.Pre
 
 abbrev items-below : ℕ → In 5 items-kinds.ps
 items-below t = and 5 items-kinds.ps (falls 5 items-kinds.ps ◌<◌ μ-items t) items.Pre
@@ -82,32 +82,32 @@ emit-kind-of-requires t c κs = search rules
 
 emit-mul-a : (t : ℕ) → emit-lts.Need-overflow-mul-a (emit-calls t) (emit-at t) emit.Post
 emit-mul-a t c =
-    let two = noted-two c.before.before.before.before.before.before.requires.1.0 in
+    let two = noted_two c.before.before.before.before.before.before.requires.1.0 in
     omega (arith, two, c.before.before.before.before.before.before.requires.1.1.1)
 
 emit-shared-slice-read-a : (t : ℕ) → emit-lts.Need-shared-slice-read-a (emit-calls t) (emit-at t) emit.Post
 emit-shared-slice-read-a t c =
-    let two = noted-two c.before.before.before.before.before.before.before.requires.1.0 in
+    let two = noted_two c.before.before.before.before.before.before.before.requires.1.0 in
     omega (arith, two)
 
 emit-add-b : (t : ℕ) → emit-lts.Need-overflow-add-b (emit-calls t) (emit-at t) emit.Post
 emit-add-b t c =
-    let two = noted-two c.before.before.before.before.before.before.before.requires.1.0 in
+    let two = noted_two c.before.before.before.before.before.before.before.requires.1.0 in
     omega (arith, two, c.before.before.before.before.before.before.before.requires.1.1.1)
 
 emit-mul-b : (t : ℕ) → emit-lts.Need-overflow-mul-b (emit-calls t) (emit-at t) emit.Post
 emit-mul-b t c =
-    let two = noted-two c.before.before.before.before.before.before.before.requires.1.0 in
+    let two = noted_two c.before.before.before.before.before.before.before.requires.1.0 in
     omega (arith, two, c.before.before.before.before.before.before.before.requires.1.1.1)
 
 emit-shared-slice-read-b : (t : ℕ) → emit-lts.Need-shared-slice-read-b (emit-calls t) (emit-at t) emit.Post
 emit-shared-slice-read-b t c =
-    let two = noted-two c.before.before.before.before.before.before.before.before.requires.1.0 in
+    let two = noted_two c.before.before.before.before.before.before.before.before.requires.1.0 in
     omega (arith, two)
 
 emit-put-row-requires : (t : ℕ) → emit-lts.Need-put-row-requires (emit-calls t) (emit-at t) emit.Post
 emit-put-row-requires t c κs =
-    let here = noted-slot c.before.before.before.before.before.before.before.before.before.before.requires.1.0 in
+    let here = noted_slot c.before.before.before.before.before.before.before.before.before.before.requires.1.0 in
     omega (arith, here)
 
 emit-same-length : (t : ℕ) → emit-lts.Need-same-length (emit-calls t) (emit-at t) emit.Post
@@ -135,12 +135,12 @@ emit-returns-2 t c = c.before.before.before.before.string.ensures
 
 emit-put-row-requires-2 : (t : ℕ) → emit-lts.Need-put-row-requires-2 (emit-calls t) (emit-at t) emit.Post
 emit-put-row-requires-2 t c κs =
-    let here = noted-slot c.before.before.before.before.before.before.before.before.before.before.before.requires.1.0 in
+    let here = noted_slot c.before.before.before.before.before.before.before.before.before.before.before.requires.1.0 in
     omega (arith, here)
 
 emit-add-parts : (t : ℕ) → emit-lts.Need-overflow-add-parts (emit-calls t) (emit-at t) emit.Post
 emit-add-parts t c =
-    let two = noted-two c.before.before.before.before.before.before.before.before.before.before.before.before.before.before.before.before.before.requires.1.0 in
+    let two = noted_two c.before.before.before.before.before.before.before.before.before.before.before.before.before.before.before.before.before.requires.1.0 in
     omega (arith, two, c.before.before.before.before.before.before.before.before.before.before.before.before.before.before.before.before.before.requires.1.1.1)
 
 emit-add-parts-2 : (t : ℕ) → emit-lts.Need-overflow-add-parts-2 (emit-calls t) (emit-at t) emit.Post
@@ -149,22 +149,22 @@ emit-add-parts-2 t c = search rules
 emit-parts-requires : (t : ℕ) → emit-lts.Need-parts-requires (emit-calls t) (emit-at t) emit.Post
 emit-parts-requires t c κs =
     let noted = c.before.before.before.before.before.before.before.before.before.before.before.before.before.before.before.before.before.requires.1.0 in
-    let three = noted-three c.before.before.before.before.before.before.before.before.before.before.before.before.before.before.before.before.before.requires.1.0 c.before.before.before.before.before.before.before.before.before.before.before.kind-of.result c.before.before.before.before.before.before.before.before.before.before.before.kind-of.ensures c.before.before.before.before.before.before.before.if2.false in
+    let three = noted_three c.before.before.before.before.before.before.before.before.before.before.before.before.before.before.before.before.before.requires.1.0 c.before.before.before.before.before.before.before.before.before.before.before.kind-of.result c.before.before.before.before.before.before.before.before.before.before.before.kind-of.ensures c.before.before.before.before.before.before.before.if2.false in
     (omega (arith, three, c.before.before.before.before.before.before.before.before.before.before.before.before.before.before.before.before.before.requires.1.1.1), (parts-given noted c.before.before.before.before.before.put-row2.new.0 c.before.before.before.before.before.put-row2.auto.0 c.before.before.before.before.before.before.before.before.before.before.before.kind-of.result c.before.before.before.before.before.before.before.before.before.before.before.kind-of.ensures c.before.before.match.keys1, c.before.before.before.before.before.before.before.before.before.before.before.before.before.before.before.before.before.requires.1.1, omega arith))
 
 emit-add-wide : (t : ℕ) → emit-lts.Need-overflow-add-wide (emit-calls t) (emit-at t) emit.Post
 emit-add-wide t c =
-    let two = noted-two c.before.before.before.before.before.before.before.before.before.before.before.before.before.before.before.requires.1.0 in
+    let two = noted_two c.before.before.before.before.before.before.before.before.before.before.before.before.before.before.before.requires.1.0 in
     omega (arith, two, c.before.before.before.before.before.before.before.before.before.before.before.before.before.before.before.requires.1.1.1)
 
 emit-mul-wide : (t : ℕ) → emit-lts.Need-overflow-mul-wide (emit-calls t) (emit-at t) emit.Post
 emit-mul-wide t c =
-    let two = noted-two c.before.before.before.before.before.before.before.before.before.before.before.before.before.before.before.requires.1.0 in
+    let two = noted_two c.before.before.before.before.before.before.before.before.before.before.before.before.before.before.before.requires.1.0 in
     omega (arith, two, c.before.before.before.before.before.before.before.before.before.before.before.before.before.before.before.requires.1.1.1)
 
 emit-shared-slice-read-wide : (t : ℕ) → emit-lts.Need-shared-slice-read-wide (emit-calls t) (emit-at t) emit.Post
 emit-shared-slice-read-wide t c =
-    let three = noted-three c.before.before.before.before.before.before.before.before.before.before.before.before.before.before.before.before.requires.1.0 c.before.before.before.before.before.before.before.before.before.before.kind-of.result c.before.before.before.before.before.before.before.before.before.before.kind-of.ensures c.before.before.before.before.before.before.if2.false in
+    let three = noted_three c.before.before.before.before.before.before.before.before.before.before.before.before.before.before.before.before.requires.1.0 c.before.before.before.before.before.before.before.before.before.before.kind-of.result c.before.before.before.before.before.before.before.before.before.before.kind-of.ensures c.before.before.before.before.before.before.if2.false in
     omega (arith, three)
 
 emit-wide-requires : (t : ℕ) → emit-lts.Need-wide-requires (emit-calls t) (emit-at t) emit.Post
@@ -175,7 +175,7 @@ emit-element-of-requires t c κs = search rules
 
 emit-add-items : (t : ℕ) → emit-lts.Need-overflow-add-items (emit-calls t) (emit-at t) emit.Post
 emit-add-items t c =
-    let two = noted-two c.before.before.before.before.before.before.before.before.before.before.before.before.before.before.before.before.before.before.before.before.requires.1.0 in
+    let two = noted_two c.before.before.before.before.before.before.before.before.before.before.before.before.before.before.before.before.before.before.before.before.requires.1.0 in
     omega (arith, two, c.before.before.before.before.before.before.before.before.before.before.before.before.before.before.before.before.before.before.before.before.requires.1.1.1)
 
 emit-add-items-2 : (t : ℕ) → emit-lts.Need-overflow-add-items-2 (emit-calls t) (emit-at t) emit.Post
@@ -184,7 +184,7 @@ emit-add-items-2 t c = search rules
 emit-items-requires : (t : ℕ) → emit-lts.Need-items-requires (emit-calls t) (emit-at t) emit.Post
 emit-items-requires t c κs =
     let noted = c.before.before.before.before.before.before.before.before.before.before.before.before.before.before.before.before.before.before.before.before.requires.1.0 in
-    let three = noted-three c.before.before.before.before.before.before.before.before.before.before.before.before.before.before.before.before.before.before.before.before.requires.1.0 c.before.before.before.before.before.before.before.before.before.before.before.before.before.before.kind-of.result c.before.before.before.before.before.before.before.before.before.before.before.before.before.before.kind-of.ensures c.before.before.before.before.before.before.before.before.before.before.if2.false in
+    let three = noted_three c.before.before.before.before.before.before.before.before.before.before.before.before.before.before.before.before.before.before.before.before.requires.1.0 c.before.before.before.before.before.before.before.before.before.before.before.before.before.before.kind-of.result c.before.before.before.before.before.before.before.before.before.before.before.before.before.before.kind-of.ensures c.before.before.before.before.before.before.before.before.before.before.if2.false in
     (omega (arith, three, c.before.before.before.before.before.before.before.before.before.before.before.before.before.before.before.before.before.before.before.before.requires.1.1.1), (items-given noted c.before.before.before.before.before.before.before.before.put-row2.new.0 c.before.before.before.before.before.before.before.before.put-row2.auto.0 c.before.before.before.before.before.before.before.before.before.before.before.before.before.before.kind-of.result c.before.before.before.before.before.before.before.before.before.before.before.before.before.before.kind-of.ensures c.before.before.before.before.before.match.keys2 c.element-of.result c.before.before.before.wide.result c.element-of.ensures c.before.before.before.wide.ensures.0, c.before.before.before.before.before.before.before.before.before.before.before.before.before.before.before.before.before.before.before.before.requires.1.1))
 
 emit-type-at-requires : (t : ℕ) → emit-lts.Need-type-at-requires (emit-calls t) (emit-at t) emit.Post
@@ -192,7 +192,7 @@ emit-type-at-requires t c κs = search rules
 
 emit-add-emit : (t : ℕ) → emit-lts.Need-overflow-add-emit (emit-calls t) (emit-at t) emit.Post
 emit-add-emit t c =
-    let two = noted-two c.before.before.before.before.before.before.before.before.before.before.before.before.before.before.before.before.before.before.requires.1.0 in
+    let two = noted_two c.before.before.before.before.before.before.before.before.before.before.before.before.before.before.before.before.before.before.requires.1.0 in
     omega (arith, two, c.before.before.before.before.before.before.before.before.before.before.before.before.before.before.before.before.before.before.requires.1.1.1)
 
 emit-add-emit-2 : (t : ℕ) → emit-lts.Need-overflow-add-emit-2 (emit-calls t) (emit-at t) emit.Post
@@ -201,7 +201,7 @@ emit-add-emit-2 t c = search rules
 emit-emit-requires : (t : ℕ) → emit-lts.Need-emit-requires (emit-calls t) (emit-at t) emit.Post
 emit-emit-requires t c κs =
     let noted = c.before.before.before.before.before.before.before.before.before.before.before.before.before.before.before.before.before.before.requires.1.0 in
-    let three = noted-three c.before.before.before.before.before.before.before.before.before.before.before.before.before.before.before.before.before.before.requires.1.0 c.before.before.before.before.before.before.before.before.before.before.before.before.kind-of.result c.before.before.before.before.before.before.before.before.before.before.before.before.kind-of.ensures c.before.before.before.before.before.before.before.before.if2.false in
+    let three = noted_three c.before.before.before.before.before.before.before.before.before.before.before.before.before.before.before.before.before.before.requires.1.0 c.before.before.before.before.before.before.before.before.before.before.before.before.kind-of.result c.before.before.before.before.before.before.before.before.before.before.before.before.kind-of.ensures c.before.before.before.before.before.before.before.before.if2.false in
     let others = c.before.before.before.match.rest in
     (omega (arith, three, c.before.before.before.before.before.before.before.before.before.before.before.before.before.before.before.before.before.before.requires.1.1.1), (choice-given noted c.before.before.before.before.before.before.put-row2.new.0 c.before.before.before.before.before.before.put-row2.auto.0 c.before.before.before.before.before.before.before.before.before.before.before.before.kind-of.result c.before.before.before.before.before.before.before.before.before.before.before.before.kind-of.ensures c.before.before.before.before.before.before.before.before.if2.false others.0.1 others.1 c.type-at.result c.type-at.ensures, c.before.before.before.before.before.before.before.before.before.before.before.before.before.before.before.before.before.before.requires.1.1))
 
@@ -220,7 +220,7 @@ emit-returns-3 t c =
     let top = c.before.before.before.before.before.before.before.before.before.before.before.before.before.before.before.before.before.before.before.before.before.before.args.top in
     let rows = c.before.before.before.before.before.before.before.before.before.before.before.before.before.before.before.before.before.before.before.before.before.before.args.rows.now in
     let pool = c.before.before.before.before.before.before.before.before.before.before.before.before.before.before.before.before.before.before.before.before.before.before.args.pool.now in
-    parts-emitted types s z rows c.before.before.before.before.before.before.before.before.before.before.put-row2.new.0 c.before.before.before.before.parts.new.1.1.1.0 pool c.before.before.before.before.parts.new.1.1.1.1.0 row top c.before.before.before.before.before.before.before.before.before.before.before.before.before.before.before.before.before.before.before.before.before.before.args.slot c.before.before.before.before.before.before.before.before.before.before.before.before.before.before.before.before.before.before.before.before.before.before.args.offset c.before.before.before.before.parts.result c.before.before.before.before.before.before.before.before.before.before.before.before.before.before.before.before.kind-of.result c.before.before.before.before.before.before.before.before.before.before.before.before.before.before.before.before.kind-of.ensures c.before.before.before.before.before.before.before.before.before.before.put-row2.ensures c.before.before.before.before.before.before.before.match.keys1 c.before.before.before.before.parts.ensures
+    parts_emitted types s z rows c.before.before.before.before.before.before.before.before.before.before.put-row2.new.0 c.before.before.before.before.parts.new.1.1.1.0 pool c.before.before.before.before.parts.new.1.1.1.1.0 row top c.before.before.before.before.before.before.before.before.before.before.before.before.before.before.before.before.before.before.before.before.before.before.args.slot c.before.before.before.before.before.before.before.before.before.before.before.before.before.before.before.before.before.before.before.before.before.before.args.offset c.before.before.before.before.parts.result c.before.before.before.before.before.before.before.before.before.before.before.before.before.before.before.before.kind-of.result c.before.before.before.before.before.before.before.before.before.before.before.before.before.before.before.before.kind-of.ensures c.before.before.before.before.before.before.before.before.before.before.put-row2.ensures c.before.before.before.before.before.before.before.match.keys1 c.before.before.before.before.parts.ensures
 
 emit-same-length-6 : (t : ℕ) → emit-lts.Need-same-length-6 (emit-calls t) (emit-at t) emit.Post
 emit-same-length-6 t c = search rules
@@ -237,7 +237,7 @@ emit-returns-4 t c =
     let top = c.before.before.before.before.before.before.before.before.before.before.before.before.before.before.before.before.before.before.before.before.before.before.before.before.before.args.top in
     let rows = c.before.before.before.before.before.before.before.before.before.before.before.before.before.before.before.before.before.before.before.before.before.before.before.before.before.args.rows.now in
     let pool = c.before.before.before.before.before.before.before.before.before.before.before.before.before.before.before.before.before.before.before.before.before.before.before.before.before.args.pool.now in
-    list-emitted types s z rows c.before.before.before.before.before.before.before.before.before.before.before.before.before.put-row2.new.0 c.before.before.before.before.items.new.1.1.1.0 pool c.before.before.before.before.items.new.1.1.1.1.0 row top c.before.before.before.before.before.before.before.before.before.before.before.before.before.before.before.before.before.before.before.before.before.before.before.before.before.args.slot c.before.before.before.before.before.before.before.before.before.before.before.before.before.before.before.before.before.before.before.before.before.before.before.before.before.args.offset c.before.before.before.before.items.result c.before.before.before.before.before.before.before.before.before.before.before.before.before.before.before.before.before.before.before.kind-of.result c.before.before.before.before.before.before.before.before.before.before.before.before.before.before.before.before.before.before.before.kind-of.ensures c.before.before.before.before.before.before.before.before.before.before.before.before.before.put-row2.ensures c.before.before.before.before.before.before.before.before.before.before.match.keys2 c.before.before.before.before.before.element-of.result c.before.before.before.before.before.before.before.before.wide.result c.before.before.before.before.before.element-of.ensures c.before.before.before.before.before.before.before.before.wide.ensures.0 c.before.before.before.before.items.ensures
+    list_emitted types s z rows c.before.before.before.before.before.before.before.before.before.before.before.before.before.put-row2.new.0 c.before.before.before.before.items.new.1.1.1.0 pool c.before.before.before.before.items.new.1.1.1.1.0 row top c.before.before.before.before.before.before.before.before.before.before.before.before.before.before.before.before.before.before.before.before.before.before.before.before.before.args.slot c.before.before.before.before.before.before.before.before.before.before.before.before.before.before.before.before.before.before.before.before.before.before.before.before.before.args.offset c.before.before.before.before.items.result c.before.before.before.before.before.before.before.before.before.before.before.before.before.before.before.before.before.before.before.kind-of.result c.before.before.before.before.before.before.before.before.before.before.before.before.before.before.before.before.before.before.before.kind-of.ensures c.before.before.before.before.before.before.before.before.before.before.before.before.before.put-row2.ensures c.before.before.before.before.before.before.before.before.before.before.match.keys2 c.before.before.before.before.before.element-of.result c.before.before.before.before.before.before.before.before.wide.result c.before.before.before.before.before.element-of.ensures c.before.before.before.before.before.before.before.before.wide.ensures.0 c.before.before.before.before.items.ensures
 
 emit-same-length-8 : (t : ℕ) → emit-lts.Need-same-length-8 (emit-calls t) (emit-at t) emit.Post
 emit-same-length-8 t c = search rules
@@ -255,9 +255,9 @@ emit-returns-5 t c =
     let rows = c.before.before.before.before.before.before.before.before.before.before.before.before.before.before.before.before.before.before.before.before.before.before.before.args.rows.now in
     let pool = c.before.before.before.before.before.before.before.before.before.before.before.before.before.before.before.before.before.before.before.before.before.before.before.args.pool.now in
     let others = c.before.before.before.before.before.before.before.before.match.rest in
-    choice-emitted types s z rows c.before.before.before.before.before.before.before.before.before.before.before.put-row2.new.0 c.before.before.before.before.emit.new.1.1.1.0 pool c.before.before.before.before.emit.new.1.1.1.1.0 row top c.before.before.before.before.before.before.before.before.before.before.before.before.before.before.before.before.before.before.before.before.before.before.before.args.slot c.before.before.before.before.before.before.before.before.before.before.before.before.before.before.before.before.before.before.before.before.before.before.before.args.offset c.before.before.before.before.emit.result c.before.before.before.before.before.before.before.before.before.before.before.before.before.before.before.before.before.kind-of.result c.before.before.before.before.before.before.before.before.before.before.before.before.before.before.before.before.before.kind-of.ensures c.before.before.before.before.before.before.before.before.before.before.before.put-row2.ensures c.before.before.before.before.before.before.before.before.before.before.before.before.before.if2.false others.0.1 others.1 c.before.before.before.before.before.type-at.result c.before.before.before.before.before.type-at.ensures c.before.before.before.before.emit.ensures
+    choice_emitted types s z rows c.before.before.before.before.before.before.before.before.before.before.before.put-row2.new.0 c.before.before.before.before.emit.new.1.1.1.0 pool c.before.before.before.before.emit.new.1.1.1.1.0 row top c.before.before.before.before.before.before.before.before.before.before.before.before.before.before.before.before.before.before.before.before.before.before.before.args.slot c.before.before.before.before.before.before.before.before.before.before.before.before.before.before.before.before.before.before.before.before.before.before.before.args.offset c.before.before.before.before.emit.result c.before.before.before.before.before.before.before.before.before.before.before.before.before.before.before.before.before.kind-of.result c.before.before.before.before.before.before.before.before.before.before.before.before.before.before.before.before.before.kind-of.ensures c.before.before.before.before.before.before.before.before.before.before.before.put-row2.ensures c.before.before.before.before.before.before.before.before.before.before.before.before.before.if2.false others.0.1 others.1 c.before.before.before.before.before.type-at.result c.before.before.before.before.before.type-at.ensures c.before.before.before.before.emit.ensures
 
-items-loop-holds : (t : ℕ) → items-lts.Need-loop-init (items-calls t) (items_at t) items.Post items-Inv-loop items-μ-loop
+items-loop-holds : (t : ℕ) → items-lts.Need-loop-init (items-calls t) (items_at_lem t) items.Post items-Inv-loop items-μ-loop
 items-loop-holds t c =
     let s = c.before.before.before.before.before.args.s.now in
     let z = c.before.before.before.before.before.args.tape.now in
@@ -266,7 +266,7 @@ items-loop-holds t c =
     let pool = c.before.before.before.before.before.args.pool.now in
     (refl, refl, omega arith, λ ns vs w. pouring-start _ s z rows pool row vs c.before.before.before.before.before.args.end c.before.before.before.before.before.args.slot c.before.before.before.before.before.args.offset c.before.before.before.before.before.args.from w)
 
-items-emit-requires : (t : ℕ) → items-lts.Need-emit-requires (items-calls t) (items_at t) items.Post items-Inv-loop items-μ-loop
+items-emit-requires : (t : ℕ) → items-lts.Need-emit-requires (items-calls t) (items_at_lem t) items.Post items-Inv-loop items-μ-loop
 items-emit-requires t c κs =
     let types = c.before.before.before.before.before.before.before.before.before.args.types.now in
     let s = c.before.before.before.before.before.before.before.before.before.args.s.now in
@@ -275,10 +275,10 @@ items-emit-requires t c κs =
     let noted = c.before.before.before.before.before.before.before.before.before.requires.1.0 in
     let rows = c.before.before.before.before.before.before.before.before.before.args.rows.now in
     let pool = c.before.before.before.before.before.before.before.before.before.args.pool.now in
-    let again = items-noted types s z rows c.before.before.before.loop.rows pool c.before.before.before.loop.pool row c.before.before.before.before.before.before.before.before.before.args.from c.before.before.before.before.before.before.before.before.before.args.end c.before.before.before.before.before.before.before.before.before.args.slot c.before.before.before.before.before.before.before.before.before.args.offset c.before.before.before.loop.at c.before.before.before.loop.q c.before.before.before.loop.o noted c.before.before.before.loop.invariant c.before.before.loop-test.true in
-    (omega (arith, c.before.before.before.loop.invariant.2, noted-two again, c.before.before.before.before.before.before.before.before.before.requires.1.1.1), (again, c.before.before.before.before.before.before.before.before.before.requires.1.1))
+    let again = items_noted types s z rows c.before.before.before.loop.rows pool c.before.before.before.loop.pool row c.before.before.before.before.before.before.before.before.before.args.from c.before.before.before.before.before.before.before.before.before.args.end c.before.before.before.before.before.before.before.before.before.args.slot c.before.before.before.before.before.before.before.before.before.args.offset c.before.before.before.loop.at c.before.before.before.loop.q c.before.before.before.loop.o noted c.before.before.before.loop.invariant c.before.before.loop-test.true in
+    (omega (arith, c.before.before.before.loop.invariant.2, noted_two again, c.before.before.before.before.before.before.before.before.before.requires.1.1.1), (again, c.before.before.before.before.before.before.before.before.before.requires.1.1))
 
-items-node-at-requires : (t : ℕ) → items-lts.Need-node-at-requires (items-calls t) (items_at t) items.Post items-Inv-loop items-μ-loop
+items-node-at-requires : (t : ℕ) → items-lts.Need-node-at-requires (items-calls t) (items_at_lem t) items.Post items-Inv-loop items-μ-loop
 items-node-at-requires t c κs =
     let types = c.before.before.before.before.before.before.before.before.before.before.before.before.before.before.args.types.now in
     let s = c.before.before.before.before.before.before.before.before.before.before.before.before.before.before.args.s.now in
@@ -287,10 +287,10 @@ items-node-at-requires t c κs =
     let noted = c.before.before.before.before.before.before.before.before.before.before.before.before.before.before.requires.1.0 in
     let rows = c.before.before.before.before.before.before.before.before.before.before.before.before.before.before.args.rows.now in
     let pool = c.before.before.before.before.before.before.before.before.before.before.before.before.before.before.args.pool.now in
-    let again = items-noted types s z rows c.before.before.before.before.before.before.before.before.loop.rows pool c.before.before.before.before.before.before.before.before.loop.pool row c.before.before.before.before.before.before.before.before.before.before.before.before.before.before.args.from c.before.before.before.before.before.before.before.before.before.before.before.before.before.before.args.end c.before.before.before.before.before.before.before.before.before.before.before.before.before.before.args.slot c.before.before.before.before.before.before.before.before.before.before.before.before.before.before.args.offset c.before.before.before.before.before.before.before.before.loop.at c.before.before.before.before.before.before.before.before.loop.q c.before.before.before.before.before.before.before.before.loop.o noted c.before.before.before.before.before.before.before.before.loop.invariant c.before.before.before.before.before.before.before.loop-test.true in
-    noted-nodes again
+    let again = items_noted types s z rows c.before.before.before.before.before.before.before.before.loop.rows pool c.before.before.before.before.before.before.before.before.loop.pool row c.before.before.before.before.before.before.before.before.before.before.before.before.before.before.args.from c.before.before.before.before.before.before.before.before.before.before.before.before.before.before.args.end c.before.before.before.before.before.before.before.before.before.before.before.before.before.before.args.slot c.before.before.before.before.before.before.before.before.before.before.before.before.before.before.args.offset c.before.before.before.before.before.before.before.before.loop.at c.before.before.before.before.before.before.before.before.loop.q c.before.before.before.before.before.before.before.before.loop.o noted c.before.before.before.before.before.before.before.before.loop.invariant c.before.before.before.before.before.before.before.loop-test.true in
+    noted_nodes again
 
-items-add-q : (t : ℕ) → items-lts.Need-overflow-add-q (items-calls t) (items_at t) items.Post items-Inv-loop items-μ-loop
+items-add-q : (t : ℕ) → items-lts.Need-overflow-add-q (items-calls t) (items_at_lem t) items.Post items-Inv-loop items-μ-loop
 items-add-q t c =
     let types = c.before.before.before.before.before.before.before.before.before.before.before.before.before.before.before.before.args.types.now in
     let s = c.before.before.before.before.before.before.before.before.before.before.before.before.before.before.before.before.args.s.now in
@@ -302,7 +302,7 @@ items-add-q t c =
     let step = items-step types s z rows c.before.before.before.before.before.before.before.before.before.before.loop.rows pool c.before.before.before.before.before.before.before.before.before.before.loop.pool row c.before.before.before.before.before.before.before.before.before.before.before.before.before.before.before.before.args.from c.before.before.before.before.before.before.before.before.before.before.before.before.before.before.before.before.args.end c.before.before.before.before.before.before.before.before.before.before.before.before.before.before.before.before.args.slot c.before.before.before.before.before.before.before.before.before.before.before.before.before.before.before.before.args.offset c.before.before.before.before.before.before.before.before.before.before.loop.at c.before.before.before.before.before.before.before.before.before.before.loop.q c.before.before.before.before.before.before.before.before.before.before.loop.o noted c.before.before.before.before.before.before.before.before.before.before.loop.invariant c.before.before.before.before.before.before.before.before.before.loop-test.true c.before.Node-at.result.end c.before.Node-at.result.rows c.before.Node-at.ensures in
     omega (arith, step.1)
 
-items-loop-less : (t : ℕ) → items-lts.Need-loop-smaller (items-calls t) (items_at t) items.Post items-Inv-loop items-μ-loop
+items-loop-less : (t : ℕ) → items-lts.Need-loop-smaller (items-calls t) (items_at_lem t) items.Post items-Inv-loop items-μ-loop
 items-loop-less t c =
     let types = c.before.before.before.before.before.before.before.before.before.before.before.before.before.before.before.before.args.types.now in
     let s = c.before.before.before.before.before.before.before.before.before.before.before.before.before.before.before.before.args.s.now in
@@ -314,7 +314,7 @@ items-loop-less t c =
     let step = items-step types s z rows c.before.before.before.before.before.before.before.before.before.before.loop.rows pool c.before.before.before.before.before.before.before.before.before.before.loop.pool row c.before.before.before.before.before.before.before.before.before.before.before.before.before.before.before.before.args.from c.before.before.before.before.before.before.before.before.before.before.before.before.before.before.before.before.args.end c.before.before.before.before.before.before.before.before.before.before.before.before.before.before.before.before.args.slot c.before.before.before.before.before.before.before.before.before.before.before.before.before.before.before.before.args.offset c.before.before.before.before.before.before.before.before.before.before.loop.at c.before.before.before.before.before.before.before.before.before.before.loop.q c.before.before.before.before.before.before.before.before.before.before.loop.o noted c.before.before.before.before.before.before.before.before.before.before.loop.invariant c.before.before.before.before.before.before.before.before.before.loop-test.true c.before.Node-at.result.end c.before.Node-at.result.rows c.before.Node-at.ensures in
     omega (arith, step.0, c.before.before.before.before.before.before.before.before.before.loop-test.true)
 
-items-loop-again : (t : ℕ) → items-lts.Need-loop-preserved (items-calls t) (items_at t) items.Post items-Inv-loop items-μ-loop
+items-loop-again : (t : ℕ) → items-lts.Need-loop-preserved (items-calls t) (items_at_lem t) items.Post items-Inv-loop items-μ-loop
 items-loop-again t c =
     let types = c.before.before.before.before.before.before.before.before.before.before.before.before.before.before.before.before.args.types.now in
     let s = c.before.before.before.before.before.before.before.before.before.before.before.before.before.before.before.before.args.s.now in
@@ -325,13 +325,13 @@ items-loop-again t c =
     let pool = c.before.before.before.before.before.before.before.before.before.before.before.before.before.before.before.before.args.pool.now in
     items-again types s z rows c.before.before.before.before.before.before.before.before.before.before.loop.rows pool c.before.before.before.before.before.before.before.before.before.before.loop.pool row c.before.before.before.before.before.before.before.before.before.before.before.before.before.before.before.before.args.from c.before.before.before.before.before.before.before.before.before.before.before.before.before.before.before.before.args.end c.before.before.before.before.before.before.before.before.before.before.before.before.before.before.before.before.args.slot c.before.before.before.before.before.before.before.before.before.before.before.before.before.before.before.before.args.offset c.before.before.before.before.before.before.before.before.before.before.loop.at c.before.before.before.before.before.before.before.before.before.before.loop.q c.before.before.before.before.before.before.before.before.before.before.loop.o noted c.before.before.before.before.before.before.before.before.before.before.loop.invariant c.before.before.before.before.before.before.before.before.before.loop-test.true c.before.before.before.before.before.before.emit.new.1.1.1.0 c.before.before.before.before.before.before.emit.new.1.1.1.1.0 c.before.Node-at.result.end c.before.Node-at.result.rows c.before.before.before.before.before.before.emit.result c.before.before.before.before.before.before.emit.auto.1.1.1.0 c.before.before.before.before.before.before.emit.auto.1.1.1.1.0 c.before.before.before.before.before.before.emit.ensures c.before.Node-at.ensures
 
-items-same-length : (t : ℕ) → items-lts.Need-same-length (items-calls t) (items_at t) items.Post items-Inv-loop items-μ-loop
+items-same-length : (t : ℕ) → items-lts.Need-same-length (items-calls t) (items_at_lem t) items.Post items-Inv-loop items-μ-loop
 items-same-length t c = search rules
 
-items-same-length-2 : (t : ℕ) → items-lts.Need-same-length-2 (items-calls t) (items_at t) items.Post items-Inv-loop items-μ-loop
+items-same-length-2 : (t : ℕ) → items-lts.Need-same-length-2 (items-calls t) (items_at_lem t) items.Post items-Inv-loop items-μ-loop
 items-same-length-2 t c = search rules
 
-items-returns : (t : ℕ) → items-lts.Need-returns (items-calls t) (items_at t) items.Post items-Inv-loop items-μ-loop
+items-returns : (t : ℕ) → items-lts.Need-returns (items-calls t) (items_at_lem t) items.Post items-Inv-loop items-μ-loop
 items-returns t c =
     let types = c.before.before.before.before.before.before.before.args.types.now in
     let s = c.before.before.before.before.before.before.before.args.s.now in
@@ -448,8 +448,8 @@ parts-emit-requires t c κs =
     let rows = c.before.before.before.before.before.before.before.before.before.before.before.before.before.before.before.args.rows.now in
     let pool = c.before.before.before.before.before.before.before.before.before.before.before.before.before.before.before.args.pool.now in
     let word = c.before.before.before.before.wide2.ensures.0 ∙ ap (λ (x : ℕ). get_or z (c.before.before.before.before.before.before.before.before.before.before.before.before.before.before.before.args.from + x) 0) c.before.before.before.before.before.before.wide.ensures.0 in
-    let part = parts-noted types s z rows pool row c.before.before.before.before.before.before.before.before.before.before.before.before.before.before.before.args.from c.before.before.before.before.before.before.before.before.before.before.before.before.before.before.before.args.slot c.before.before.before.before.before.before.before.before.before.before.before.before.before.before.before.args.offset noted c.before.before.before.before.before.before.before.before.before.count_of.result c.before.before.before.before.before.before.before.before.before.count_of.ensures c.before.before.before.before.before.before.before.before.loop.rows c.before.before.before.before.before.before.before.before.loop.pool c.before.before.before.before.before.before.before.before.loop.k c.before.before.before.before.before.before.before.before.loop.q c.before.before.before.before.before.before.before.before.loop.o c.before.before.before.before.before.before.before.before.loop.invariant c.before.before.before.before.before.before.before.loop-test.true c.before.before.before.before.wide2.result word c.before.before.type-at.result c.before.before.type-at.ensures c.before.before.before.if1.false in
-    (omega (arith, parts-ahead types s z rows pool row c.before.before.before.before.before.before.before.before.before.before.before.before.before.before.before.args.from c.before.before.before.before.before.before.before.before.before.before.before.before.before.before.before.args.slot c.before.before.before.before.before.before.before.before.before.before.before.before.before.before.before.args.offset noted c.before.before.before.before.before.before.before.before.before.count_of.result c.before.before.before.before.before.before.before.before.before.count_of.ensures c.before.before.before.before.before.before.before.before.loop.rows c.before.before.before.before.before.before.before.before.loop.pool c.before.before.before.before.before.before.before.before.loop.k c.before.before.before.before.before.before.before.before.loop.q c.before.before.before.before.before.before.before.before.loop.o c.before.before.before.before.before.before.before.before.loop.invariant c.before.before.before.before.before.before.before.loop-test.true c.before.before.before.before.wide2.result word c.before.before.type-at.result c.before.before.type-at.ensures c.before.before.before.if1.false, noted-two part, c.before.before.before.before.before.before.before.before.before.before.before.before.before.before.before.requires.1.1.1), (part, c.before.before.before.before.before.before.before.before.before.before.before.before.before.before.before.requires.1.1))
+    let part = parts_noted types s z rows pool row c.before.before.before.before.before.before.before.before.before.before.before.before.before.before.before.args.from c.before.before.before.before.before.before.before.before.before.before.before.before.before.before.before.args.slot c.before.before.before.before.before.before.before.before.before.before.before.before.before.before.before.args.offset noted c.before.before.before.before.before.before.before.before.before.count_of.result c.before.before.before.before.before.before.before.before.before.count_of.ensures c.before.before.before.before.before.before.before.before.loop.rows c.before.before.before.before.before.before.before.before.loop.pool c.before.before.before.before.before.before.before.before.loop.k c.before.before.before.before.before.before.before.before.loop.q c.before.before.before.before.before.before.before.before.loop.o c.before.before.before.before.before.before.before.before.loop.invariant c.before.before.before.before.before.before.before.loop-test.true c.before.before.before.before.wide2.result word c.before.before.type-at.result c.before.before.type-at.ensures c.before.before.before.if1.false in
+    (omega (arith, parts-ahead types s z rows pool row c.before.before.before.before.before.before.before.before.before.before.before.before.before.before.before.args.from c.before.before.before.before.before.before.before.before.before.before.before.before.before.before.before.args.slot c.before.before.before.before.before.before.before.before.before.before.before.before.before.before.before.args.offset noted c.before.before.before.before.before.before.before.before.before.count_of.result c.before.before.before.before.before.before.before.before.before.count_of.ensures c.before.before.before.before.before.before.before.before.loop.rows c.before.before.before.before.before.before.before.before.loop.pool c.before.before.before.before.before.before.before.before.loop.k c.before.before.before.before.before.before.before.before.loop.q c.before.before.before.before.before.before.before.before.loop.o c.before.before.before.before.before.before.before.before.loop.invariant c.before.before.before.before.before.before.before.loop-test.true c.before.before.before.before.wide2.result word c.before.before.type-at.result c.before.before.type-at.ensures c.before.before.before.if1.false, noted_two part, c.before.before.before.before.before.before.before.before.before.before.before.before.before.before.before.requires.1.1.1), (part, c.before.before.before.before.before.before.before.before.before.before.before.before.before.before.before.requires.1.1))
 
 parts-node-at-requires : (t : ℕ) → parts-lts.Need-node-at-requires (parts-calls t) (parts_at t) parts.Post parts-Inv-loop parts-μ-loop
 parts-node-at-requires t c κs =
@@ -461,8 +461,8 @@ parts-node-at-requires t c κs =
     let rows = c.before.before.before.before.before.before.before.before.before.before.before.before.before.before.before.before.before.before.before.before.args.rows.now in
     let pool = c.before.before.before.before.before.before.before.before.before.before.before.before.before.before.before.before.before.before.before.before.args.pool.now in
     let word = c.before.before.before.before.before.before.before.before.before.wide2.ensures.0 ∙ ap (λ (x : ℕ). get_or z (c.before.before.before.before.before.before.before.before.before.before.before.before.before.before.before.before.before.before.before.before.args.from + x) 0) c.before.before.before.before.before.before.before.before.before.before.before.wide.ensures.0 in
-    let part = parts-noted types s z rows pool row c.before.before.before.before.before.before.before.before.before.before.before.before.before.before.before.before.before.before.before.before.args.from c.before.before.before.before.before.before.before.before.before.before.before.before.before.before.before.before.before.before.before.before.args.slot c.before.before.before.before.before.before.before.before.before.before.before.before.before.before.before.before.before.before.before.before.args.offset noted c.before.before.before.before.before.before.before.before.before.before.before.before.before.before.count_of.result c.before.before.before.before.before.before.before.before.before.before.before.before.before.before.count_of.ensures c.before.before.before.before.before.before.before.before.before.before.before.before.before.loop.rows c.before.before.before.before.before.before.before.before.before.before.before.before.before.loop.pool c.before.before.before.before.before.before.before.before.before.before.before.before.before.loop.k c.before.before.before.before.before.before.before.before.before.before.before.before.before.loop.q c.before.before.before.before.before.before.before.before.before.before.before.before.before.loop.o c.before.before.before.before.before.before.before.before.before.before.before.before.before.loop.invariant c.before.before.before.before.before.before.before.before.before.before.before.before.loop-test.true c.before.before.before.before.before.before.before.before.before.wide2.result word c.before.before.before.before.before.before.before.type-at.result c.before.before.before.before.before.before.before.type-at.ensures c.before.before.before.before.before.before.before.before.if1.false in
-    noted-nodes part
+    let part = parts_noted types s z rows pool row c.before.before.before.before.before.before.before.before.before.before.before.before.before.before.before.before.before.before.before.before.args.from c.before.before.before.before.before.before.before.before.before.before.before.before.before.before.before.before.before.before.before.before.args.slot c.before.before.before.before.before.before.before.before.before.before.before.before.before.before.before.before.before.before.before.before.args.offset noted c.before.before.before.before.before.before.before.before.before.before.before.before.before.before.count_of.result c.before.before.before.before.before.before.before.before.before.before.before.before.before.before.count_of.ensures c.before.before.before.before.before.before.before.before.before.before.before.before.before.loop.rows c.before.before.before.before.before.before.before.before.before.before.before.before.before.loop.pool c.before.before.before.before.before.before.before.before.before.before.before.before.before.loop.k c.before.before.before.before.before.before.before.before.before.before.before.before.before.loop.q c.before.before.before.before.before.before.before.before.before.before.before.before.before.loop.o c.before.before.before.before.before.before.before.before.before.before.before.before.before.loop.invariant c.before.before.before.before.before.before.before.before.before.before.before.before.loop-test.true c.before.before.before.before.before.before.before.before.before.wide2.result word c.before.before.before.before.before.before.before.type-at.result c.before.before.before.before.before.before.before.type-at.ensures c.before.before.before.before.before.before.before.before.if1.false in
+    noted_nodes part
 
 parts-add-q-2 : (t : ℕ) → parts-lts.Need-overflow-add-q-2 (parts-calls t) (parts_at t) parts.Post parts-Inv-loop parts-μ-loop
 parts-add-q-2 t c =
@@ -552,7 +552,7 @@ pub +emit-items-parts-spec : {M : Type 1} → statement M
     (emit-same-length-8 t)
     (emit-same-length-9 t)
     (emit-returns-5 t))
-    (λ t. items-lts.spec (items-calls t) (items_at t) items.Post
+    (λ t. items-lts.spec (items-calls t) (items_at_lem t) items.Post
     items-Inv-loop
     items-μ-loop
     (items-loop-holds t)

@@ -2,7 +2,7 @@
 use mathlib.Core.Path.{sym, ◌∙◌}
 use mathlib.Core.List.{[]}
 use native.Mathlib.Omega.{arith}
-use Rattle.quick.proofs.EmitLaws.{node-leaf, node-bracket}
+use Rattle.quick.proofs.EmitLaws.{node_leaf, node_bracket}
 use borrow.Author.Rules.{rules}
 use Rattle.quick.proofs.emit.node_at.Statement.{statement}
 use Rattle.quick.proofs.emit.node_at.Tie as tie
@@ -14,7 +14,7 @@ add-t7 : tie.Need-overflow-add-t7
 add-t7 c = search rules
 
 returns : tie.Need-returns
-returns c = λ s ns v k w. node-leaf (omega (arith, c.if1.true, c.before.kind-of.ensures ns)) w
+returns c = λ s ns v k w. node_leaf (omega (arith, c.if1.true, c.before.kind-of.ensures ns)) w
 
 add_wide : tie.Need-overflow-add-wide
 add_wide c = search rules
@@ -41,7 +41,7 @@ wide-requires-2 : tie.Need-wide-requires-2
 wide-requires-2 c κs = search rules
 
 returns-2 : tie.Need-returns-2
-returns-2 c = λ s ns v k w. let n = node-bracket (omega (arith, c.before.before.before.before.if1.false, c.before.before.before.before.before.kind-of.ensures ns)) w in (c.before.before.wide.ensures.0 ∙ n.0, c.wide2.ensures.0 ∙ n.1)
+returns-2 c = λ s ns v k w. let n = node_bracket (omega (arith, c.before.before.before.before.if1.false, c.before.before.before.before.before.kind-of.ensures ns)) w in (c.before.before.wide.ensures.0 ∙ n.0, c.wide2.ensures.0 ∙ n.1)
 
 pub node_at_spec : {M : Type 1} → statement M
 node_at_spec =

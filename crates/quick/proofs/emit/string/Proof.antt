@@ -6,7 +6,7 @@ use native.Mathlib.Omega.{arith}
 use lib.ListN.{get_or}
 use Rattle.jer.specs.Table.{table}
 use Rattle.jer.specs.Octets.{unhex, unbase64}
-use Rattle.quick.proofs.EmitLaws.{noted-two, noted-slot, noted-bytes, text-stored, hex-stored, base64-stored, hex-room, base64-room, octets-at, hex-at, escaped-emitted, escaped-room, octet-kind, stored-place}
+use Rattle.quick.proofs.EmitLaws.{noted_two, noted_slot, noted_bytes, text-stored, hex-stored, base64-stored, hex-room, base64-room, octets-at, hex-at, escaped_emitted, escaped-room, octet-kind, stored-place}
 use borrow.Author.Rules.{rules}
 use Rattle.quick.proofs.emit.string.Statement.{statement}
 use Rattle.quick.proofs.emit.string.Tie as tie
@@ -16,27 +16,27 @@ at-requires c κs = search rules
 
 mul-a : tie.Need-overflow-mul-a
 mul-a c =
-    let two = noted-two c.before.before.before.before.before.before.requires.0 in
+    let two = noted_two c.before.before.before.before.before.before.requires.0 in
     omega (arith, two, c.before.before.before.before.before.before.requires.1.1)
 
 shared-slice-read-a : tie.Need-shared-slice-read-a
 shared-slice-read-a c =
-    let two = noted-two c.before.before.before.before.before.before.before.requires.0 in
+    let two = noted_two c.before.before.before.before.before.before.before.requires.0 in
     omega (arith, two)
 
 add-b : tie.Need-overflow-add-b
 add-b c =
-    let two = noted-two c.before.before.before.before.before.before.before.requires.0 in
+    let two = noted_two c.before.before.before.before.before.before.before.requires.0 in
     omega (arith, two, c.before.before.before.before.before.before.before.requires.1.1)
 
 mul-b : tie.Need-overflow-mul-b
 mul-b c =
-    let two = noted-two c.before.before.before.before.before.before.before.requires.0 in
+    let two = noted_two c.before.before.before.before.before.before.before.requires.0 in
     omega (arith, two, c.before.before.before.before.before.before.before.requires.1.1)
 
 shared-slice-read-b : tie.Need-shared-slice-read-b
 shared-slice-read-b c =
-    let two = noted-two c.before.before.before.before.before.before.before.before.requires.0 in
+    let two = noted_two c.before.before.before.before.before.before.before.before.requires.0 in
     omega (arith, two)
 
 kind-of-requires : tie.Need-kind-of-requires
@@ -47,11 +47,11 @@ cast-put-row c = search rules
 
 put-row-requires : tie.Need-put-row-requires
 put-row-requires c κs =
-    let here = noted-slot c.before.before.before.before.before.before.before.before.before.before.before.requires.0 in
+    let here = noted_slot c.before.before.before.before.before.before.before.before.before.before.before.requires.0 in
     omega (arith, here)
 
 put-text-requires : tie.Need-put-text-requires
-put-text-requires c κs = (c.before.before.before.before.before.before.before.before.before.before.before.before.before.before.before.requires.1.0, noted-bytes c.before.before.before.before.before.before.before.before.before.before.before.before.before.before.before.requires.0 (λ ns. sym (c.before.before.before.before.before.before.kind-of.ensures ns) ∙ c.before.before.before.before.before.if1.true), omega (arith, c.before.before.before.before.before.before.before.before.before.before.before.before.before.before.before.requires.0.room.small))
+put-text-requires c κs = (c.before.before.before.before.before.before.before.before.before.before.before.before.before.before.before.requires.1.0, noted_bytes c.before.before.before.before.before.before.before.before.before.before.before.before.before.before.before.requires.0 (λ ns. sym (c.before.before.before.before.before.before.kind-of.ensures ns) ∙ c.before.before.before.before.before.if1.true), omega (arith, c.before.before.before.before.before.before.before.before.before.before.before.before.before.before.before.requires.0.room.small))
 
 wide-requires : tie.Need-wide-requires
 wide-requires c κs = search rules
@@ -76,7 +76,7 @@ cast-put-row-2 c = search rules
 
 put-row-requires-2 : tie.Need-put-row-requires-2
 put-row-requires-2 c κs =
-    let here = noted-slot c.before.before.before.before.before.before.before.before.before.before.before.before.requires.0 in
+    let here = noted_slot c.before.before.before.before.before.before.before.before.before.before.before.before.requires.0 in
     omega (arith, here)
 
 wide-requires-2 : tie.Need-wide-requires-2
@@ -103,7 +103,7 @@ returns-2 c =
     let types = c.before.before.before.before.before.before.before.before.before.before.before.before.before.before.before.before.before.before.before.before.before.args.types.now in
     let rows = c.before.before.before.before.before.before.before.before.before.before.before.before.before.before.before.before.before.before.before.before.before.args.rows.now in
     let pool = c.before.before.before.before.before.before.before.before.before.before.before.before.before.before.before.before.before.before.before.before.before.args.pool.now in
-    λ ns v k w. escaped-emitted c.before.before.before.before.before.before.before.before.before.before.before.before.before.before.before.before.before.before.before.before.before.args.offset c.before.before.before.before.before.before.before.before.before.before.before.before.before.before.before.before.before.before.before.before.before.args.slot _ rows c.before.before.before.before.before.before.before.before.put-row2.new.0 pool c.before.before.before.octets-at.new.1.1.0 (octet-kind (c.before.before.before.before.before.before.before.before.before.before.before.before.before.before.before.before.before.before.before.before.before.requires.2 ns) c.before.before.before.before.before.before.before.before.before.before.before.if1.false (c.before.before.before.before.before.before.before.before.before.before.before.before.kind-of.ensures ns)) c.before.before.before.before.before.before.before.before.before.before.before.before.before.before.before.before.before.before.before.before.before.requires.1.0 c.before.before.before.before.before.before.before.before.before.before.if2.true c.before.before.before.before.before.before.before.before.put-row2.ensures (stored-place c.before.before.before.before.before.before.before.before.before.before.before.before.before.before.before.before.before.before.before.before.before.args.s.now c.before.before.before.octets-at.new.1.1.0 pool c.before.before.before.before.before.before.before.before.before.before.before.before.before.before.before.before.before.before.before.before.before.args.offset (table types ns) c.before.before.before.before.before.before.before.before.before.before.before.before.before.before.before.before.before.before.before.before.before.args.row c.before.before.before.before.wide2.ensures.0 (c.before.before.before.octets-at.ensures.1 ns)) (ap (λ (x : ℕ). c.before.before.before.before.before.before.before.before.before.before.before.before.before.before.before.before.before.before.before.before.before.args.offset + x) c.wide3.ensures.0) w
+    λ ns v k w. escaped_emitted c.before.before.before.before.before.before.before.before.before.before.before.before.before.before.before.before.before.before.before.before.before.args.offset c.before.before.before.before.before.before.before.before.before.before.before.before.before.before.before.before.before.before.before.before.before.args.slot _ rows c.before.before.before.before.before.before.before.before.put-row2.new.0 pool c.before.before.before.octets-at.new.1.1.0 (octet-kind (c.before.before.before.before.before.before.before.before.before.before.before.before.before.before.before.before.before.before.before.before.before.requires.2 ns) c.before.before.before.before.before.before.before.before.before.before.before.if1.false (c.before.before.before.before.before.before.before.before.before.before.before.before.kind-of.ensures ns)) c.before.before.before.before.before.before.before.before.before.before.before.before.before.before.before.before.before.before.before.before.before.requires.1.0 c.before.before.before.before.before.before.before.before.before.before.if2.true c.before.before.before.before.before.before.before.before.put-row2.ensures (stored-place c.before.before.before.before.before.before.before.before.before.before.before.before.before.before.before.before.before.before.before.before.before.args.s.now c.before.before.before.octets-at.new.1.1.0 pool c.before.before.before.before.before.before.before.before.before.before.before.before.before.before.before.before.before.before.before.before.before.args.offset (table types ns) c.before.before.before.before.before.before.before.before.before.before.before.before.before.before.before.before.before.before.before.before.before.args.row c.before.before.before.before.wide2.ensures.0 (c.before.before.before.octets-at.ensures.1 ns)) (ap (λ (x : ℕ). c.before.before.before.before.before.before.before.before.before.before.before.before.before.before.before.before.before.before.before.before.before.args.offset + x) c.wide3.ensures.0) w
 
 is-base64-requires : tie.Need-is-base64-requires
 is-base64-requires c κs = search rules
@@ -113,7 +113,7 @@ cast-put-row-3 c = search rules
 
 put-row-requires-3 : tie.Need-put-row-requires-3
 put-row-requires-3 c κs =
-    let here = noted-slot c.before.before.before.before.before.before.before.before.before.before.before.before.before.before.requires.0 in
+    let here = noted_slot c.before.before.before.before.before.before.before.before.before.before.before.before.before.before.requires.0 in
     omega (arith, here)
 
 wide-requires-4 : tie.Need-wide-requires-4
@@ -158,7 +158,7 @@ cast-put-row-4 c = search rules
 
 put-row-requires-4 : tie.Need-put-row-requires-4
 put-row-requires-4 c κs =
-    let here = noted-slot c.before.before.before.before.before.before.before.before.before.before.before.before.before.before.requires.0 in
+    let here = noted_slot c.before.before.before.before.before.before.before.before.before.before.before.before.before.before.requires.0 in
     omega (arith, here)
 
 wide-requires-7 : tie.Need-wide-requires-7

@@ -4,7 +4,7 @@ use mathlib.Core.Path.{◌≡◌, sym, ◌∙◌}
 use mathlib.Core.Bool.{true, false}
 use mathlib.Core.List.{List, []}
 use native.Mathlib.Omega.{arith}
-use Rattle.jer.specs.Table.{countOf, mayMiss, table}
+use Rattle.jer.specs.Table.{count_of, may_miss, table}
 use Rattle.places.specs.ByPlaces.{bit_of}
 use Rattle.quick.proofs.MemberLaws.{never, missing-more}
 use borrow.Author.Rules.{rules}
@@ -12,7 +12,7 @@ use Rattle.quick.proofs.member.complete.Statement.{statement}
 use Rattle.quick.proofs.member.complete.Tie as tie
 
 abbrev invariant-loop : tie.invariant-loop
-invariant-loop types row met count k₀ k = (k ≤ count) × ((ns : List ℕ) (i : ℕ) → i < k → bit_of met i ≡ false → mayMiss (table types ns) row i ≡ true)
+invariant-loop types row met count k₀ k = (k ≤ count) × ((ns : List ℕ) (i : ℕ) → i < k → bit_of met i ≡ false → may_miss (table types ns) row i ≡ true)
 
 abbrev decreases-loop : tie.decreases-loop
 decreases-loop types row met count k₀ k = count - k

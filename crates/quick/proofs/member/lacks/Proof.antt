@@ -16,7 +16,7 @@ may-miss-requires : tie.Need-may-miss-requires
 may-miss-requires c κs = search rules
 
 returns-2 : tie.Need-returns-2
-returns-2 c = λ ns h e. sym (c.may-miss.ensures ns) ∙ not-false _ h
+returns-2 c = λ ns h e. sym (c.may_miss_lem.ensures ns) ∙ not-false _ h
 
 pub lacks-spec : {M : Type 1} → statement M
 lacks-spec = tie.close (tie.spec bit-requires returns may-miss-requires returns-2)

@@ -2,7 +2,7 @@
 use mathlib.Core.Path.{refl, sym, ap, ◌∙◌}
 use borrow.Author.Tests.{not-true}
 use Rattle.jer.specs.Table.{table}
-use Rattle.quick.proofs.MemberLaws.{null-no, null-yes}
+use Rattle.quick.proofs.MemberLaws.{null-no, null_yes}
 use borrow.Author.Rules.{rules}
 use Rattle.quick.proofs.member.null_absent.Statement.{statement}
 use Rattle.quick.proofs.member.null_absent.Tie as tie
@@ -23,7 +23,7 @@ null-taken-requires : tie.Need-null-taken-requires
 null-taken-requires c κs = search rules
 
 returns-2 : tie.Need-returns-2
-returns-2 c = λ ns. null-yes (table c.before.before.before.before.before.before.args.types.now ns) c.before.before.before.before.before.before.args.row c.before.before.before.before.before.before.args.k _ _ _ (c.before.before.before.optional.ensures (table c.before.before.before.before.before.before.args.types.now ns) c.before.before.before.before.before.before.args.row c.before.before.before.before.before.before.args.k (c.before.before.before.before.member-at.ensures ns)) c.before.before.if1.false (c.before.type-at.ensures ns) (c.null-taken.ensures ns)
+returns-2 c = λ ns. null_yes (table c.before.before.before.before.before.before.args.types.now ns) c.before.before.before.before.before.before.args.row c.before.before.before.before.before.before.args.k _ _ _ (c.before.before.before.optional.ensures (table c.before.before.before.before.before.before.args.types.now ns) c.before.before.before.before.before.before.args.row c.before.before.before.before.before.before.args.k (c.before.before.before.before.member-at.ensures ns)) c.before.before.if1.false (c.before.type-at.ensures ns) (c.null-taken.ensures ns)
 
 pub null-absent-spec : {M : Type 1} → statement M
 null-absent-spec =

@@ -3,7 +3,7 @@ use Prim.Native.Nat.{ℕ, ◌+◌, ◌-◌, ◌<◌, ◌≤◌}
 use mathlib.Core.Path.{◌≡◌, refl}
 use native.Mathlib.Omega.{arith}
 use lib.ListN.{length, length-set}
-use Rattle.quick.proofs.WalkLaws.{Cleared, cleared-none, cleared_more, cleared_at}
+use Rattle.quick.proofs.WalkLaws.{Cleared, cleared_none, cleared_more, cleared_at}
 use borrow.Author.Rules.{rules}
 use Rattle.quick.proofs.note.clear.Statement.{statement}
 use Rattle.quick.proofs.note.clear.Tie as tie
@@ -15,7 +15,7 @@ abbrev decreases-loop : tie.decreases-loop
 decreases-loop tape₀ from count k₀ tape k = count - k
 
 loop-holds : tie.Need-loop-init invariant-loop decreases-loop
-loop-holds c = (refl, omega arith, cleared-none _ _)
+loop-holds c = (refl, omega arith, cleared_none _ _)
 
 wide-requires : tie.Need-wide-requires invariant-loop decreases-loop
 wide-requires c κs = search rules

@@ -3,7 +3,7 @@ use mathlib.Core.Path.{refl}
 use lib.ListN.{length-set}
 use native.Mathlib.Omega.{arith}
 use Rattle.jer.specs.Table.{table}
-use Rattle.quick.proofs.WalkLaws.{not-here, leaf-noted}
+use Rattle.quick.proofs.WalkLaws.{not-here, leaf_noted}
 use borrow.Author.Rules.{rules}
 use Rattle.quick.proofs.note.note.Statement.{statement}
 use Rattle.quick.proofs.note.note.Tie as tie
@@ -60,7 +60,7 @@ returns-3 c =
     let t = table c.before.before.before.before.before.before.before.before.before.args.types.now c.before.before.before.before.before.before.before.before.before.args.names.now in
     let s = c.before.before.before.before.before.before.before.before.before.args.s.now in
     let z = c.before.before.before.before.before.before.before.before.before.args.tape.now in
-    leaf-noted t s z c.before.before.before.before.before.before.before.before.before.args.row c.before.before.before.before.before.before.before.before.before.args.place c.before.before.before.before.before.before.before.before.before.args.top c.before.before.leaf.result _ (omega (arith, c.before.before.before.before.if1.false)) (c.before.before.leaf.ensures (omega (arith, c.if2.false))) refl refl refl refl
+    leaf_noted t s z c.before.before.before.before.before.before.before.before.before.args.row c.before.before.before.before.before.before.before.before.before.args.place c.before.before.before.before.before.before.before.before.before.args.top c.before.before.leaf.result _ (omega (arith, c.before.before.before.before.if1.false)) (c.before.before.leaf.ensures (omega (arith, c.if2.false))) refl refl refl refl
 
 pub note-spec : {M : Type 1} → statement M
 note-spec =

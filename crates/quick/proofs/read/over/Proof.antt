@@ -1,7 +1,7 @@
 -- Made by tools/answers.py from answers/read/over.ans: edit that. 0628d727874316b4
 use mathlib.Core.Path.{refl}
 use native.Mathlib.Omega.{arith}
-use Rattle.quick.proofs.CallLaws.{sane-table, few-rows, few_bytes, whole-noted, whole-stored}
+use Rattle.quick.proofs.CallLaws.{sane-table, few-rows, few_bytes_lem, whole_noted, whole-stored}
 use borrow.Author.Rules.{rules}
 use Rattle.quick.proofs.read.over.Statement.{statement}
 use Rattle.quick.proofs.read.over.Tie as tie
@@ -47,14 +47,14 @@ returns-3 c =
     let whole = c.before.before.before.before.before.before.before.before.before.take.ensures (omega (arith, c.before.before.before.before.before.if1.false)) in
     let rows = c.before.before.before.before.before.before.before.before.before.before.before.before.before.before.before.before.before.before.before.before.args.rows.now in
     let pool = c.before.before.before.before.before.before.before.before.before.before.before.before.before.before.before.before.before.before.before.before.args.pool.now in
-    few_bytes c.before.before.before.before.before.before.before.before.before.before.before.before.before.before.before.before.before.before.before.before.requires.0 whole rows pool c.needed2.ensures (omega (arith, c.before.before.before.if2.false)) c.before.if3.true
+    few_bytes_lem c.before.before.before.before.before.before.before.before.before.before.before.before.before.before.before.before.before.before.before.before.requires.0 whole rows pool c.needed2.ensures (omega (arith, c.before.before.before.if2.false)) c.before.if3.true
 
 emit-requires : tie.Need-emit-requires
 emit-requires c κs =
     let whole = c.before.before.before.before.before.before.before.before.before.before.before.take.ensures (omega (arith, c.before.before.before.before.before.before.before.if1.false)) in
     let rows = c.before.before.before.before.before.before.before.before.before.before.before.before.before.before.before.before.before.before.before.before.before.before.args.rows.now in
     let pool = c.before.before.before.before.before.before.before.before.before.before.before.before.before.before.before.before.before.before.before.before.before.before.args.pool.now in
-    (whole-noted c.before.before.before.before.before.before.before.before.before.before.before.before.before.before.before.before.before.before.before.before.before.before.requires.0 whole rows pool c.before.before.before.before.before.before.before.before.before.before.before.before.before.before.before.before.before.before.before.before.before.before.requires.1 (omega (arith, c.before.before.before.before.before.if2.false)) (omega (arith, c.before.before.before.if3.false)), (c.before.before.before.before.before.before.before.before.before.before.before.before.before.before.before.before.before.before.before.before.before.before.requires.1, omega (arith, c.before.before.before.before.before.before.before.before.before.before.before.take.auto.1.1.1.0, c.before.before.before.before.before.before.before.before.before.before.before.before.before.before.before.before.before.before.before.before.before.before.requires.2)))
+    (whole_noted c.before.before.before.before.before.before.before.before.before.before.before.before.before.before.before.before.before.before.before.before.before.before.requires.0 whole rows pool c.before.before.before.before.before.before.before.before.before.before.before.before.before.before.before.before.before.before.before.before.before.before.requires.1 (omega (arith, c.before.before.before.before.before.if2.false)) (omega (arith, c.before.before.before.if3.false)), (c.before.before.before.before.before.before.before.before.before.before.before.before.before.before.before.before.before.before.before.before.before.before.requires.1, omega (arith, c.before.before.before.before.before.before.before.before.before.before.before.take.auto.1.1.1.0, c.before.before.before.before.before.before.before.before.before.before.before.before.before.before.before.before.before.before.before.before.before.before.requires.2)))
 
 same-length-4 : tie.Need-same-length-4
 same-length-4 c = search rules

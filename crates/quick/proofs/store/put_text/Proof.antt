@@ -2,7 +2,7 @@
 use Prim.Native.Nat.{ℕ, ◌+◌}
 use mathlib.Core.Path.{◌≡◌, refl, sym, ap, ◌∙◌}
 use native.Mathlib.Omega.{arith}
-use Rattle.quick.proofs.StoreLaws.{part-short, plain-stored, escaped-stored}
+use Rattle.quick.proofs.StoreLaws.{part_short, plain-stored, escaped-stored}
 use borrow.Author.Rules.{rules}
 use Rattle.quick.proofs.store.put_text.Statement.{statement}
 use Rattle.quick.proofs.store.put_text.Tie as tie
@@ -20,7 +20,7 @@ part-requires : tie.Need-part-requires
 part-requires c κs = search rules
 
 copy-all-requires : tie.Need-copy-all-requires
-copy-all-requires c κs = omega (arith, part-short c.before.before.before.before.before.before.before.args.s.now (c.before.before.wide.result + 1) c.before.wide2.result _ c.part.ensures, c.before.wide2.ensures.0, c.before.before.before.before.if1.true, c.before.before.before.before.before.before.before.requires.1)
+copy-all-requires c κs = omega (arith, part_short c.before.before.before.before.before.before.before.args.s.now (c.before.before.wide.result + 1) c.before.wide2.result _ c.part.ensures, c.before.wide2.ensures.0, c.before.before.before.before.if1.true, c.before.before.before.before.before.before.before.requires.1)
 
 wide-requires-3 : tie.Need-wide-requires-3
 wide-requires-3 c κs = search rules

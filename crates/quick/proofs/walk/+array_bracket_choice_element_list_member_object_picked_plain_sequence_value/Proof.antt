@@ -7,14 +7,14 @@ use Rattle.jer.specs.Table.{table}
 use mathlib.Core.List.{[]}
 use lib.ListN.{length-set}
 use borrow.Author.Tests.{not-false}
-use Rattle.quick.proofs.TapeLaws.{alike-part}
-use Rattle.quick.proofs.WalkLaws.{alike_same, alike_then, not_taken, not-here, at-depth, mark-inside, given-part, given-on, given-at, given-distinct, walked_from, walked-if, spaced, within-at}
-use Rattle.places.specs.ByPlaces.{tokenAt}
+use Rattle.quick.proofs.TapeLaws.{alike_part}
+use Rattle.quick.proofs.WalkLaws.{alike_same, alike_then, not_taken, not-here, at-depth, mark-inside, given_part, given-on, given-at, given_distinct, walked_from, walked_if, spaced, within-at}
+use Rattle.places.specs.ByPlaces.{token_at}
 use Rattle.quick.proofs.ChoiceLaws.{choice-here, picked-given, picked-plain, picked-here}
-use Rattle.quick.proofs.StepLaws.{member-given, member-here-given, step-null, step_value, step-passed, element-surplus, element-null, element-value, link-kept, known_at, links-at, cleared-below}
-use Rattle.quick.proofs.ArrayingLaws.{Arraying, arraying-start, arraying-more, arraying-last, arraying-behind, shuts-behind, array-none}
-use Rattle.quick.proofs.ObjectingLaws.{Objecting, objecting-start, objecting-more, objecting-last, objecting-after, shuts_any, shuts-none, shuts_after, object-none}
-use Rattle.quick.proofs.ListingLaws.{Listing, listing_start, listing-bounds, listing-kept, listing-more, listing-last, list-none}
+use Rattle.quick.proofs.StepLaws.{member-given, member-here-given, step-null, step_value, step-passed, element-surplus, element-null, element-value, link-kept, known_at, links-at, cleared_below}
+use Rattle.quick.proofs.ArrayingLaws.{Arraying, arraying_start, arraying_more, arraying_last, arraying_behind, shuts_behind, array-none}
+use Rattle.quick.proofs.ObjectingLaws.{Objecting, objecting_start, objecting_more, objecting_last, objecting_after, shuts_any, shuts_none, shuts_after, object-none}
+use Rattle.quick.proofs.ListingLaws.{Listing, listing_start, listing_bounds, listing_kept, listing_more, listing_last, list-none}
 use borrow.Author.Rules.{rules}
 use borrow.Fn.Kinds.{In}
 use borrow.Fn.PlainCycle.{Measures, is, falls, and}
@@ -292,7 +292,7 @@ array-shut-requires t c κs =
     let t = table c.before.before.before.before.before.before.before.before.before.before.before.before.before.before.before.before.before.args.types.now c.before.before.before.before.before.before.before.before.before.before.before.before.before.before.before.before.before.args.names.now in
     let row = c.before.before.before.before.before.before.before.before.before.before.before.before.before.before.before.before.before.args.row in
     let given = c.before.before.before.before.before.before.before.before.before.before.before.before.before.before.before.before.before.requires.1.0 in
-    (shuts_any c.before.before.before.before.before.before.before.before.before.before.before.before.before.before.before.before.before.args.types.now names row 0 0 (shuts-none t row given.sane given.typed), omega (arith, c.before.before.before.before.before.before.before.before.if2.false, c.before.before.before.before.before.before.clear.auto.0), omega (arith, c.before.before.before.before.before.before.before.before.if2.false, given.room))
+    (shuts_any c.before.before.before.before.before.before.before.before.before.before.before.before.before.before.before.before.before.args.types.now names row 0 0 (shuts_none t row given.sane given.typed), omega (arith, c.before.before.before.before.before.before.before.before.if2.false, c.before.before.before.before.before.before.clear.auto.0), omega (arith, c.before.before.before.before.before.before.before.before.if2.false, given.room))
 
 array-same-length : (t : ℕ) → array-lts.Need-same-length (array-calls t) (array_at t) array.Post array-Inv-loop array-μ-loop
 array-same-length t c = search rules
@@ -302,8 +302,8 @@ array-returns-3 t c =
     let names = c.before.before.before.before.before.before.before.before.before.before.before.before.before.before.before.before.before.before.before.before.args.names.now in
     let top = c.before.before.before.before.before.before.before.before.before.before.before.before.before.before.before.before.before.before.before.before.args.top in
     let links = links-at (c.before.before.before.before.before.before.before.before.before.before.before.before.before.before.before.before.before.before.before.before.args.top + 3) _ _ _ c.before.before.before.before.before.before.before.before.before.before.before.before.wide.ensures.0 (c.before.before.before.before.before.before.before.before.before.before.before.before.before.count_of.ensures names) in
-    let cleared = cleared-below c.before.before.before.before.before.before.before.before.before.clear.new.0 (c.before.before.before.before.before.before.before.before.before.before.before.before.before.before.before.before.before.before.before.before.args.top + 3) _ _ c.before.before.before.before.before.before.before.before.before.clear.ensures.1 (c.before.before.before.before.before.before.before.before.before.before.before.before.before.count_of.ensures names) in
-    walked-if (alike_then _ _ _ 0 top (alike-part 0 top c.before.before.before.before.before.before.before.before.before.clear.ensures.0 (omega arith) (omega arith)) c.before.before.shut.ensures.0) (λ h. array-none c.before.before.before.before.before.before.before.before.before.before.before.before.before.before.before.before.before.before.before.before.args.depth c.before.before.before.before.before.before.space.ensures.0 c.before.before.before.before.before.before.space.ensures.1.0 c.before.before.before.before.before.before.before.before.before.clear.ensures.0 cleared links (omega (arith, c.before.before.before.before.before.before.before.before.before.before.before.if2.false, c.before.before.before.before.before.before.before.before.before.clear.auto.0)) c.before.before.before.before.before.before.before.before.before.before.before.before.before.before.before.before.before.before.before.before.requires.1.1.0 c.before.before.before.before.before.before.before.before.before.before.before.before.before.before.before.before.before.before.before.before.requires.1.1.1 c.before.before.before.before.before.before.before.before.before.before.before.before.before.before.before.byte_at.ensures.0 c.before.before.before.before.before.before.before.before.before.before.before.before.before.before.if1.false c.before.before.before.before.before.byte-at2.ensures.0 c.before.before.before.before.if3.true (c.before.before.shut.ensures.1 h names))
+    let cleared = cleared_below c.before.before.before.before.before.before.before.before.before.clear.new.0 (c.before.before.before.before.before.before.before.before.before.before.before.before.before.before.before.before.before.before.before.before.args.top + 3) _ _ c.before.before.before.before.before.before.before.before.before.clear.ensures.1 (c.before.before.before.before.before.before.before.before.before.before.before.before.before.count_of.ensures names) in
+    walked_if (alike_then _ _ _ 0 top (alike_part 0 top c.before.before.before.before.before.before.before.before.before.clear.ensures.0 (omega arith) (omega arith)) c.before.before.shut.ensures.0) (λ h. array-none c.before.before.before.before.before.before.before.before.before.before.before.before.before.before.before.before.before.before.before.before.args.depth c.before.before.before.before.before.before.space.ensures.0 c.before.before.before.before.before.before.space.ensures.1.0 c.before.before.before.before.before.before.before.before.before.clear.ensures.0 cleared links (omega (arith, c.before.before.before.before.before.before.before.before.before.before.before.if2.false, c.before.before.before.before.before.before.before.before.before.clear.auto.0)) c.before.before.before.before.before.before.before.before.before.before.before.before.before.before.before.before.before.before.before.before.requires.1.1.0 c.before.before.before.before.before.before.before.before.before.before.before.before.before.before.before.before.before.before.before.before.requires.1.1.1 c.before.before.before.before.before.before.before.before.before.before.before.before.before.before.before.byte_at.ensures.0 c.before.before.before.before.before.before.before.before.before.before.before.before.before.before.if1.false c.before.before.before.before.before.byte-at2.ensures.0 c.before.before.before.before.if3.true (c.before.before.shut.ensures.1 h names))
 
 array-loop-holds : (t : ℕ) → array-lts.Need-loop-init (array-calls t) (array_at t) array.Post array-Inv-loop array-μ-loop
 array-loop-holds t c =
@@ -314,8 +314,8 @@ array-loop-holds t c =
     let place = c.before.before.before.before.before.before.before.before.before.before.before.before.before.before.before.before.args.place in
     let top = c.before.before.before.before.before.before.before.before.before.before.before.before.before.before.before.before.args.top in
     let links = links-at (c.before.before.before.before.before.before.before.before.before.before.before.before.before.before.before.before.args.top + 3) _ _ _ c.before.before.before.before.before.before.before.before.wide.ensures.0 (c.before.before.before.before.before.before.before.before.before.count_of.ensures names) in
-    let cleared = cleared-below c.before.before.before.before.before.clear.new.0 (c.before.before.before.before.before.before.before.before.before.before.before.before.before.before.before.before.args.top + 3) _ _ c.before.before.before.before.before.clear.ensures.1 (c.before.before.before.before.before.before.before.before.before.count_of.ensures names) in
-    arraying-start t s _ _ c.before.before.before.before.before.before.before.before.before.before.before.before.before.before.before.before.args.depth row place top c.before.before.space.result c.before.before.space.ensures.0 c.before.before.space.ensures.1.0 (within-at c.before.before.before.before.before.before.before.before.before.before.before.before.before.before.before.before.args.s.now c.before.before.space.ensures.1 (omega (arith, mark-inside s place c.before.before.before.before.before.before.before.before.before.before.before.byte_at.result 0x5B c.before.before.before.before.before.before.before.before.before.before.before.byte_at.ensures.0 c.before.before.before.before.before.before.before.before.before.before.if1.false (omega arith)))) (alike_same _ _ _) cleared refl (top + 3 + c.before.before.before.before.before.before.before.before.wide.result) links (omega (arith, c.before.before.before.before.before.before.before.if2.false, c.before.before.before.before.before.clear.auto.0))
+    let cleared = cleared_below c.before.before.before.before.before.clear.new.0 (c.before.before.before.before.before.before.before.before.before.before.before.before.before.before.before.before.args.top + 3) _ _ c.before.before.before.before.before.clear.ensures.1 (c.before.before.before.before.before.before.before.before.before.count_of.ensures names) in
+    arraying_start t s _ _ c.before.before.before.before.before.before.before.before.before.before.before.before.before.before.before.before.args.depth row place top c.before.before.space.result c.before.before.space.ensures.0 c.before.before.space.ensures.1.0 (within-at c.before.before.before.before.before.before.before.before.before.before.before.before.before.before.before.before.args.s.now c.before.before.space.ensures.1 (omega (arith, mark-inside s place c.before.before.before.before.before.before.before.before.before.before.before.byte_at.result 0x5B c.before.before.before.before.before.before.before.before.before.before.before.byte_at.ensures.0 c.before.before.before.before.before.before.before.before.before.before.if1.false (omega arith)))) (alike_same _ _ _) cleared refl (top + 3 + c.before.before.before.before.before.before.before.before.wide.result) links (omega (arith, c.before.before.before.before.before.before.before.if2.false, c.before.before.before.before.before.clear.auto.0))
 
 array-element-requires : (t : ℕ) → array-lts.Need-element-requires (array-calls t) (array_at t) array.Post array-Inv-loop array-μ-loop
 array-element-requires t c κs =
@@ -335,7 +335,7 @@ array-returns-4 t c =
     let row = c.before.before.before.before.before.before.before.before.before.before.before.before.before.before.before.before.before.before.before.before.before.before.before.before.before.args.row in
     let place = c.before.before.before.before.before.before.before.before.before.before.before.before.before.before.before.before.before.before.before.before.before.before.before.before.before.args.place in
     let top = c.before.before.before.before.before.before.before.before.before.before.before.before.before.before.before.before.before.before.before.before.before.before.before.before.before.args.top in
-    not_taken t s c.before.before.before.before.before.before.before.before.before.before.before.before.before.before.before.before.before.before.before.before.before.before.before.before.before.args.tape.now _ (c.before.before.before.before.before.before.before.before.before.before.before.before.before.before.before.before.before.before.before.before.before.before.before.before.before.args.depth + 1) row place top _ (alike_then _ _ _ 0 top (alike-part 0 top c.before.before.before.before.before.before.before.before.before.before.before.before.before.before.clear.ensures.0 (omega arith) (omega arith)) (alike_then _ _ _ 0 top c.before.before.before.before.before.before.before.before.loop.invariant.kept (alike-part 0 top c.before.before.before.before.before.element.ensures.0 (omega arith) (omega arith)))) c.other3.ensures
+    not_taken t s c.before.before.before.before.before.before.before.before.before.before.before.before.before.before.before.before.before.before.before.before.before.before.before.before.before.args.tape.now _ (c.before.before.before.before.before.before.before.before.before.before.before.before.before.before.before.before.before.before.before.before.before.before.before.before.before.args.depth + 1) row place top _ (alike_then _ _ _ 0 top (alike_part 0 top c.before.before.before.before.before.before.before.before.before.before.before.before.before.before.clear.ensures.0 (omega arith) (omega arith)) (alike_then _ _ _ 0 top c.before.before.before.before.before.before.before.before.loop.invariant.kept (alike_part 0 top c.before.before.before.before.before.element.ensures.0 (omega arith) (omega arith)))) c.other3.ensures
 
 array-space-requires-2 : (t : ℕ) → array-lts.Need-space-requires-2 (array-calls t) (array_at t) array.Post array-Inv-loop array-μ-loop
 array-space-requires-2 t c κs = search rules
@@ -367,7 +367,7 @@ array-shut-requires-2 t c κs =
     let row = c.before.before.before.before.before.before.before.before.before.before.before.before.before.before.before.before.before.before.before.before.before.before.before.before.before.before.before.before.before.before.args.row in
     let given = c.before.before.before.before.before.before.before.before.before.before.before.before.before.before.before.before.before.before.before.before.before.before.before.before.before.before.before.before.before.before.requires.1.0 in
     let reached = c.before.before.before.before.before.before.before.before.before.before.element.ensures.1 (omega (arith, c.before.before.before.before.before.before.if4.false)) in
-    (shuts_any c.before.before.before.before.before.before.before.before.before.before.before.before.before.before.before.before.before.before.before.before.before.before.before.before.before.before.before.before.before.before.args.types.now names row _ _ (shuts-behind (arraying-behind c.before.before.before.before.before.before.before.before.before.before.before.before.before.loop.invariant reached c.before.before.before.before.before.before.before.before.before.before.element.auto.1.1.1.0 c.before.before.before.before.before.before.before.before.before.before.element.ensures.0 c.before.before.before.before.before.space2.ensures.0) given.sane given.typed (omega (arith, reached.words, reached.inside, c.before.before.before.before.before.before.before.before.before.before.element.auto.1.1.1.0, c.before.before.before.before.before.before.before.before.before.before.before.before.before.loop.invariant.same, c.before.before.before.before.before.before.before.before.before.before.before.before.before.before.before.before.before.before.before.clear.auto.0, c.before.before.before.before.before.before.before.before.before.before.before.before.before.loop.invariant.words, given.room))), omega (arith, c.before.before.before.before.before.before.before.before.before.before.element.auto.1.1.1.0, c.before.before.before.before.before.before.before.before.before.before.before.before.before.loop.invariant.start, c.before.before.before.before.before.before.before.before.before.before.before.before.before.loop.invariant.inside), omega (arith, reached.inside, c.before.before.before.before.before.before.before.before.before.before.element.auto.1.1.1.0, c.before.before.before.before.before.before.before.before.before.before.before.before.before.loop.invariant.same, c.before.before.before.before.before.before.before.before.before.before.before.before.before.before.before.before.before.before.before.clear.auto.0, given.room))
+    (shuts_any c.before.before.before.before.before.before.before.before.before.before.before.before.before.before.before.before.before.before.before.before.before.before.before.before.before.before.before.before.before.before.args.types.now names row _ _ (shuts_behind (arraying_behind c.before.before.before.before.before.before.before.before.before.before.before.before.before.loop.invariant reached c.before.before.before.before.before.before.before.before.before.before.element.auto.1.1.1.0 c.before.before.before.before.before.before.before.before.before.before.element.ensures.0 c.before.before.before.before.before.space2.ensures.0) given.sane given.typed (omega (arith, reached.words, reached.inside, c.before.before.before.before.before.before.before.before.before.before.element.auto.1.1.1.0, c.before.before.before.before.before.before.before.before.before.before.before.before.before.loop.invariant.same, c.before.before.before.before.before.before.before.before.before.before.before.before.before.before.before.before.before.before.before.clear.auto.0, c.before.before.before.before.before.before.before.before.before.before.before.before.before.loop.invariant.words, given.room))), omega (arith, c.before.before.before.before.before.before.before.before.before.before.element.auto.1.1.1.0, c.before.before.before.before.before.before.before.before.before.before.before.before.before.loop.invariant.start, c.before.before.before.before.before.before.before.before.before.before.before.before.before.loop.invariant.inside), omega (arith, reached.inside, c.before.before.before.before.before.before.before.before.before.before.element.auto.1.1.1.0, c.before.before.before.before.before.before.before.before.before.before.before.before.before.loop.invariant.same, c.before.before.before.before.before.before.before.before.before.before.before.before.before.before.before.before.before.before.before.clear.auto.0, given.room))
 
 array-same-length-3 : (t : ℕ) → array-lts.Need-same-length-3 (array-calls t) (array_at t) array.Post array-Inv-loop array-μ-loop
 array-same-length-3 t c = c.before.before.shut2.auto.1.0 ∙ c.before.before.before.before.before.before.before.before.before.before.before.before.before.element.auto.1.1.1.0 ∙ c.before.before.before.before.before.before.before.before.before.before.before.before.before.before.before.before.loop.invariant.same ∙ c.before.before.before.before.before.before.before.before.before.before.before.before.before.before.before.before.before.before.before.before.before.before.clear.auto.0
@@ -377,9 +377,9 @@ array-returns-5 t c =
     let names = c.before.before.before.before.before.before.before.before.before.before.before.before.before.before.before.before.before.before.before.before.before.before.before.before.before.before.before.before.before.before.before.before.before.args.names.now in
     let top = c.before.before.before.before.before.before.before.before.before.before.before.before.before.before.before.before.before.before.before.before.before.before.before.before.before.before.before.before.before.before.before.before.before.args.top in
     let step = c.before.before.before.before.before.before.before.before.before.before.before.before.before.element.ensures.1 (omega (arith, c.before.before.before.before.before.before.before.before.before.if4.false)) in
-    let before = alike-part 0 top c.before.before.before.before.before.before.before.before.before.before.before.before.before.before.before.before.before.before.before.before.before.before.clear.ensures.0 (omega arith) (omega arith) in
-    walked_from before (walked-if (alike_then _ _ _ 0 top (alike_then _ _ _ 0 top c.before.before.before.before.before.before.before.before.before.before.before.before.before.before.before.before.loop.invariant.kept (alike-part 0 top c.before.before.before.before.before.before.before.before.before.before.before.before.before.element.ensures.0 (omega arith) (omega arith))) c.before.before.shut2.ensures.0)
-    (λ h. arraying-last c.before.before.before.before.before.before.before.before.before.before.before.before.before.before.before.before.loop.invariant step c.before.before.before.before.before.before.before.before.before.before.before.before.before.element.auto.1.1.1.0 c.before.before.before.before.before.before.before.before.before.before.before.before.before.element.ensures.0 c.before.before.before.before.before.before.before.before.space2.ensures.0 c.before.before.before.before.before.before.before.before.before.before.before.before.before.before.before.before.before.before.before.before.before.before.before.before.before.before.before.before.before.before.before.before.before.requires.1.1.0 c.before.before.before.before.before.before.before.before.before.before.before.before.before.before.before.before.before.before.before.before.before.before.before.before.before.before.before.before.before.before.before.before.before.requires.1.1.1 c.before.before.before.before.before.before.before.before.before.before.before.before.before.before.before.before.before.before.before.before.before.before.before.before.before.before.before.before.byte_at.ensures.0 c.before.before.before.before.before.before.before.before.before.before.before.before.before.before.before.before.before.before.before.before.before.before.before.before.before.before.before.if1.false c.before.before.before.before.before.before.before.byte-at3.ensures.0 c.before.before.before.before.before.before.if5.true c.before.before.before.before.before.before.before.before.space2.ensures.1.0 (c.before.before.shut2.ensures.1 h names)))
+    let before = alike_part 0 top c.before.before.before.before.before.before.before.before.before.before.before.before.before.before.before.before.before.before.before.before.before.before.clear.ensures.0 (omega arith) (omega arith) in
+    walked_from before (walked_if (alike_then _ _ _ 0 top (alike_then _ _ _ 0 top c.before.before.before.before.before.before.before.before.before.before.before.before.before.before.before.before.loop.invariant.kept (alike_part 0 top c.before.before.before.before.before.before.before.before.before.before.before.before.before.element.ensures.0 (omega arith) (omega arith))) c.before.before.shut2.ensures.0)
+    (λ h. arraying_last c.before.before.before.before.before.before.before.before.before.before.before.before.before.before.before.before.loop.invariant step c.before.before.before.before.before.before.before.before.before.before.before.before.before.element.auto.1.1.1.0 c.before.before.before.before.before.before.before.before.before.before.before.before.before.element.ensures.0 c.before.before.before.before.before.before.before.before.space2.ensures.0 c.before.before.before.before.before.before.before.before.before.before.before.before.before.before.before.before.before.before.before.before.before.before.before.before.before.before.before.before.before.before.before.before.before.requires.1.1.0 c.before.before.before.before.before.before.before.before.before.before.before.before.before.before.before.before.before.before.before.before.before.before.before.before.before.before.before.before.before.before.before.before.before.requires.1.1.1 c.before.before.before.before.before.before.before.before.before.before.before.before.before.before.before.before.before.before.before.before.before.before.before.before.before.before.before.before.byte_at.ensures.0 c.before.before.before.before.before.before.before.before.before.before.before.before.before.before.before.before.before.before.before.before.before.before.before.before.before.before.before.if1.false c.before.before.before.before.before.before.before.byte-at3.ensures.0 c.before.before.before.before.before.before.if5.true c.before.before.before.before.before.before.before.before.space2.ensures.1.0 (c.before.before.shut2.ensures.1 h names)))
 
 array-other-requires-4 : (t : ℕ) → array-lts.Need-other-requires-4 (array-calls t) (array_at t) array.Post array-Inv-loop array-μ-loop
 array-other-requires-4 t c κs = search rules
@@ -394,7 +394,7 @@ array-returns-6 t c =
     let row = c.before.before.before.before.before.before.before.before.before.before.before.before.before.before.before.before.before.before.before.before.before.before.before.before.before.before.before.before.before.args.row in
     let place = c.before.before.before.before.before.before.before.before.before.before.before.before.before.before.before.before.before.before.before.before.before.before.before.before.before.before.before.before.before.args.place in
     let top = c.before.before.before.before.before.before.before.before.before.before.before.before.before.before.before.before.before.before.before.before.before.before.before.before.before.before.before.before.before.args.top in
-    not_taken t s c.before.before.before.before.before.before.before.before.before.before.before.before.before.before.before.before.before.before.before.before.before.before.before.before.before.before.before.before.before.args.tape.now _ (c.before.before.before.before.before.before.before.before.before.before.before.before.before.before.before.before.before.before.before.before.before.before.before.before.before.before.before.before.before.args.depth + 1) row place top _ (alike_then _ _ _ 0 top (alike-part 0 top c.before.before.before.before.before.before.before.before.before.before.before.before.before.before.before.before.before.before.clear.ensures.0 (omega arith) (omega arith)) (alike_then _ _ _ 0 top c.before.before.before.before.before.before.before.before.before.before.before.before.loop.invariant.kept (alike-part 0 top c.before.before.before.before.before.before.before.before.before.element.ensures.0 (omega arith) (omega arith)))) c.other4.ensures
+    not_taken t s c.before.before.before.before.before.before.before.before.before.before.before.before.before.before.before.before.before.before.before.before.before.before.before.before.before.before.before.before.before.args.tape.now _ (c.before.before.before.before.before.before.before.before.before.before.before.before.before.before.before.before.before.before.before.before.before.before.before.before.before.before.before.before.before.args.depth + 1) row place top _ (alike_then _ _ _ 0 top (alike_part 0 top c.before.before.before.before.before.before.before.before.before.before.before.before.before.before.before.before.before.before.clear.ensures.0 (omega arith) (omega arith)) (alike_then _ _ _ 0 top c.before.before.before.before.before.before.before.before.before.before.before.before.loop.invariant.kept (alike_part 0 top c.before.before.before.before.before.before.before.before.before.element.ensures.0 (omega arith) (omega arith)))) c.other4.ensures
 
 array-add-space-2 : (t : ℕ) → array-lts.Need-overflow-add-space-2 (array-calls t) (array_at t) array.Post array-Inv-loop array-μ-loop
 array-add-space-2 t c =
@@ -432,7 +432,7 @@ array-loop-again : (t : ℕ) → array-lts.Need-loop-preserved (array-calls t) (
 array-loop-again t c =
     let s = c.before.before.before.before.before.before.before.before.before.before.before.before.before.before.before.before.before.before.before.before.before.before.before.before.before.before.before.before.before.before.before.args.s.now in
     let reached = c.before.before.before.before.before.before.before.before.before.before.before.element.ensures.1 (omega (arith, c.before.before.before.before.before.before.before.if4.false)) in
-    arraying-more c.before.before.before.before.before.before.before.before.before.before.before.before.before.before.loop.invariant reached c.before.before.before.before.before.before.before.before.before.before.before.element.auto.1.1.1.0 c.before.before.before.before.before.before.before.before.before.before.before.element.ensures.0 c.before.before.before.before.before.before.space2.ensures.0 c.before.before.before.before.before.byte-at3.ensures.0 c.before.before.before.if6.false c.before.before.before.before.before.before.space2.ensures.1.0 c.before.before.space3.ensures.0 c.before.before.space3.ensures.1.0 (within-at c.before.before.before.before.before.before.before.before.before.before.before.before.before.before.before.before.before.before.before.before.before.before.before.before.before.before.before.before.before.before.before.args.s.now c.before.before.space3.ensures.1 (omega (arith, mark-inside s c.before.before.before.before.before.before.space2.result c.before.before.before.before.before.byte-at3.result 0x2C c.before.before.before.before.before.byte-at3.ensures.0 c.before.before.before.if6.false (omega arith))))
+    arraying_more c.before.before.before.before.before.before.before.before.before.before.before.before.before.before.loop.invariant reached c.before.before.before.before.before.before.before.before.before.before.before.element.auto.1.1.1.0 c.before.before.before.before.before.before.before.before.before.before.before.element.ensures.0 c.before.before.before.before.before.before.space2.ensures.0 c.before.before.before.before.before.byte-at3.ensures.0 c.before.before.before.if6.false c.before.before.before.before.before.before.space2.ensures.1.0 c.before.before.space3.ensures.0 c.before.before.space3.ensures.1.0 (within-at c.before.before.before.before.before.before.before.before.before.before.before.before.before.before.before.before.before.before.before.before.before.before.before.before.before.before.before.before.before.before.before.args.s.now c.before.before.space3.ensures.1 (omega (arith, mark-inside s c.before.before.before.before.before.before.space2.result c.before.before.before.before.before.byte-at3.result 0x2C c.before.before.before.before.before.byte-at3.ensures.0 c.before.before.before.if6.false (omega arith))))
 
 bracket-other-requires : (t : ℕ) → bracket-lts.Need-other-requires (bracket-calls t) (bracket-at t) bracket.Post
 bracket-other-requires t c κs = search rules
@@ -565,7 +565,7 @@ choice-name-at-requires t c κs =
     let s = c.before.before.before.before.before.before.before.before.args.s.now in
     let place = c.before.before.before.before.before.before.before.before.args.place in
     let given = c.before.before.before.before.before.before.before.before.requires.1.0 in
-    let distinct = given-distinct c.before.before.before.before.before.before.before.before.requires.1.0 in
+    let distinct = given_distinct c.before.before.before.before.before.before.before.before.requires.1.0 in
     (given.short, omega (arith, given.short, within-at s c.space.ensures.1 (omega (arith, mark-inside s place c.before.before.before.byte_at.result 0x7B c.before.before.before.byte_at.ensures.0 c.before.before.if1.false (omega arith)))), given.flags, distinct)
 
 choice-other-requires-2 : (t : ℕ) → choice-lts.Need-other-requires-2 (choice-calls t) (choice-at t) choice.Post
@@ -627,7 +627,7 @@ choice-returns-4 t c =
     let row = c.before.before.before.before.before.before.before.before.before.before.before.before.before.before.before.before.before.before.before.before.before.before.before.args.row in
     let place = c.before.before.before.before.before.before.before.before.before.before.before.before.before.before.before.before.before.before.before.before.before.before.before.args.place in
     let top = c.before.before.before.before.before.before.before.before.before.before.before.before.before.before.before.before.before.before.before.before.before.before.before.args.top in
-    not_taken t s c.before.before.before.before.before.before.before.before.before.before.before.before.before.before.before.before.before.before.before.before.before.before.before.args.tape.now _ (c.before.before.before.before.before.before.before.before.before.before.before.before.before.before.before.before.before.before.before.before.before.before.before.args.depth + 1) row place top _ (alike-part 0 top c.before.before.before.before.before.value.ensures.kept (omega arith) (omega arith)) c.other4.ensures
+    not_taken t s c.before.before.before.before.before.before.before.before.before.before.before.before.before.before.before.before.before.before.before.before.before.before.before.args.tape.now _ (c.before.before.before.before.before.before.before.before.before.before.before.before.before.before.before.before.before.before.before.before.before.before.before.args.depth + 1) row place top _ (alike_part 0 top c.before.before.before.before.before.value.ensures.kept (omega arith) (omega arith)) c.other4.ensures
 
 choice-space-requires-3 : (t : ℕ) → choice-lts.Need-space-requires-3 (choice-calls t) (choice-at t) choice.Post
 choice-space-requires-3 t c κs = search rules
@@ -648,7 +648,7 @@ choice-returns-5 t c =
     let row = c.before.before.before.before.before.before.before.before.before.before.before.before.before.before.before.before.before.before.before.before.before.before.before.before.before.before.args.row in
     let place = c.before.before.before.before.before.before.before.before.before.before.before.before.before.before.before.before.before.before.before.before.before.before.before.before.before.before.args.place in
     let top = c.before.before.before.before.before.before.before.before.before.before.before.before.before.before.before.before.before.before.before.before.before.before.before.before.before.before.args.top in
-    not_taken t s c.before.before.before.before.before.before.before.before.before.before.before.before.before.before.before.before.before.before.before.before.before.before.before.before.before.before.args.tape.now _ (c.before.before.before.before.before.before.before.before.before.before.before.before.before.before.before.before.before.before.before.before.before.before.before.before.before.before.args.depth + 1) row place top _ (alike-part 0 top c.before.before.before.before.before.before.before.before.value.ensures.kept (omega arith) (omega arith)) c.other5.ensures
+    not_taken t s c.before.before.before.before.before.before.before.before.before.before.before.before.before.before.before.before.before.before.before.before.before.before.before.before.before.before.args.tape.now _ (c.before.before.before.before.before.before.before.before.before.before.before.before.before.before.before.before.before.before.before.before.before.before.before.before.before.before.args.depth + 1) row place top _ (alike_part 0 top c.before.before.before.before.before.before.before.before.value.ensures.kept (omega arith) (omega arith)) c.other5.ensures
 
 choice-add-head : (t : ℕ) → choice-lts.Need-overflow-add-head (choice-calls t) (choice-at t) choice.Post
 choice-add-head t c =
@@ -739,7 +739,7 @@ element-same-length : (t : ℕ) → element-lts.Need-same-length (element-calls 
 element-same-length t c = search rules
 
 element-returns-4 : (t : ℕ) → element-lts.Need-returns-4 (element-calls t) (element-at t) element.Post
-element-returns-4 t c = (alike-part 0 (c.before.before.before.before.before.before.before.before.before.before.before.before.before.before.before.before.before.args.top + 3) c.before.before.before.before.before.value.ensures.kept (omega arith) (omega (arith, c.before.before.before.before.before.before.before.before.before.before.before.before.before.before.before.before.before.requires.1.1.0)), λ h. absurd (omega (arith, c.no-step2.ensures)))
+element-returns-4 t c = (alike_part 0 (c.before.before.before.before.before.before.before.before.before.before.before.before.before.before.before.before.before.args.top + 3) c.before.before.before.before.before.value.ensures.kept (omega arith) (omega (arith, c.before.before.before.before.before.before.before.before.before.before.before.before.before.before.before.before.before.requires.1.1.0)), λ h. absurd (omega (arith, c.no-step2.ensures)))
 
 element-cast-tape : (t : ℕ) → element-lts.Need-overflow-cast-tape (element-calls t) (element-at t) element.Post
 element-cast-tape t c =
@@ -889,7 +889,7 @@ list-value-requires : (t : ℕ) → list-lts.Need-value-requires (list-calls t) 
 list-value-requires t c κs =
     let names = c.before.before.before.before.before.before.before.before.before.before.before.before.before.before.args.names.now in
     let row = c.before.before.before.before.before.before.before.before.before.before.before.before.before.before.args.row in
-    (omega arith, given-part c.before.before.before.before.before.before.before.before.before.before.before.before.before.before.requires.1.0 c.before.before.before.loop.invariant.same (rw (c.before.before.before.before.before.before.before.element-of.ensures names) (c.before.before.before.before.before.before.before.before.before.before.before.before.before.before.requires.1.0.sane.element row c.before.before.before.before.before.before.before.before.before.before.before.before.before.before.requires.1.1.1)) (omega (arith, c.before.before.if3.false)) c.before.before.before.loop.invariant.inside)
+    (omega arith, given_part c.before.before.before.before.before.before.before.before.before.before.before.before.before.before.requires.1.0 c.before.before.before.loop.invariant.same (rw (c.before.before.before.before.before.before.before.element-of.ensures names) (c.before.before.before.before.before.before.before.before.before.before.before.before.before.before.requires.1.0.sane.element row c.before.before.before.before.before.before.before.before.before.before.before.before.before.before.requires.1.1.1)) (omega (arith, c.before.before.if3.false)) c.before.before.before.loop.invariant.inside)
 
 list-other-requires-3 : (t : ℕ) → list-lts.Need-other-requires-3 (list-calls t) (list_at t) list.Post list-Inv-loop list-μ-loop
 list-other-requires-3 t c κs = search rules
@@ -905,7 +905,7 @@ list-returns-4 t c =
     let row = c.before.before.before.before.before.before.before.before.before.before.before.before.before.before.before.before.before.before.before.before.args.row in
     let place = c.before.before.before.before.before.before.before.before.before.before.before.before.before.before.before.before.before.before.before.before.args.place in
     let top = c.before.before.before.before.before.before.before.before.before.before.before.before.before.before.before.before.before.before.before.before.args.top in
-    let kept = listing-kept c.before.before.before.before.before.before.before.before.before.loop.invariant (c.before.before.before.before.before.before.before.before.before.before.before.before.before.element-of.ensures names) c.before.before.before.before.before.value.ensures in
+    let kept = listing_kept c.before.before.before.before.before.before.before.before.before.loop.invariant (c.before.before.before.before.before.before.before.before.before.before.before.before.before.element-of.ensures names) c.before.before.before.before.before.value.ensures in
     not_taken t s c.before.before.before.before.before.before.before.before.before.before.before.before.before.before.before.before.before.before.before.before.args.tape.now _ (c.before.before.before.before.before.before.before.before.before.before.before.before.before.before.before.before.before.before.before.before.args.depth + 1) row place top _ kept c.other3.ensures
 
 list-space-requires-2 : (t : ℕ) → list-lts.Need-space-requires-2 (list-calls t) (list_at t) list.Post list-Inv-loop list-μ-loop
@@ -917,19 +917,19 @@ list-byte-at-requires-3 t c κs = search rules
 list-add-head-3 : (t : ℕ) → list-lts.Need-overflow-add-head-3 (list-calls t) (list_at t) list.Post list-Inv-loop list-μ-loop
 list-add-head-3 t c =
     let names = c.before.before.before.before.before.before.before.before.before.before.before.before.before.before.before.before.before.before.before.before.before.before.before.args.names.now in
-    let numbers = listing-bounds c.before.before.before.before.before.before.before.before.before.before.before.before.loop.invariant (c.before.before.before.before.before.before.before.before.before.before.before.before.before.before.before.before.element-of.ensures names) c.before.before.before.before.before.before.before.before.value.ensures c.before.before.before.before.if4.false c.before.before.before.before.before.before.before.before.value.auto.1.1.1.0 in
+    let numbers = listing_bounds c.before.before.before.before.before.before.before.before.before.before.before.before.loop.invariant (c.before.before.before.before.before.before.before.before.before.before.before.before.before.before.before.before.element-of.ensures names) c.before.before.before.before.before.before.before.before.value.ensures c.before.before.before.before.if4.false c.before.before.before.before.before.before.before.before.value.auto.1.1.1.0 in
     omega (arith, numbers, c.before.before.before.before.before.before.before.before.before.before.before.before.loop.invariant.each, c.before.before.before.before.before.before.before.before.before.before.before.before.loop.invariant.inside, c.before.before.before.before.before.before.before.before.before.before.before.before.loop.invariant.same, c.before.before.before.before.before.before.before.before.before.before.before.before.before.before.before.before.before.before.before.before.before.before.before.requires.1.0.room)
 
 list-add-head-4 : (t : ℕ) → list-lts.Need-overflow-add-head-4 (list-calls t) (list_at t) list.Post list-Inv-loop list-μ-loop
 list-add-head-4 t c =
     let names = c.before.before.before.before.before.before.before.before.before.before.before.before.before.before.before.before.before.before.before.before.before.before.before.before.args.names.now in
-    let numbers = listing-bounds c.before.before.before.before.before.before.before.before.before.before.before.before.before.loop.invariant (c.before.before.before.before.before.before.before.before.before.before.before.before.before.before.before.before.before.element-of.ensures names) c.before.before.before.before.before.before.before.before.before.value.ensures c.before.before.before.before.before.if4.false c.before.before.before.before.before.before.before.before.before.value.auto.1.1.1.0 in
+    let numbers = listing_bounds c.before.before.before.before.before.before.before.before.before.before.before.before.before.loop.invariant (c.before.before.before.before.before.before.before.before.before.before.before.before.before.before.before.before.before.element-of.ensures names) c.before.before.before.before.before.before.before.before.before.value.ensures c.before.before.before.before.before.if4.false c.before.before.before.before.before.before.before.before.before.value.auto.1.1.1.0 in
     omega (arith, numbers, c.before.before.before.before.before.before.before.before.before.before.before.before.before.loop.invariant.words, c.before.before.before.before.before.before.before.before.before.before.before.before.before.before.before.before.before.before.before.before.before.before.before.before.requires.1.0.room)
 
 list-add-head-5 : (t : ℕ) → list-lts.Need-overflow-add-head-5 (list-calls t) (list_at t) list.Post list-Inv-loop list-μ-loop
 list-add-head-5 t c =
     let names = c.before.before.before.before.before.before.before.before.before.before.before.before.before.before.before.before.before.before.before.before.before.before.before.before.before.args.names.now in
-    let numbers = listing-bounds c.before.before.before.before.before.before.before.before.before.before.before.before.before.before.loop.invariant (c.before.before.before.before.before.before.before.before.before.before.before.before.before.before.before.before.before.before.element-of.ensures names) c.before.before.before.before.before.before.before.before.before.before.value.ensures c.before.before.before.before.before.before.if4.false c.before.before.before.before.before.before.before.before.before.before.value.auto.1.1.1.0 in
+    let numbers = listing_bounds c.before.before.before.before.before.before.before.before.before.before.before.before.before.before.loop.invariant (c.before.before.before.before.before.before.before.before.before.before.before.before.before.before.before.before.before.before.element-of.ensures names) c.before.before.before.before.before.before.before.before.before.before.value.ensures c.before.before.before.before.before.before.if4.false c.before.before.before.before.before.before.before.before.before.before.value.auto.1.1.1.0 in
     omega (arith, numbers, c.before.before.before.before.before.before.before.before.before.before.before.before.before.before.loop.invariant.few, c.before.before.before.before.before.before.before.before.before.before.before.before.before.before.before.before.before.before.before.before.before.before.before.before.before.requires.1.0.short)
 
 list-add-head-6 : (t : ℕ) → list-lts.Need-overflow-add-head-6 (list-calls t) (list_at t) list.Post list-Inv-loop list-μ-loop
@@ -940,7 +940,7 @@ list-add-head-6 t c =
 list-head-requires-2 : (t : ℕ) → list-lts.Need-head-requires-2 (list-calls t) (list_at t) list.Post list-Inv-loop list-μ-loop
 list-head-requires-2 t c κs =
     let names = c.before.before.before.before.before.before.before.before.before.before.before.before.before.before.before.before.before.before.before.before.before.before.before.before.before.args.names.now in
-    let numbers = listing-bounds c.before.before.before.before.before.before.before.before.before.before.before.before.before.before.loop.invariant (c.before.before.before.before.before.before.before.before.before.before.before.before.before.before.before.before.before.before.element-of.ensures names) c.before.before.before.before.before.before.before.before.before.before.value.ensures c.before.before.before.before.before.before.if4.false c.before.before.before.before.before.before.before.before.before.before.value.auto.1.1.1.0 in
+    let numbers = listing_bounds c.before.before.before.before.before.before.before.before.before.before.before.before.before.before.loop.invariant (c.before.before.before.before.before.before.before.before.before.before.before.before.before.before.before.before.before.before.element-of.ensures names) c.before.before.before.before.before.before.before.before.before.before.value.ensures c.before.before.before.before.before.before.if4.false c.before.before.before.before.before.before.before.before.before.before.value.auto.1.1.1.0 in
     omega (arith, numbers, c.before.before.before.before.before.before.before.before.before.before.before.before.before.before.loop.invariant.words, c.before.before.before.before.before.before.before.before.before.before.before.before.before.before.loop.invariant.start, c.before.before.before.before.before.before.before.before.before.before.before.before.before.before.loop.invariant.same, c.before.before.before.before.before.before.before.before.before.before.before.before.before.before.loop.invariant.inside, c.before.before.before.before.before.before.before.before.before.before.value.auto.1.1.1.0, c.before.before.before.before.before.before.before.before.before.before.before.before.before.before.before.before.before.before.before.before.before.before.before.before.before.requires.1.0.room)
 
 list-same-length-4 : (t : ℕ) → list-lts.Need-same-length-4 (list-calls t) (list_at t) list.Post list-Inv-loop list-μ-loop
@@ -949,7 +949,7 @@ list-same-length-4 t c = c.before.before.head2.auto.0 ∙ c.before.before.before
 list-returns-5 : (t : ℕ) → list-lts.Need-returns-5 (list-calls t) (list_at t) list.Post list-Inv-loop list-μ-loop
 list-returns-5 t c =
     let names = c.before.before.before.before.before.before.before.before.before.before.before.before.before.before.before.before.before.before.before.before.before.before.before.before.before.before.before.before.args.names.now in
-    listing-last c.before.before.before.before.before.before.before.before.before.before.before.before.before.before.before.before.before.loop.invariant (c.before.before.before.before.before.before.before.before.before.before.before.before.before.before.before.before.before.before.before.before.before.element-of.ensures names) c.before.before.before.before.before.before.before.before.before.before.before.before.before.value.ensures c.before.before.before.before.before.before.before.before.before.if4.false c.before.before.before.before.before.before.before.before.before.before.before.before.before.value.auto.1.1.1.0 (spaced c.before.before.before.before.before.before.before.before.space2.ensures.0 c.before.before.before.before.before.before.before.before.space2.ensures.1) c.before.before.before.before.before.before.before.byte-at3.ensures.0 c.before.before.before.before.before.before.before.before.before.before.before.before.before.before.before.before.before.before.before.before.before.before.before.before.before.before.before.before.requires.1.1.1 c.before.before.before.before.before.before.before.before.before.before.before.before.before.before.before.before.before.before.before.before.before.before.before.byte_at.ensures.0 c.before.before.before.before.before.before.before.before.before.before.before.before.before.before.before.before.before.before.before.before.before.before.if1.false c.before.before.before.before.before.before.if5.true c.before.before.head2.ensures.0 c.before.before.head2.ensures.1
+    listing_last c.before.before.before.before.before.before.before.before.before.before.before.before.before.before.before.before.before.loop.invariant (c.before.before.before.before.before.before.before.before.before.before.before.before.before.before.before.before.before.before.before.before.before.element-of.ensures names) c.before.before.before.before.before.before.before.before.before.before.before.before.before.value.ensures c.before.before.before.before.before.before.before.before.before.if4.false c.before.before.before.before.before.before.before.before.before.before.before.before.before.value.auto.1.1.1.0 (spaced c.before.before.before.before.before.before.before.before.space2.ensures.0 c.before.before.before.before.before.before.before.before.space2.ensures.1) c.before.before.before.before.before.before.before.byte-at3.ensures.0 c.before.before.before.before.before.before.before.before.before.before.before.before.before.before.before.before.before.before.before.before.before.before.before.before.before.before.before.before.requires.1.1.1 c.before.before.before.before.before.before.before.before.before.before.before.before.before.before.before.before.before.before.before.before.before.before.before.byte_at.ensures.0 c.before.before.before.before.before.before.before.before.before.before.before.before.before.before.before.before.before.before.before.before.before.before.if1.false c.before.before.before.before.before.before.if5.true c.before.before.head2.ensures.0 c.before.before.head2.ensures.1
 
 list-other-requires-4 : (t : ℕ) → list-lts.Need-other-requires-4 (list-calls t) (list_at t) list.Post list-Inv-loop list-μ-loop
 list-other-requires-4 t c κs = search rules
@@ -965,7 +965,7 @@ list-returns-6 t c =
     let row = c.before.before.before.before.before.before.before.before.before.before.before.before.before.before.before.before.before.before.before.before.before.before.before.before.args.row in
     let place = c.before.before.before.before.before.before.before.before.before.before.before.before.before.before.before.before.before.before.before.before.before.before.before.before.args.place in
     let top = c.before.before.before.before.before.before.before.before.before.before.before.before.before.before.before.before.before.before.before.before.before.before.before.before.args.top in
-    let kept = listing-kept c.before.before.before.before.before.before.before.before.before.before.before.before.before.loop.invariant (c.before.before.before.before.before.before.before.before.before.before.before.before.before.before.before.before.before.element-of.ensures names) c.before.before.before.before.before.before.before.before.before.value.ensures in
+    let kept = listing_kept c.before.before.before.before.before.before.before.before.before.before.before.before.before.loop.invariant (c.before.before.before.before.before.before.before.before.before.before.before.before.before.before.before.before.before.element-of.ensures names) c.before.before.before.before.before.before.before.before.before.value.ensures in
     not_taken t s c.before.before.before.before.before.before.before.before.before.before.before.before.before.before.before.before.before.before.before.before.before.before.before.before.args.tape.now _ (c.before.before.before.before.before.before.before.before.before.before.before.before.before.before.before.before.before.before.before.before.before.before.before.before.args.depth + 1) row place top _ kept c.other4.ensures
 
 list-add-space-2 : (t : ℕ) → list-lts.Need-overflow-add-space-2 (list-calls t) (list_at t) list.Post list-Inv-loop list-μ-loop
@@ -979,36 +979,36 @@ list-space-requires-3 t c κs = search rules
 list-add-count : (t : ℕ) → list-lts.Need-overflow-add-count (list-calls t) (list_at t) list.Post list-Inv-loop list-μ-loop
 list-add-count t c =
     let names = c.before.before.before.before.before.before.before.before.before.before.before.before.before.before.before.before.before.before.before.before.before.before.before.before.args.names.now in
-    let numbers = listing-bounds c.before.before.before.before.before.before.before.before.before.before.before.before.before.loop.invariant (c.before.before.before.before.before.before.before.before.before.before.before.before.before.before.before.before.before.element-of.ensures names) c.before.before.before.before.before.before.before.before.before.value.ensures c.before.before.before.before.before.if4.false c.before.before.before.before.before.before.before.before.before.value.auto.1.1.1.0 in
+    let numbers = listing_bounds c.before.before.before.before.before.before.before.before.before.before.before.before.before.loop.invariant (c.before.before.before.before.before.before.before.before.before.before.before.before.before.before.before.before.before.element-of.ensures names) c.before.before.before.before.before.before.before.before.before.value.ensures c.before.before.before.before.before.if4.false c.before.before.before.before.before.before.before.before.before.value.auto.1.1.1.0 in
     omega (arith, numbers, c.before.before.before.before.before.before.before.before.before.before.before.before.before.loop.invariant.each, c.before.before.before.before.before.before.before.before.before.before.before.before.before.loop.invariant.inside, c.before.before.before.before.before.before.before.before.before.before.before.before.before.loop.invariant.same, c.before.before.before.before.before.before.before.before.before.before.before.before.before.before.before.before.before.before.before.before.before.before.before.before.requires.1.0.room)
 
 list-add-n : (t : ℕ) → list-lts.Need-overflow-add-n (list-calls t) (list_at t) list.Post list-Inv-loop list-μ-loop
 list-add-n t c =
     let names = c.before.before.before.before.before.before.before.before.before.before.before.before.before.before.before.before.before.before.before.before.before.before.before.before.before.args.names.now in
-    let numbers = listing-bounds c.before.before.before.before.before.before.before.before.before.before.before.before.before.before.loop.invariant (c.before.before.before.before.before.before.before.before.before.before.before.before.before.before.before.before.before.before.element-of.ensures names) c.before.before.before.before.before.before.before.before.before.before.value.ensures c.before.before.before.before.before.before.if4.false c.before.before.before.before.before.before.before.before.before.before.value.auto.1.1.1.0 in
+    let numbers = listing_bounds c.before.before.before.before.before.before.before.before.before.before.before.before.before.before.loop.invariant (c.before.before.before.before.before.before.before.before.before.before.before.before.before.before.before.before.before.before.element-of.ensures names) c.before.before.before.before.before.before.before.before.before.before.value.ensures c.before.before.before.before.before.before.if4.false c.before.before.before.before.before.before.before.before.before.before.value.auto.1.1.1.0 in
     omega (arith, numbers, c.before.before.before.before.before.before.before.before.before.before.before.before.before.before.loop.invariant.words, c.before.before.before.before.before.before.before.before.before.before.before.before.before.before.before.before.before.before.before.before.before.before.before.before.before.requires.1.0.room)
 
 list-add-m : (t : ℕ) → list-lts.Need-overflow-add-m (list-calls t) (list_at t) list.Post list-Inv-loop list-μ-loop
 list-add-m t c =
     let names = c.before.before.before.before.before.before.before.before.before.before.before.before.before.before.before.before.before.before.before.before.before.before.before.before.before.before.args.names.now in
-    let numbers = listing-bounds c.before.before.before.before.before.before.before.before.before.before.before.before.before.before.before.loop.invariant (c.before.before.before.before.before.before.before.before.before.before.before.before.before.before.before.before.before.before.before.element-of.ensures names) c.before.before.before.before.before.before.before.before.before.before.before.value.ensures c.before.before.before.before.before.before.before.if4.false c.before.before.before.before.before.before.before.before.before.before.before.value.auto.1.1.1.0 in
+    let numbers = listing_bounds c.before.before.before.before.before.before.before.before.before.before.before.before.before.before.before.loop.invariant (c.before.before.before.before.before.before.before.before.before.before.before.before.before.before.before.before.before.before.before.element-of.ensures names) c.before.before.before.before.before.before.before.before.before.before.before.value.ensures c.before.before.before.before.before.before.before.if4.false c.before.before.before.before.before.before.before.before.before.before.before.value.auto.1.1.1.0 in
     omega (arith, numbers, c.before.before.before.before.before.before.before.before.before.before.before.before.before.before.before.loop.invariant.few, c.before.before.before.before.before.before.before.before.before.before.before.before.before.before.before.before.before.before.before.before.before.before.before.before.before.before.requires.1.0.short)
 
 list-loop-less : (t : ℕ) → list-lts.Need-loop-smaller (list-calls t) (list_at t) list.Post list-Inv-loop list-μ-loop
 list-loop-less t c =
     let names = c.before.before.before.before.before.before.before.before.before.before.before.before.before.before.before.before.before.before.before.before.before.before.before.before.before.before.args.names.now in
-    let numbers = listing-bounds c.before.before.before.before.before.before.before.before.before.before.before.before.before.before.before.loop.invariant (c.before.before.before.before.before.before.before.before.before.before.before.before.before.before.before.before.before.before.before.element-of.ensures names) c.before.before.before.before.before.before.before.before.before.before.before.value.ensures c.before.before.before.before.before.before.before.if4.false c.before.before.before.before.before.before.before.before.before.before.before.value.auto.1.1.1.0 in
+    let numbers = listing_bounds c.before.before.before.before.before.before.before.before.before.before.before.before.before.before.before.loop.invariant (c.before.before.before.before.before.before.before.before.before.before.before.before.before.before.before.before.before.before.before.element-of.ensures names) c.before.before.before.before.before.before.before.before.before.before.before.value.ensures c.before.before.before.before.before.before.before.if4.false c.before.before.before.before.before.before.before.before.before.before.before.value.auto.1.1.1.0 in
     omega (arith, numbers, c.before.before.before.before.before.before.space2.ensures.1.0, c.before.before.space3.ensures.1.0, c.before.before.before.before.before.before.before.before.before.before.before.before.before.before.if3.false, c.before.before.before.before.before.before.before.before.before.before.before.before.before.before.before.before.before.before.before.before.before.before.before.before.before.before.requires.1.0.short)
 
 list-loop-again : (t : ℕ) → list-lts.Need-loop-preserved (list-calls t) (list_at t) list.Post list-Inv-loop list-μ-loop
 list-loop-again t c =
     let names = c.before.before.before.before.before.before.before.before.before.before.before.before.before.before.before.before.before.before.before.before.before.before.before.before.before.before.args.names.now in
-    listing-more c.before.before.before.before.before.before.before.before.before.before.before.before.before.before.before.loop.invariant (c.before.before.before.before.before.before.before.before.before.before.before.before.before.before.before.before.before.before.before.element-of.ensures names) c.before.before.before.before.before.before.before.before.before.before.before.value.ensures c.before.before.before.before.before.before.before.if4.false c.before.before.before.before.before.before.before.before.before.before.before.value.auto.1.1.1.0 (spaced c.before.before.before.before.before.before.space2.ensures.0 c.before.before.before.before.before.before.space2.ensures.1) c.before.before.before.before.before.byte-at3.ensures.0 c.before.before.before.if6.false (spaced c.before.before.space3.ensures.0 c.before.before.space3.ensures.1)
+    listing_more c.before.before.before.before.before.before.before.before.before.before.before.before.before.before.before.loop.invariant (c.before.before.before.before.before.before.before.before.before.before.before.before.before.before.before.before.before.before.before.element-of.ensures names) c.before.before.before.before.before.before.before.before.before.before.before.value.ensures c.before.before.before.before.before.before.before.if4.false c.before.before.before.before.before.before.before.before.before.before.before.value.auto.1.1.1.0 (spaced c.before.before.before.before.before.before.space2.ensures.0 c.before.before.before.before.before.before.space2.ensures.1) c.before.before.before.before.before.byte-at3.ensures.0 c.before.before.before.if6.false (spaced c.before.before.space3.ensures.0 c.before.before.space3.ensures.1)
 
 member-name-at-requires : (t : ℕ) → member-lts.Need-name-at-requires (member-calls t) (member-at t) member.Post
 member-name-at-requires t c κs =
     let given = c.before.before.before.before.before.requires.1.0 in
-    let distinct = given-distinct c.before.before.before.before.before.requires.1.0 in
+    let distinct = given_distinct c.before.before.before.before.before.requires.1.0 in
     (given.short, given.here, given.flags, distinct)
 
 member-no-step-requires : (t : ℕ) → member-lts.Need-no-step-requires (member-calls t) (member-at t) member.Post
@@ -1111,7 +1111,7 @@ member-same-length : (t : ℕ) → member-lts.Need-same-length (member-calls t) 
 member-same-length t c = search rules
 
 member-returns-6 : (t : ℕ) → member-lts.Need-returns-6 (member-calls t) (member-at t) member.Post
-member-returns-6 t c = (alike-part 0 (c.before.before.before.before.before.before.before.before.before.before.before.before.before.before.before.before.before.before.before.before.before.before.before.before.args.top + 3) c.before.before.before.before.before.value.ensures.kept (omega arith) (omega (arith, c.before.before.before.before.before.before.before.before.before.before.before.before.before.before.before.before.before.before.before.before.before.before.before.before.requires.1.1.0)), λ h. absurd (omega (arith, c.no-step4.ensures)))
+member-returns-6 t c = (alike_part 0 (c.before.before.before.before.before.before.before.before.before.before.before.before.before.before.before.before.before.before.before.before.before.before.before.before.args.top + 3) c.before.before.before.before.before.value.ensures.kept (omega arith) (omega (arith, c.before.before.before.before.before.before.before.before.before.before.before.before.before.before.before.before.before.before.before.before.before.before.before.before.requires.1.1.0)), λ h. absurd (omega (arith, c.no-step4.ensures)))
 
 member-cast-tape : (t : ℕ) → member-lts.Need-overflow-cast-tape (member-calls t) (member-at t) member.Post
 member-cast-tape t c =
@@ -1257,7 +1257,7 @@ object-shut-requires t c κs =
     let t = table c.before.before.before.before.before.before.before.before.before.before.before.before.before.before.before.before.before.args.types.now c.before.before.before.before.before.before.before.before.before.before.before.before.before.before.before.before.before.args.names.now in
     let row = c.before.before.before.before.before.before.before.before.before.before.before.before.before.before.before.before.before.args.row in
     let given = c.before.before.before.before.before.before.before.before.before.before.before.before.before.before.before.before.before.requires.1.0 in
-    (shuts_any c.before.before.before.before.before.before.before.before.before.before.before.before.before.before.before.before.before.args.types.now names row 0 0 (shuts-none t row given.sane given.typed), omega (arith, c.before.before.before.before.before.before.before.before.if2.false, c.before.before.before.before.before.before.clear.auto.0), omega (arith, c.before.before.before.before.before.before.before.before.if2.false, given.room))
+    (shuts_any c.before.before.before.before.before.before.before.before.before.before.before.before.before.before.before.before.before.args.types.now names row 0 0 (shuts_none t row given.sane given.typed), omega (arith, c.before.before.before.before.before.before.before.before.if2.false, c.before.before.before.before.before.before.clear.auto.0), omega (arith, c.before.before.before.before.before.before.before.before.if2.false, given.room))
 
 object-same-length : (t : ℕ) → object-lts.Need-same-length (object_calls t) (object-at t) object.Post object-Inv-loop object-μ-loop
 object-same-length t c = search rules
@@ -1267,8 +1267,8 @@ object-returns-3 t c =
     let names = c.before.before.before.before.before.before.before.before.before.before.before.before.before.before.before.before.before.before.before.before.args.names.now in
     let top = c.before.before.before.before.before.before.before.before.before.before.before.before.before.before.before.before.before.before.before.before.args.top in
     let links = links-at (c.before.before.before.before.before.before.before.before.before.before.before.before.before.before.before.before.before.before.before.before.args.top + 3) _ _ _ c.before.before.before.before.before.before.before.before.before.before.before.before.wide.ensures.0 (c.before.before.before.before.before.before.before.before.before.before.before.before.before.count_of.ensures names) in
-    let cleared = cleared-below c.before.before.before.before.before.before.before.before.before.clear.new.0 (c.before.before.before.before.before.before.before.before.before.before.before.before.before.before.before.before.before.before.before.before.args.top + 3) _ _ c.before.before.before.before.before.before.before.before.before.clear.ensures.1 (c.before.before.before.before.before.before.before.before.before.before.before.before.before.count_of.ensures names) in
-    walked-if (alike_then _ _ _ 0 top (alike-part 0 top c.before.before.before.before.before.before.before.before.before.clear.ensures.0 (omega arith) (omega arith)) c.before.before.shut.ensures.0) (λ h. object-none c.before.before.before.before.before.before.before.before.before.before.before.before.before.before.before.before.before.before.before.before.args.depth c.before.before.before.before.before.before.space.ensures.0 c.before.before.before.before.before.before.space.ensures.1.0 c.before.before.before.before.before.before.before.before.before.clear.ensures.0 cleared links (omega (arith, c.before.before.before.before.before.before.before.before.before.before.before.if2.false, c.before.before.before.before.before.before.before.before.before.clear.auto.0)) c.before.before.before.before.before.before.before.before.before.before.before.before.before.before.before.before.before.before.before.before.requires.1.1.0 c.before.before.before.before.before.before.before.before.before.before.before.before.before.before.before.before.before.before.before.before.requires.1.1.1 c.before.before.before.before.before.before.before.before.before.before.before.before.before.before.before.byte_at.ensures.0 c.before.before.before.before.before.before.before.before.before.before.before.before.before.before.if1.false c.before.before.before.before.before.byte-at2.ensures.0 c.before.before.before.before.if3.true (c.before.before.shut.ensures.1 h names))
+    let cleared = cleared_below c.before.before.before.before.before.before.before.before.before.clear.new.0 (c.before.before.before.before.before.before.before.before.before.before.before.before.before.before.before.before.before.before.before.before.args.top + 3) _ _ c.before.before.before.before.before.before.before.before.before.clear.ensures.1 (c.before.before.before.before.before.before.before.before.before.before.before.before.before.count_of.ensures names) in
+    walked_if (alike_then _ _ _ 0 top (alike_part 0 top c.before.before.before.before.before.before.before.before.before.clear.ensures.0 (omega arith) (omega arith)) c.before.before.shut.ensures.0) (λ h. object-none c.before.before.before.before.before.before.before.before.before.before.before.before.before.before.before.before.before.before.before.before.args.depth c.before.before.before.before.before.before.space.ensures.0 c.before.before.before.before.before.before.space.ensures.1.0 c.before.before.before.before.before.before.before.before.before.clear.ensures.0 cleared links (omega (arith, c.before.before.before.before.before.before.before.before.before.before.before.if2.false, c.before.before.before.before.before.before.before.before.before.clear.auto.0)) c.before.before.before.before.before.before.before.before.before.before.before.before.before.before.before.before.before.before.before.before.requires.1.1.0 c.before.before.before.before.before.before.before.before.before.before.before.before.before.before.before.before.before.before.before.before.requires.1.1.1 c.before.before.before.before.before.before.before.before.before.before.before.before.before.before.before.byte_at.ensures.0 c.before.before.before.before.before.before.before.before.before.before.before.before.before.before.if1.false c.before.before.before.before.before.byte-at2.ensures.0 c.before.before.before.before.if3.true (c.before.before.shut.ensures.1 h names))
 
 object-loop-holds : (t : ℕ) → object-lts.Need-loop-init (object_calls t) (object-at t) object.Post object-Inv-loop object-μ-loop
 object-loop-holds t c =
@@ -1279,8 +1279,8 @@ object-loop-holds t c =
     let place = c.before.before.before.before.before.before.before.before.before.before.before.before.before.before.before.before.args.place in
     let top = c.before.before.before.before.before.before.before.before.before.before.before.before.before.before.before.before.args.top in
     let links = links-at (c.before.before.before.before.before.before.before.before.before.before.before.before.before.before.before.before.args.top + 3) _ _ _ c.before.before.before.before.before.before.before.before.wide.ensures.0 (c.before.before.before.before.before.before.before.before.before.count_of.ensures names) in
-    let cleared = cleared-below c.before.before.before.before.before.clear.new.0 (c.before.before.before.before.before.before.before.before.before.before.before.before.before.before.before.before.args.top + 3) _ _ c.before.before.before.before.before.clear.ensures.1 (c.before.before.before.before.before.before.before.before.before.count_of.ensures names) in
-    objecting-start t s _ _ c.before.before.before.before.before.before.before.before.before.before.before.before.before.before.before.before.args.depth row place top c.before.before.space.result c.before.before.space.ensures.0 c.before.before.space.ensures.1.0 (within-at c.before.before.before.before.before.before.before.before.before.before.before.before.before.before.before.before.args.s.now c.before.before.space.ensures.1 (omega (arith, mark-inside s place c.before.before.before.before.before.before.before.before.before.before.before.byte_at.result 0x7B c.before.before.before.before.before.before.before.before.before.before.before.byte_at.ensures.0 c.before.before.before.before.before.before.before.before.before.before.if1.false (omega arith)))) (alike_same _ _ _) cleared refl (top + 3 + c.before.before.before.before.before.before.before.before.wide.result) links (omega (arith, c.before.before.before.before.before.before.before.if2.false, c.before.before.before.before.before.clear.auto.0))
+    let cleared = cleared_below c.before.before.before.before.before.clear.new.0 (c.before.before.before.before.before.before.before.before.before.before.before.before.before.before.before.before.args.top + 3) _ _ c.before.before.before.before.before.clear.ensures.1 (c.before.before.before.before.before.before.before.before.before.count_of.ensures names) in
+    objecting_start t s _ _ c.before.before.before.before.before.before.before.before.before.before.before.before.before.before.before.before.args.depth row place top c.before.before.space.result c.before.before.space.ensures.0 c.before.before.space.ensures.1.0 (within-at c.before.before.before.before.before.before.before.before.before.before.before.before.before.before.before.before.args.s.now c.before.before.space.ensures.1 (omega (arith, mark-inside s place c.before.before.before.before.before.before.before.before.before.before.before.byte_at.result 0x7B c.before.before.before.before.before.before.before.before.before.before.before.byte_at.ensures.0 c.before.before.before.before.before.before.before.before.before.before.if1.false (omega arith)))) (alike_same _ _ _) cleared refl (top + 3 + c.before.before.before.before.before.before.before.before.wide.result) links (omega (arith, c.before.before.before.before.before.before.before.if2.false, c.before.before.before.before.before.clear.auto.0))
 
 object-member-requires : (t : ℕ) → object-lts.Need-member-requires (object_calls t) (object-at t) object.Post object-Inv-loop object-μ-loop
 object-member-requires t c κs =
@@ -1300,7 +1300,7 @@ object-returns-4 t c =
     let row = c.before.before.before.before.before.before.before.before.before.before.before.before.before.before.before.before.before.before.before.before.before.before.before.before.before.args.row in
     let place = c.before.before.before.before.before.before.before.before.before.before.before.before.before.before.before.before.before.before.before.before.before.before.before.before.before.args.place in
     let top = c.before.before.before.before.before.before.before.before.before.before.before.before.before.before.before.before.before.before.before.before.before.before.before.before.before.args.top in
-    not_taken t s c.before.before.before.before.before.before.before.before.before.before.before.before.before.before.before.before.before.before.before.before.before.before.before.before.before.args.tape.now _ (c.before.before.before.before.before.before.before.before.before.before.before.before.before.before.before.before.before.before.before.before.before.before.before.before.before.args.depth + 1) row place top _ (alike_then _ _ _ 0 top (alike-part 0 top c.before.before.before.before.before.before.before.before.before.before.before.before.before.before.clear.ensures.0 (omega arith) (omega arith)) (alike_then _ _ _ 0 top c.before.before.before.before.before.before.before.before.loop.invariant.kept (alike-part 0 top c.before.before.before.before.before.member.ensures.0 (omega arith) (omega arith)))) c.other3.ensures
+    not_taken t s c.before.before.before.before.before.before.before.before.before.before.before.before.before.before.before.before.before.before.before.before.before.before.before.before.before.args.tape.now _ (c.before.before.before.before.before.before.before.before.before.before.before.before.before.before.before.before.before.before.before.before.before.before.before.before.before.args.depth + 1) row place top _ (alike_then _ _ _ 0 top (alike_part 0 top c.before.before.before.before.before.before.before.before.before.before.before.before.before.before.clear.ensures.0 (omega arith) (omega arith)) (alike_then _ _ _ 0 top c.before.before.before.before.before.before.before.before.loop.invariant.kept (alike_part 0 top c.before.before.before.before.before.member.ensures.0 (omega arith) (omega arith)))) c.other3.ensures
 
 object-space-requires-2 : (t : ℕ) → object-lts.Need-space-requires-2 (object_calls t) (object-at t) object.Post object-Inv-loop object-μ-loop
 object-space-requires-2 t c κs = search rules
@@ -1332,7 +1332,7 @@ object-shut-requires-2 t c κs =
     let row = c.before.before.before.before.before.before.before.before.before.before.before.before.before.before.before.before.before.before.before.before.before.before.before.before.before.before.before.before.before.before.args.row in
     let given = c.before.before.before.before.before.before.before.before.before.before.before.before.before.before.before.before.before.before.before.before.before.before.before.before.before.before.before.before.before.before.requires.1.0 in
     let stepped = c.before.before.before.before.before.before.before.before.before.before.member.ensures.1 (omega (arith, c.before.before.before.before.before.before.if4.false)) in
-    (shuts_any c.before.before.before.before.before.before.before.before.before.before.before.before.before.before.before.before.before.before.before.before.before.before.before.before.before.before.before.before.before.before.args.types.now names row _ _ (shuts_after (objecting-after c.before.before.before.before.before.before.before.before.before.before.before.before.before.loop.invariant given.sane given.typed stepped c.before.before.before.before.before.before.before.before.before.before.member.auto.1.1.1.0 c.before.before.before.before.before.before.before.before.before.before.member.ensures.0 c.before.before.before.before.before.space2.ensures.0) given.sane given.typed (omega (arith, stepped.words, stepped.inside, c.before.before.before.before.before.before.before.before.before.before.member.auto.1.1.1.0, c.before.before.before.before.before.before.before.before.before.before.before.before.before.loop.invariant.same, c.before.before.before.before.before.before.before.before.before.before.before.before.before.before.before.before.before.before.before.clear.auto.0, c.before.before.before.before.before.before.before.before.before.before.before.before.before.loop.invariant.words, given.room))), omega (arith, c.before.before.before.before.before.before.before.before.before.before.member.auto.1.1.1.0, c.before.before.before.before.before.before.before.before.before.before.before.before.before.loop.invariant.start, c.before.before.before.before.before.before.before.before.before.before.before.before.before.loop.invariant.inside), omega (arith, stepped.inside, c.before.before.before.before.before.before.before.before.before.before.member.auto.1.1.1.0, c.before.before.before.before.before.before.before.before.before.before.before.before.before.loop.invariant.same, c.before.before.before.before.before.before.before.before.before.before.before.before.before.before.before.before.before.before.before.clear.auto.0, given.room))
+    (shuts_any c.before.before.before.before.before.before.before.before.before.before.before.before.before.before.before.before.before.before.before.before.before.before.before.before.before.before.before.before.before.before.args.types.now names row _ _ (shuts_after (objecting_after c.before.before.before.before.before.before.before.before.before.before.before.before.before.loop.invariant given.sane given.typed stepped c.before.before.before.before.before.before.before.before.before.before.member.auto.1.1.1.0 c.before.before.before.before.before.before.before.before.before.before.member.ensures.0 c.before.before.before.before.before.space2.ensures.0) given.sane given.typed (omega (arith, stepped.words, stepped.inside, c.before.before.before.before.before.before.before.before.before.before.member.auto.1.1.1.0, c.before.before.before.before.before.before.before.before.before.before.before.before.before.loop.invariant.same, c.before.before.before.before.before.before.before.before.before.before.before.before.before.before.before.before.before.before.before.clear.auto.0, c.before.before.before.before.before.before.before.before.before.before.before.before.before.loop.invariant.words, given.room))), omega (arith, c.before.before.before.before.before.before.before.before.before.before.member.auto.1.1.1.0, c.before.before.before.before.before.before.before.before.before.before.before.before.before.loop.invariant.start, c.before.before.before.before.before.before.before.before.before.before.before.before.before.loop.invariant.inside), omega (arith, stepped.inside, c.before.before.before.before.before.before.before.before.before.before.member.auto.1.1.1.0, c.before.before.before.before.before.before.before.before.before.before.before.before.before.loop.invariant.same, c.before.before.before.before.before.before.before.before.before.before.before.before.before.before.before.before.before.before.before.clear.auto.0, given.room))
 
 object-same-length-3 : (t : ℕ) → object-lts.Need-same-length-3 (object_calls t) (object-at t) object.Post object-Inv-loop object-μ-loop
 object-same-length-3 t c = c.before.before.shut2.auto.1.0 ∙ c.before.before.before.before.before.before.before.before.before.before.before.before.before.member.auto.1.1.1.0 ∙ c.before.before.before.before.before.before.before.before.before.before.before.before.before.before.before.before.loop.invariant.same ∙ c.before.before.before.before.before.before.before.before.before.before.before.before.before.before.before.before.before.before.before.before.before.before.clear.auto.0
@@ -1343,9 +1343,9 @@ object-returns-5 t c =
     let top = c.before.before.before.before.before.before.before.before.before.before.before.before.before.before.before.before.before.before.before.before.before.before.before.before.before.before.before.before.before.before.before.before.before.args.top in
     let given = c.before.before.before.before.before.before.before.before.before.before.before.before.before.before.before.before.before.before.before.before.before.before.before.before.before.before.before.before.before.before.before.before.before.requires.1.0 in
     let step = c.before.before.before.before.before.before.before.before.before.before.before.before.before.member.ensures.1 (omega (arith, c.before.before.before.before.before.before.before.before.before.if4.false)) in
-    let before = alike-part 0 top c.before.before.before.before.before.before.before.before.before.before.before.before.before.before.before.before.before.before.before.before.before.before.clear.ensures.0 (omega arith) (omega arith) in
-    walked_from before (walked-if (alike_then _ _ _ 0 top (alike_then _ _ _ 0 top c.before.before.before.before.before.before.before.before.before.before.before.before.before.before.before.before.loop.invariant.kept (alike-part 0 top c.before.before.before.before.before.before.before.before.before.before.before.before.before.member.ensures.0 (omega arith) (omega arith))) c.before.before.shut2.ensures.0)
-    (λ h. objecting-last c.before.before.before.before.before.before.before.before.before.before.before.before.before.before.before.before.loop.invariant given.sane given.typed step c.before.before.before.before.before.before.before.before.before.before.before.before.before.member.auto.1.1.1.0 c.before.before.before.before.before.before.before.before.before.before.before.before.before.member.ensures.0 c.before.before.before.before.before.before.before.before.space2.ensures.0 c.before.before.before.before.before.before.before.before.before.before.before.before.before.before.before.before.before.before.before.before.before.before.before.before.before.before.before.before.before.before.before.before.before.requires.1.1.0 c.before.before.before.before.before.before.before.before.before.before.before.before.before.before.before.before.before.before.before.before.before.before.before.before.before.before.before.before.before.before.before.before.before.requires.1.1.1 c.before.before.before.before.before.before.before.before.before.before.before.before.before.before.before.before.before.before.before.before.before.before.before.before.before.before.before.before.byte_at.ensures.0 c.before.before.before.before.before.before.before.before.before.before.before.before.before.before.before.before.before.before.before.before.before.before.before.before.before.before.before.if1.false c.before.before.before.before.before.before.before.byte-at3.ensures.0 c.before.before.before.before.before.before.if5.true c.before.before.before.before.before.before.before.before.space2.ensures.1.0 (c.before.before.shut2.ensures.1 h names)))
+    let before = alike_part 0 top c.before.before.before.before.before.before.before.before.before.before.before.before.before.before.before.before.before.before.before.before.before.before.clear.ensures.0 (omega arith) (omega arith) in
+    walked_from before (walked_if (alike_then _ _ _ 0 top (alike_then _ _ _ 0 top c.before.before.before.before.before.before.before.before.before.before.before.before.before.before.before.before.loop.invariant.kept (alike_part 0 top c.before.before.before.before.before.before.before.before.before.before.before.before.before.member.ensures.0 (omega arith) (omega arith))) c.before.before.shut2.ensures.0)
+    (λ h. objecting_last c.before.before.before.before.before.before.before.before.before.before.before.before.before.before.before.before.loop.invariant given.sane given.typed step c.before.before.before.before.before.before.before.before.before.before.before.before.before.member.auto.1.1.1.0 c.before.before.before.before.before.before.before.before.before.before.before.before.before.member.ensures.0 c.before.before.before.before.before.before.before.before.space2.ensures.0 c.before.before.before.before.before.before.before.before.before.before.before.before.before.before.before.before.before.before.before.before.before.before.before.before.before.before.before.before.before.before.before.before.before.requires.1.1.0 c.before.before.before.before.before.before.before.before.before.before.before.before.before.before.before.before.before.before.before.before.before.before.before.before.before.before.before.before.before.before.before.before.before.requires.1.1.1 c.before.before.before.before.before.before.before.before.before.before.before.before.before.before.before.before.before.before.before.before.before.before.before.before.before.before.before.before.byte_at.ensures.0 c.before.before.before.before.before.before.before.before.before.before.before.before.before.before.before.before.before.before.before.before.before.before.before.before.before.before.before.if1.false c.before.before.before.before.before.before.before.byte-at3.ensures.0 c.before.before.before.before.before.before.if5.true c.before.before.before.before.before.before.before.before.space2.ensures.1.0 (c.before.before.shut2.ensures.1 h names)))
 
 object-other-requires-4 : (t : ℕ) → object-lts.Need-other-requires-4 (object_calls t) (object-at t) object.Post object-Inv-loop object-μ-loop
 object-other-requires-4 t c κs = search rules
@@ -1360,7 +1360,7 @@ object-returns-6 t c =
     let row = c.before.before.before.before.before.before.before.before.before.before.before.before.before.before.before.before.before.before.before.before.before.before.before.before.before.before.before.before.before.args.row in
     let place = c.before.before.before.before.before.before.before.before.before.before.before.before.before.before.before.before.before.before.before.before.before.before.before.before.before.before.before.before.before.args.place in
     let top = c.before.before.before.before.before.before.before.before.before.before.before.before.before.before.before.before.before.before.before.before.before.before.before.before.before.before.before.before.before.args.top in
-    not_taken t s c.before.before.before.before.before.before.before.before.before.before.before.before.before.before.before.before.before.before.before.before.before.before.before.before.before.before.before.before.before.args.tape.now _ (c.before.before.before.before.before.before.before.before.before.before.before.before.before.before.before.before.before.before.before.before.before.before.before.before.before.before.before.before.before.args.depth + 1) row place top _ (alike_then _ _ _ 0 top (alike-part 0 top c.before.before.before.before.before.before.before.before.before.before.before.before.before.before.before.before.before.before.clear.ensures.0 (omega arith) (omega arith)) (alike_then _ _ _ 0 top c.before.before.before.before.before.before.before.before.before.before.before.before.loop.invariant.kept (alike-part 0 top c.before.before.before.before.before.before.before.before.before.member.ensures.0 (omega arith) (omega arith)))) c.other4.ensures
+    not_taken t s c.before.before.before.before.before.before.before.before.before.before.before.before.before.before.before.before.before.before.before.before.before.before.before.before.before.before.before.before.before.args.tape.now _ (c.before.before.before.before.before.before.before.before.before.before.before.before.before.before.before.before.before.before.before.before.before.before.before.before.before.before.before.before.before.args.depth + 1) row place top _ (alike_then _ _ _ 0 top (alike_part 0 top c.before.before.before.before.before.before.before.before.before.before.before.before.before.before.before.before.before.before.clear.ensures.0 (omega arith) (omega arith)) (alike_then _ _ _ 0 top c.before.before.before.before.before.before.before.before.before.before.before.before.loop.invariant.kept (alike_part 0 top c.before.before.before.before.before.before.before.before.before.member.ensures.0 (omega arith) (omega arith)))) c.other4.ensures
 
 object-add-space-2 : (t : ℕ) → object-lts.Need-overflow-add-space-2 (object_calls t) (object-at t) object.Post object-Inv-loop object-μ-loop
 object-add-space-2 t c =
@@ -1394,7 +1394,7 @@ object-loop-again t c =
     let s = c.before.before.before.before.before.before.before.before.before.before.before.before.before.before.before.before.before.before.before.before.before.before.before.before.before.before.before.before.before.before.before.args.s.now in
     let given = c.before.before.before.before.before.before.before.before.before.before.before.before.before.before.before.before.before.before.before.before.before.before.before.before.before.before.before.before.before.before.before.requires.1.0 in
     let stepped = c.before.before.before.before.before.before.before.before.before.before.before.member.ensures.1 (omega (arith, c.before.before.before.before.before.before.before.if4.false)) in
-    objecting-more c.before.before.before.before.before.before.before.before.before.before.before.before.before.before.loop.invariant given.sane given.typed stepped c.before.before.before.before.before.before.before.before.before.before.before.member.auto.1.1.1.0 c.before.before.before.before.before.before.before.before.before.before.before.member.ensures.0 c.before.before.before.before.before.before.space2.ensures.0 c.before.before.before.before.before.byte-at3.ensures.0 c.before.before.before.if6.false c.before.before.before.before.before.before.space2.ensures.1.0 c.before.before.space3.ensures.0 c.before.before.space3.ensures.1.0 (within-at c.before.before.before.before.before.before.before.before.before.before.before.before.before.before.before.before.before.before.before.before.before.before.before.before.before.before.before.before.before.before.before.args.s.now c.before.before.space3.ensures.1 (omega (arith, mark-inside s c.before.before.before.before.before.before.space2.result c.before.before.before.before.before.byte-at3.result 0x2C c.before.before.before.before.before.byte-at3.ensures.0 c.before.before.before.if6.false (omega arith))))
+    objecting_more c.before.before.before.before.before.before.before.before.before.before.before.before.before.before.loop.invariant given.sane given.typed stepped c.before.before.before.before.before.before.before.before.before.before.before.member.auto.1.1.1.0 c.before.before.before.before.before.before.before.before.before.before.before.member.ensures.0 c.before.before.before.before.before.before.space2.ensures.0 c.before.before.before.before.before.byte-at3.ensures.0 c.before.before.before.if6.false c.before.before.before.before.before.before.space2.ensures.1.0 c.before.before.space3.ensures.0 c.before.before.space3.ensures.1.0 (within-at c.before.before.before.before.before.before.before.before.before.before.before.before.before.before.before.before.before.before.before.before.before.before.before.before.before.before.before.before.before.before.before.args.s.now c.before.before.space3.ensures.1 (omega (arith, mark-inside s c.before.before.before.before.before.before.space2.result c.before.before.before.before.before.byte-at3.result 0x2C c.before.before.before.before.before.byte-at3.ensures.0 c.before.before.before.if6.false (omega arith))))
 
 picked-add-if1 : (t : ℕ) → picked-lts.Need-overflow-add-if1 (picked-calls t) (picked-at t) picked.Post
 picked-add-if1 t c = search rules
@@ -1449,7 +1449,7 @@ picked-plain-requires t c κs =
     let row = c.before.before.before.before.before.before.before.before.before.before.before.before.before.args.row in
     let place = c.before.before.before.before.before.before.before.before.before.before.before.before.before.args.place in
     let given = c.before.before.before.before.before.before.before.before.before.before.before.before.before.requires.1.0 in
-    let pick = sym c.before.before.before.before.k.given.1 ∙ c.before.before.before.before.before.before.alternative.ensures names (tokenAt c.before.before.before.before.before.before.before.before.before.before.before.before.before.args.s.now c.before.before.before.before.before.before.before.before.before.before.before.before.before.args.place) c.before.before.before.before.before.before.before.token-at.ensures in
+    let pick = sym c.before.before.before.before.k.given.1 ∙ c.before.before.before.before.before.before.alternative.ensures names (token_at c.before.before.before.before.before.before.before.before.before.before.before.before.before.args.s.now c.before.before.before.before.before.before.before.before.before.before.before.before.before.args.place) c.before.before.before.before.before.before.before.token-at.ensures in
     (omega arith, (picked-given t s row place c.before.before.before.before.k.given.0.0 given.sane c.before.before.before.before.before.before.before.before.before.before.before.before.before.requires.1.1 pick given (c.type-at.ensures names) (omega (arith, c.before.before.before.before.before.before.before.before.if1.false)), rw (c.type-at.ensures names) (picked-plain t s row place c.before.before.before.before.k.given.0.0 given.sane c.before.before.before.before.before.before.before.before.before.before.before.before.before.requires.1.1 pick)))
 
 picked-other-requires-3 : (t : ℕ) → picked-lts.Need-other-requires-3 (picked-calls t) (picked-at t) picked.Post
@@ -1465,7 +1465,7 @@ picked-returns-3 t c =
     let row = c.before.before.before.before.before.before.before.before.before.before.before.before.before.before.before.before.before.before.before.args.row in
     let place = c.before.before.before.before.before.before.before.before.before.before.before.before.before.before.before.before.before.before.before.args.place in
     let top = c.before.before.before.before.before.before.before.before.before.before.before.before.before.before.before.before.before.before.before.args.top in
-    not_taken t s c.before.before.before.before.before.before.before.before.before.before.before.before.before.before.before.before.before.before.before.args.tape.now _ c.before.before.before.before.before.before.before.before.before.before.before.before.before.before.before.before.before.before.before.args.depth row place top _ (alike-part 0 top c.before.before.before.before.before.plain.ensures.kept (omega arith) (omega arith)) c.other3.ensures
+    not_taken t s c.before.before.before.before.before.before.before.before.before.before.before.before.before.before.before.before.before.before.before.args.tape.now _ c.before.before.before.before.before.before.before.before.before.before.before.before.before.before.before.before.before.before.before.args.depth row place top _ (alike_part 0 top c.before.before.before.before.before.plain.ensures.kept (omega arith) (omega arith)) c.other3.ensures
 
 picked-head-requires : (t : ℕ) → picked-lts.Need-head-requires (picked-calls t) (picked-at t) picked.Post
 picked-head-requires t c κs =
@@ -1483,7 +1483,7 @@ picked-returns-4 t c =
     let row = c.before.before.before.before.before.before.before.before.before.before.before.before.before.before.before.before.before.before.before.before.before.before.args.row in
     let place = c.before.before.before.before.before.before.before.before.before.before.before.before.before.before.before.before.before.before.before.before.before.before.args.place in
     let given = c.before.before.before.before.before.before.before.before.before.before.before.before.before.before.before.before.before.before.before.before.before.before.requires.1.0 in
-    let pick = sym c.before.before.before.before.before.before.before.before.before.before.before.before.before.k.given.1 ∙ c.before.before.before.before.before.before.before.before.before.before.before.before.before.before.before.alternative.ensures names (tokenAt c.before.before.before.before.before.before.before.before.before.before.before.before.before.before.before.before.before.before.before.before.before.before.args.s.now c.before.before.before.before.before.before.before.before.before.before.before.before.before.before.before.before.before.before.before.before.before.before.args.place) c.before.before.before.before.before.before.before.before.before.before.before.before.before.before.before.before.token-at.ensures in
+    let pick = sym c.before.before.before.before.before.before.before.before.before.before.before.before.before.k.given.1 ∙ c.before.before.before.before.before.before.before.before.before.before.before.before.before.before.before.alternative.ensures names (token_at c.before.before.before.before.before.before.before.before.before.before.before.before.before.before.before.before.before.before.before.before.before.before.args.s.now c.before.before.before.before.before.before.before.before.before.before.before.before.before.before.before.before.before.before.before.before.before.before.args.place) c.before.before.before.before.before.before.before.before.before.before.before.before.before.before.before.before.token-at.ensures in
     picked-here t s row place c.before.before.before.before.before.before.before.before.before.before.before.before.before.k.given.0.0 given.sane c.before.before.before.before.before.before.before.before.before.before.before.before.before.before.before.before.before.before.before.before.before.before.requires.1.1 pick (c.before.before.before.before.before.before.before.before.before.type-at.ensures names) c.before.before.before.before.before.before.before.before.plain.ensures c.before.before.before.before.if2.false c.before.before.head.ensures.0 c.before.before.head.ensures.1
 
 plain-kind-of-requires : (t : ℕ) → plain-lts.Need-kind-of-requires (plain-calls t) (plain_at t) plain.Post

@@ -4,7 +4,7 @@ use mathlib.Core.Path.{◌≡◌, refl, sym, ap, ◌∙◌}
 use native.Mathlib.Omega.{arith}
 use lib.ListN.{length}
 use Rattle.jer.specs.Table.{table}
-use Rattle.reading.proofs.EachLaws.{Sofar, sofar-start, sofar-all, sofar-untold, turn_last, turn-next}
+use Rattle.reading.proofs.EachLaws.{Sofar, sofar-start, sofar-all, sofar_untold, turn_last, turn-next}
 use borrow.Author.Rules.{rules}
 use Rattle.reading.proofs.each.each.Statement.{statement}
 use Rattle.reading.proofs.each.each.Tie as tie
@@ -35,7 +35,7 @@ returns c =
     let a = c.before.before.before.before.before.before.before.before.before.before.args in
     let t = table a.types.now a.names.now in
     let inv = c.before.before.loop.invariant in
-    sofar-untold t a.texts.now a.ends.now inv.3 c.before.loop-test.true c.if1.true
+    sofar_untold t a.texts.now a.ends.now inv.3 c.before.loop-test.true c.if1.true
 
 mul-end : tie.Need-overflow-mul-end invariant-loop decreases-loop
 mul-end c = search rules
@@ -49,21 +49,21 @@ text-from-requires c κs = search rules
 one-requires : tie.Need-one-requires invariant-loop decreases-loop
 one-requires c κs =
     let inv = c.before.before.before.before.before.before.loop.invariant in
-    (c.before.before.before.before.before.before.before.before.before.before.before.before.before.before.requires, inv.3.rowsIn, inv.3.poolIn)
+    (c.before.before.before.before.before.before.before.before.before.before.before.before.before.before.requires, inv.3.rows_in, inv.3.pool_in)
 
 rows-used-requires : tie.Need-rows-used-requires invariant-loop decreases-loop
 rows-used-requires c κs = search rules
 
 add-n : tie.Need-overflow-add-n invariant-loop decreases-loop
 add-n c =
-    let w = c.before.before.before.before.before.one.ensures.rowsFit in let e = c.rows-used.ensures in omega arith
+    let w = c.before.before.before.before.before.one.ensures.rows_fit in let e = c.rows-used.ensures in omega arith
 
 pool-used-requires : tie.Need-pool-used-requires invariant-loop decreases-loop
 pool-used-requires c κs = search rules
 
 add-m : tie.Need-overflow-add-m invariant-loop decreases-loop
 add-m c =
-    let w = c.before.before.before.before.before.before.one.ensures.poolFit in let e = c.pool-used.ensures in omega arith
+    let w = c.before.before.before.before.before.before.one.ensures.pool_fit in let e = c.pool-used.ensures in omega arith
 
 values-in-requires : tie.Need-values-in-requires invariant-loop decreases-loop
 values-in-requires c κs = search rules

@@ -2,7 +2,7 @@
 use Prim.Native.Nat.{◌+◌, ◌*◌, ◌^◌, ◌<◌}
 use mathlib.Core.Path.{refl}
 use Rattle.jer.specs.Table.{table}
-use Rattle.jer.specs.Each.{rowsUsed, poolUsed}
+use Rattle.jer.specs.Each.{rows_used, pool_used}
 use Rattle.reading.proofs.EachLaws.{one-few, read-from}
 use borrow.Author.Rules.{rules}
 use Rattle.reading.proofs.each.one.Statement.{statement}
@@ -46,10 +46,10 @@ returns c =
     let a = c.before.before.before.before.before.before.before.before.before.before.before.before.args in
     let t = table a.types.now a.names.now in
     let few = one-few t a.s.now a.rows.now a.pool.now (a.n * 4) a.m c.before.before.before.before.before.before.before.before.before.before.before.before.requires.1 c.before.before.before.before.before.before.before.before.before.before.before.before.requires.2 c.before.before.before.before.read-good.ensures in
-    let fewRows = few.0 in
-    let fewBytes = few.1 in
-    let x : a.n + rowsUsed c.before.before.before.before.read-good.result < 2 ^ 62 = search rules in
-    let y : a.m + poolUsed c.before.before.before.before.read-good.result < 2 ^ 64 = search rules in
+    let few_rows = few.0 in
+    let few_bytes = few.1 in
+    let x : a.n + rows_used c.before.before.before.before.read-good.result < 2 ^ 62 = search rules in
+    let y : a.m + pool_used c.before.before.before.before.read-good.result < 2 ^ 64 = search rules in
     read-from t a.s.now a.n a.m _ _ c.before.before.before.before.before.before.before.before.before.before.before.before.requires.1 c.before.before.before.before.before.before.before.before.before.before.before.before.requires.2 c.before.before.before.before.read-good.ensures refl refl x y
 
 pub one_spec : {M : Type 1} → statement M

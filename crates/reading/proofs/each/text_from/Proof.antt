@@ -2,7 +2,7 @@
 use mathlib.Core.Path.{ap, ◌∙◌}
 use Prim.Native.Nat.{ℕ}
 use native.Mathlib.Omega.{arith}
-use Rattle.jer.specs.Each.{textFrom}
+use Rattle.jer.specs.Each.{text_from}
 use Rattle.reading.proofs.EachLaws.{text-none}
 use borrow.Author.Rules.{rules}
 use Rattle.reading.proofs.each.text_from.Statement.{statement}
@@ -18,7 +18,7 @@ part-requires-2 : tie.Need-part-requires-2
 part-requires-2 c κs = search rules
 
 returns-2 : tie.Need-returns-2
-unfolding textFrom
+unfolding text_from
 returns-2 c = c.part2.ensures
 
 pub text-from-spec : {M : Type 1} → statement M

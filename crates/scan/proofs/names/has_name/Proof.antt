@@ -1,6 +1,6 @@
 -- Made by tools/answers.py from answers/names/has_name.ans: edit that. f331fb4ee2ce5dc2
 use mathlib.Core.Path.{refl, sym}
-use Rattle.jer.specs.Table.{nameLength, table}
+use Rattle.jer.specs.Table.{name_length, table}
 use Rattle.tokens.specs.Strings.{denoted}
 use Rattle.scan.proofs.NameLaws.{in-row}
 use borrow.Author.Rules.{rules}
@@ -17,7 +17,7 @@ returns : tie.Need-returns
 returns c =
     let a = c.before.before.before.before.before.before.args in
     let ns = a.names.now in
-    let differs = c.before.first-differs.ensures c.if1.true a.s.now a.p (nameLength (table a.types.now ns) a.m) c.before.before.before.before.before.before.requires.1 in
+    let differs = c.before.first-differs.ensures c.if1.true a.s.now a.p (name_length (table a.types.now ns) a.m) c.before.before.before.before.before.before.requires.1 in
     in-row a.types.now ns a.m (denoted a.s.now a.p) (c.before.before.name-start.ensures.0 ns) refl (sym differs)
 
 name-length-requires : tie.Need-name-length-requires

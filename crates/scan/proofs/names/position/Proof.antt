@@ -4,9 +4,9 @@ use mathlib.Core.List.{List}
 use mathlib.Core.Bool.{Bool}
 use Prim.Native.Nat.{ℕ, ◌+◌, ◌-◌}
 use native.Mathlib.Omega.{arith}
-use Rattle.jer.specs.Table.{firstWhere, position, table}
+use Rattle.jer.specs.Table.{first_where, position, table}
 use Rattle.tokens.specs.Strings.{denoted}
-use Rattle.types.specs.Rows.{foundOf}
+use Rattle.types.specs.Rows.{found_of}
 use Rattle.types.proofs.RowLaws.{member-row}
 use Rattle.types.proofs.LoopLaws.{first_next, first_found, first_ends}
 use Rattle.scan.proofs.NameLaws.{named, named-is, position-starts}
@@ -19,7 +19,7 @@ abbrev test : List ℕ → List ℕ → List ℕ → ℕ → ℕ → ℕ → Boo
 test types names s row q = named (table types names) row (denoted s (q + 1))
 
 abbrev invariant-loop : tie.invariant-loop
-invariant-loop types names s row q first count p b i₀ i = firstWhere (test types names s row q) i (count - i) ≡ position (table types names) row (denoted s (q + 1))
+invariant-loop types names s row q first count p b i₀ i = first_where (test types names s row q) i (count - i) ≡ position (table types names) row (denoted s (q + 1))
 
 abbrev decreases-loop : tie.decreases-loop
 decreases-loop types names s row q first count p b i₀ i = count - i
@@ -59,11 +59,11 @@ has-name-requires : tie.Need-has-name-requires invariant-loop decreases-loop
 has-name-requires c κs = (c.before.before.before.before.before.before.before.before.before.requires.0, c.before.before.before.plain-first.ensures)
 
 returns : tie.Need-returns invariant-loop decreases-loop
-unfolding foundOf
+unfolding found_of
 returns c =
     let a = c.before.before.before.before.before.before.before.before.before.before.before.args in
     let l = c.before.before.before.before.loop in
-    ap foundOf (first_found (test a.types.now a.names.now a.s.now a.row a.q) l.i c.before.before.before.before.before.before.count_of.result c.before.before.before.loop-test.true (compared c.before) c.if1.true l.invariant)
+    ap found_of (first_found (test a.types.now a.names.now a.s.now a.row a.q) l.i c.before.before.before.before.before.before.count_of.result c.before.before.before.loop-test.true (compared c.before) c.if1.true l.invariant)
 
 add-i : tie.Need-overflow-add-i invariant-loop decreases-loop
 add-i c = search rules
@@ -78,11 +78,11 @@ loop-again c =
     first_next (test a.types.now a.names.now a.s.now a.row a.q) l.i c.before.before.before.before.before.before.count_of.result c.before.before.before.loop-test.true (compared c.before) c.if1.false l.invariant
 
 returns-2 : tie.Need-returns-2 invariant-loop decreases-loop
-unfolding foundOf
+unfolding found_of
 returns-2 c =
     let a = c.before.before.before.before.before.before.before.before.args in
     let l = c.before.loop in
-    ap foundOf (first_ends (test a.types.now a.names.now a.s.now a.row a.q) l.i c.before.before.before.count_of.result c.loop-test.false l.invariant)
+    ap found_of (first_ends (test a.types.now a.names.now a.s.now a.row a.q) l.i c.before.before.before.count_of.result c.loop-test.false l.invariant)
 
 pub position-spec : {M : Type 1} → statement M
 position-spec =

@@ -1,7 +1,7 @@
 -- Made by tools/answers.py from answers/names/value_place.ans: edit that. 2a20776408236238
 use mathlib.Core.Path.{ap, ◌∙◌}
 use native.Mathlib.Omega.{arith}
-use Rattle.tokens.specs.Places.{pastSpace}
+use Rattle.tokens.specs.Places.{past_space}
 use Rattle.scan.proofs.NameLaws.{value-place, colon-within, place-within}
 use borrow.Author.Rules.{rules}
 use Rattle.scan.proofs.names.value_place.Statement.{statement}
@@ -19,7 +19,7 @@ skip-space-requires c κs = search rules
 advance-requires : tie.Need-advance-requires
 advance-requires c κs =
     let a = c.before.before.before.args in
-    omega (arith, c.skip-space.ensures ∙ ap (pastSpace a.s.now) c.before.string-end.ensures, colon-within a.s.now a.q 65537 (omega arith) (omega arith))
+    omega (arith, c.skip-space.ensures ∙ ap (past_space a.s.now) c.before.string-end.ensures, colon-within a.s.now a.q 65537 (omega arith) (omega arith))
 
 skip-space-requires-2 : tie.Need-skip-space-requires-2
 skip-space-requires-2 c κs = search rules

@@ -1,7 +1,7 @@
 -- Made by tools/answers.py from answers/parts/first_part.ans: edit that. ac7dda464fa809c9
 use native.Mathlib.Omega.{arith}
 use Rattle.scan.proofs.WithinLaws.{space-within}
-use Rattle.scan.proofs.PartLaws.{first-shut, first_part}
+use Rattle.scan.proofs.PartLaws.{first-shut, first_part_lem}
 use borrow.Author.Rules.{rules}
 use Rattle.scan.proofs.parts.first_part.Statement.{statement}
 use Rattle.scan.proofs.parts.first_part.Tie as tie
@@ -24,7 +24,7 @@ returns c =
 
 returns-2 : tie.Need-returns-2
 returns-2 c =
-    let a = c.before.before.before.before.before.args in first_part a.s.now a.close a.p c.before.before.before.advance.ensures c.before.before.skip-space.ensures c.before.byte_at.ensures.0 c.if1.false
+    let a = c.before.before.before.before.before.args in first_part_lem a.s.now a.close a.p c.before.before.before.advance.ensures c.before.before.skip-space.ensures c.before.byte_at.ensures.0 c.if1.false
 
 pub first-part-spec : {M : Type 1} → statement M
 first-part-spec =

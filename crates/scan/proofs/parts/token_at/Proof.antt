@@ -1,8 +1,8 @@
 -- Made by tools/answers.py from answers/parts/token_at.ans: edit that. 255fb8baa4b2e191
 use mathlib.Core.Path.{sym, ◌∙◌}
-use Rattle.json.specs.Bytes.{pick}
-use Rattle.jer.specs.Table.{tokenCode}
-use Rattle.places.specs.ByPlaces.{tokenAt}
+use Rattle.json_text.specs.Bytes.{pick}
+use Rattle.jer.specs.Table.{token_code}
+use Rattle.places.specs.ByPlaces.{token_at}
 use Rattle.scan.proofs.PartLaws.{token-number}
 use borrow.Author.Rules.{rules}
 use Rattle.scan.proofs.parts.token_at.Statement.{statement}
@@ -12,27 +12,27 @@ byte-at-requires : tie.Need-byte-at-requires
 byte-at-requires c κs = search rules
 
 returns : tie.Need-returns
-unfolding tokenAt tokenCode pick
+unfolding token_at token_code pick
 returns c = rw (sym c.before.byte_at.ensures.0 ∙ c.match.keys1)
 
 returns-2 : tie.Need-returns-2
-unfolding tokenAt tokenCode pick
+unfolding token_at token_code pick
 returns-2 c = rw (sym c.before.byte_at.ensures.0 ∙ c.match.keys2)
 
 returns-3 : tie.Need-returns-3
-unfolding tokenAt tokenCode pick
+unfolding token_at token_code pick
 returns-3 c = rw (sym c.before.byte_at.ensures.0 ∙ c.match.keys3)
 
 returns-4 : tie.Need-returns-4
-unfolding tokenAt tokenCode pick
+unfolding token_at token_code pick
 returns-4 c = rw (sym c.before.byte_at.ensures.0 ∙ c.match.keys4)
 
 returns-5 : tie.Need-returns-5
-unfolding tokenAt tokenCode pick
+unfolding token_at token_code pick
 returns-5 c = rw (sym c.before.byte_at.ensures.0 ∙ c.match.keys5)
 
 returns-6 : tie.Need-returns-6
-unfolding tokenAt tokenCode pick
+unfolding token_at token_code pick
 returns-6 c = rw (sym c.before.byte_at.ensures.0 ∙ c.match.keys6)
 
 returns-7 : tie.Need-returns-7

@@ -4,8 +4,8 @@ use mathlib.Core.Path.{sym, ap, ◌∙◌}
 use mathlib.Core.List.{List}
 use native.Mathlib.Omega.{arith}
 use lib.ListN.{drop}
-use Rattle.jer.specs.Programs.{jerread, readSecond}
-use Rattle.lines.proofs.ShownLaws.{shown-as}
+use Rattle.jer.specs.Programs.{jerread, read_second}
+use Rattle.lines.proofs.ShownLaws.{shown_as}
 use Rattle.shell.proofs.LineLaws.{numbers-refused, numbers-given}
 use borrow.Author.Rules.{rules}
 use Rattle.shell.proofs.reads.answer.Statement.{statement}
@@ -33,7 +33,7 @@ returns : tie.Need-returns
 unfolding jerread
 returns c =
     let a = c.before.before.before.before.before.before.before.before.before.before.before.args in
-    shown-as a.out.now 0 (numbers-refused 1 a.s.now 0 (λ types rest. readSecond types rest) (sym c.before.before.before.before.enum_told.given.1 ∙ c.before.before.before.before.before.before.before.numbers-line.ensures.0)) c.before.before.put-bad-line.ensures
+    shown_as a.out.now 0 (numbers-refused 1 a.s.now 0 (λ types rest. read_second types rest) (sym c.before.before.before.before.enum_told.given.1 ∙ c.before.before.before.before.before.before.before.numbers-line.ensures.0)) c.before.before.put-bad-line.ensures
 
 slice-aggregate-first-numbers : tie.Need-slice-aggregate-first-numbers
 slice-aggregate-first-numbers c = search rules
@@ -53,8 +53,8 @@ returns-2 c =
     let a = c.before.before.before.before.before.before.before.before.before.before.before.before.before.before.args in
     let taken = c.before.before.before.before.before.before.before.before.before.before.numbers-line in
     let line = c.before.before.before.before.before.before.before.n.given in
-    let f : List ℕ → List ℕ → List ℕ = λ types rest. readSecond types rest in
-    shown-as a.out.now 0
+    let f : List ℕ → List ℕ → List ℕ = λ types rest. read_second types rest in
+    shown_as a.out.now 0
     (ap (λ (x : List ℕ). f x (drop line.0.1.0 a.s.now)) c.before.before.before.before.first-numbers.ensures ∙ numbers-given 1 a.s.now 0 f _ (omega arith) (sym line.1 ∙ taken.ensures.0) taken.ensures.1)
     c.before.before.second.ensures
 

@@ -1,9 +1,9 @@
 -- Made by tools/answers.py from answers/reads/show.ans: edit that. 9342ae6e43047d9c
 use native.Mathlib.Omega.{arith}
-use Rattle.jer.specs.Programs.{readShown}
+use Rattle.jer.specs.Programs.{read_shown}
 use Rattle.jer.specs.Table.{table}
-use Rattle.lines.proofs.ShownLaws.{shown-as}
-use Rattle.shell.proofs.AnswerLaws.{reading-shown}
+use Rattle.lines.proofs.ShownLaws.{shown_as}
+use Rattle.shell.proofs.AnswerLaws.{reading_shown}
 use borrow.Author.Rules.{rules}
 use Rattle.shell.proofs.reads.show.Statement.{statement}
 use Rattle.shell.proofs.reads.show.Tie as tie
@@ -30,10 +30,10 @@ same_length : tie.Need-same-length
 same_length c = search rules
 
 returns : tie.Need-returns
-unfolding readShown
+unfolding read_shown
 returns c =
     let a = c.before.before.before.before.before.before.before.before.before.before.before.before.before.before.before.args in
-    shown-as a.out.now 0 (reading-shown (table a.types.now a.names.now) _ _ (omega arith) (omega arith) a.text.now c.before.before.before.before.before.before.before.before.read.ensures) c.before.before.put-reading.ensures
+    shown_as a.out.now 0 (reading_shown (table a.types.now a.names.now) _ _ (omega arith) (omega arith) a.text.now c.before.before.before.before.before.before.before.before.read.ensures) c.before.before.put-reading.ensures
 
 pub show-spec : {M : Type 1} → statement M
 show-spec =

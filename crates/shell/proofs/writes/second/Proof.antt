@@ -4,8 +4,8 @@ use mathlib.Core.Path.{sym, ap, ◌∙◌}
 use mathlib.Core.List.{List}
 use native.Mathlib.Omega.{arith}
 use lib.ListN.{drop}
-use Rattle.jer.specs.Programs.{writeSecond, writeThird}
-use Rattle.lines.proofs.ShownLaws.{shown-as}
+use Rattle.jer.specs.Programs.{write_second, write_third}
+use Rattle.lines.proofs.ShownLaws.{shown_as}
 use Rattle.shell.proofs.LineLaws.{octets-refused, octets-given}
 use borrow.Author.Rules.{rules}
 use Rattle.shell.proofs.writes.second.Statement.{statement}
@@ -30,10 +30,10 @@ same_length : tie.Need-same-length
 same_length c = search rules
 
 returns : tie.Need-returns
-unfolding writeSecond
+unfolding write_second
 returns c =
     let a = c.before.before.before.before.before.before.before.before.before.before.before.before.args in
-    shown-as a.out.now 0 (octets-refused 2 a.s.now a.p (λ names rest. writeThird a.types.now names rest) (sym c.before.before.before.before.enum_told.given.1 ∙ c.before.before.before.before.before.before.before.octets-line.ensures.0)) c.before.before.put-bad-line.ensures
+    shown_as a.out.now 0 (octets-refused 2 a.s.now a.p (λ names rest. write_third a.types.now names rest) (sym c.before.before.before.before.enum_told.given.1 ∙ c.before.before.before.before.before.before.before.octets-line.ensures.0)) c.before.before.put-bad-line.ensures
 
 slice-aggregate-part : tie.Need-slice-aggregate-part
 slice-aggregate-part c = search rules
@@ -48,13 +48,13 @@ same-length-2 : tie.Need-same-length-2
 same-length-2 c = search rules
 
 returns-2 : tie.Need-returns-2
-unfolding writeSecond
+unfolding write_second
 returns-2 c =
     let a = c.before.before.before.before.before.before.before.before.before.before.before.before.before.before.before.args in
     let taken = c.before.before.before.before.before.before.before.before.before.before.octets-line in
     let line = c.before.before.before.before.before.before.before.n.given in
-    let f : List ℕ → List ℕ → List ℕ = λ names rest. writeThird a.types.now names rest in
-    shown-as a.out.now 0
+    let f : List ℕ → List ℕ → List ℕ = λ names rest. write_third a.types.now names rest in
+    shown_as a.out.now 0
     (ap (λ (x : List ℕ). f x (drop line.0.1.0 a.s.now)) c.before.before.before.before.part.ensures ∙ octets-given 2 a.s.now a.p f _ (omega arith) (sym line.1 ∙ taken.ensures.0) taken.ensures.1)
     c.before.before.third.ensures
 

@@ -1,7 +1,7 @@
 -- Made by tools/answers.py from answers/character/hex.ans: edit that. 29e3ab840557a2d4
 use mathlib.Core.Path.{refl}
 use native.Mathlib.Omega.{arith}
-use Rattle.json.specs.Grammar.{digit, upper, lower}
+use Rattle.json_text.specs.Grammar.{digit, upper, lower}
 use borrow.Author.Rules.{rules}
 use Rattle.spelled.proofs.character.hex.Statement.{statement}
 use Rattle.spelled.proofs.character.hex.Tie as tie

@@ -88,7 +88,7 @@ mul-result : tie.Need-overflow-mul-result invariant-loop decreases-loop
 mul-result c = search rules
 
 add-result : tie.Need-overflow-add-result invariant-loop decreases-loop
-add-result c = omega (arith, c.before.last-group.ensures.1, c.before.before.before.before.before.before.before.before.before.before.before.requires)
+add-result c = omega (arith, c.before.last_group_lem.ensures.1, c.before.before.before.before.before.before.before.before.before.before.before.requires)
 
 returns-5 : tie.Need-returns-5 invariant-loop decreases-loop
 returns-5 c =
@@ -96,7 +96,7 @@ returns-5 c =
     let p = c.before.before.before.before.before.before.before.before.before.before.before.args.p in
     let n = c.before.before.before.before.before.before.before.before.before.before.before.args.n in
     let l = c.before.before.before.before.before.before.before.loop in
-    λ h. base64-octets s p n _ c.before.before.before.before.before.before.before.before.before.before.before.requires c.before.before.before.before.before.before.before.before.before.if1.false c.before.before.before.before.before.before.before.before.if2.false (λ i m. l.invariant i (omega (arith, c.before.before.before.before.before.before.loop-test.false))) (c.before.last-group.ensures.0 (omega (arith, c.if4.false)))
+    λ h. base64-octets s p n _ c.before.before.before.before.before.before.before.before.before.before.before.requires c.before.before.before.before.before.before.before.before.before.if1.false c.before.before.before.before.before.before.before.before.if2.false (λ i m. l.invariant i (omega (arith, c.before.before.before.before.before.before.loop-test.false))) (c.before.last_group_lem.ensures.0 (omega (arith, c.if4.false)))
 
 pub base64-count-spec : {M : Type 1} → statement M
 base64-count-spec =

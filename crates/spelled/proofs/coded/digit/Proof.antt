@@ -1,6 +1,6 @@
 -- Made by tools/answers.py from answers/coded/digit.ans: edit that. dc73ad3064ae2d13
 use native.Mathlib.Omega.{arith}
-use Rattle.octets.proofs.DigitLaws.{base64-upper, base64-lower, base64-decimal, base64-plus, base64-slash, base64-other}
+use Rattle.octets.proofs.DigitLaws.{base64-upper, base64-lower, base64_decimal, base64-plus, base64-slash, base64-other}
 use borrow.Author.Rules.{rules}
 use Rattle.spelled.proofs.coded.digit.Statement.{statement}
 use Rattle.spelled.proofs.coded.digit.Tie as tie
@@ -18,7 +18,7 @@ returns-2 : tie.Need-returns-2
 returns-2 c = record { few = omega arith; is = λ h. base64-slash c.match.keys2; none_is = λ h. absurd (omega arith) }
 
 returns-3 : tie.Need-returns-3
-returns-3 c = record { few = omega arith; is = λ h. base64-decimal (omega arith); none_is = λ h. absurd (omega arith) }
+returns-3 c = record { few = omega arith; is = λ h. base64_decimal (omega arith); none_is = λ h. absurd (omega arith) }
 
 returns-4 : tie.Need-returns-4
 returns-4 c = record { few = omega arith; is = λ h. base64-upper (omega arith); none_is = λ h. absurd (omega arith) }

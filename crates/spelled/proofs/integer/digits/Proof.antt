@@ -1,9 +1,9 @@
 -- Made by tools/answers.py from answers/integer/digits.ans: edit that. 1a54b3750aa9d98d
 use Prim.Native.Nat.{◌-◌, ◌≤◌}
 use native.Mathlib.Omega.{arith}
-use Rattle.json.specs.Grammar.{Onward}
+use Rattle.json_text.specs.Grammar.{Onward}
 use Rattle.spelled.specs.Stretch.{Stretch, Within}
-use Rattle.spelled.proofs.NumberLaws.{onto-none, onto-more, Few, few-one, few-more, few-small, few-room}
+use Rattle.spelled.proofs.NumberLaws.{onto_none, onto_more, Few, few-one, few-more, few-small, few-room}
 use borrow.Author.Rules.{rules}
 use Rattle.spelled.proofs.integer.digits.Statement.{statement}
 use Rattle.spelled.proofs.integer.digits.Tie as tie
@@ -22,7 +22,7 @@ loop-holds c =
     let s = c.before.before.args.s.now in
     let p = c.before.before.args.p in
     let w = c.until.ensures in
-    (onto-none s p c.before.before.args.first, omega arith, few-one c.before.before.args.first p c.before.before.requires, omega (arith, w.0.0))
+    (onto_none s p c.before.before.args.first, omega arith, few-one c.before.before.args.first p c.before.before.requires, omega (arith, w.0.0))
 
 byte-requires : tie.Need-byte-requires invariant-loop decreases-loop
 byte-requires c κs =
@@ -74,7 +74,7 @@ loop-again c =
     let l = c.before.before.before.before.loop in
     let w = c.before.before.before.before.before.until.ensures in
     let b = c.before.before.byte.ensures in (
-      onto-more s p l.q c.before.before.before.before.before.before.before.args.first l.m c.before.before.byte.result l.invariant.0 (omega (arith, l.invariant.1.0, c.before.before.before.loop-test.true, w.0)) b.0 (omega (arith, c.before.if1.false)) (omega (arith, c.if2.false)),
+      onto_more s p l.q c.before.before.before.before.before.before.before.args.first l.m c.before.before.byte.result l.invariant.0 (omega (arith, l.invariant.1.0, c.before.before.before.loop-test.true, w.0)) b.0 (omega (arith, c.before.if1.false)) (omega (arith, c.if2.false)),
       omega (arith, l.invariant.1, c.before.before.before.loop-test.true, w.0),
       few-more l.m _ p l.q l.invariant.1.0 (omega (arith, c.if2.false)) l.invariant.2,
       omega (arith, c.before.before.before.loop-test.true),

@@ -1,7 +1,7 @@
 -- Made by tools/answers.py from answers/integer/integer.ans: edit that. 98e284d227e923a8
 use native.Mathlib.Omega.{arith}
 use Rattle.tokens.proofs.PlaceLaws.{inside}
-use Rattle.spelled.proofs.NumberLaws.{integer-bare, integer-negative, integer-nought}
+use Rattle.spelled.proofs.NumberLaws.{integer_bare, integer_negative, integer_nought}
 use borrow.Author.Rules.{rules}
 use Rattle.spelled.proofs.integer.integer.Statement.{statement}
 use Rattle.spelled.proofs.integer.integer.Tie as tie
@@ -23,7 +23,7 @@ returns c =
     let s = c.before.before.before.before.before.args.s.now in
     let p = c.before.before.before.before.before.args.p in
     let w = c.before.whole in
-    λ h. integer-nought s p _ _ w.ensures.1 c.before.before.before.byte_at.result c.before.before.before.byte_at.ensures.0 c.before.before.if1.true (w.ensures.0 h) c.if2.true
+    λ h. integer_nought s p _ _ w.ensures.1 c.before.before.before.byte_at.result c.before.before.before.byte_at.ensures.0 c.before.before.if1.true (w.ensures.0 h) c.if2.true
 
 sub-n : tie.Need-overflow-sub-n
 sub-n c = search rules
@@ -42,7 +42,7 @@ returns-2 c =
     let s = c.before.before.before.before.before.args.s.now in
     let p = c.before.before.before.before.before.args.p in
     let w = c.before.whole in
-    λ h. integer-negative s p _ _ w.ensures.1 c.before.before.before.byte_at.result c.before.before.before.byte_at.ensures.0 c.before.before.if1.true (w.ensures.0 h) c.if2.false
+    λ h. integer_negative s p _ _ w.ensures.1 c.before.before.before.byte_at.result c.before.before.before.byte_at.ensures.0 c.before.before.if1.true (w.ensures.0 h) c.if2.false
 
 whole-requires-2 : tie.Need-whole-requires-2
 whole-requires-2 c κs = search rules
@@ -58,7 +58,7 @@ returns-3 c =
     let s = c.before.before.before.before.args.s.now in
     let p = c.before.before.before.before.args.p in
     let w = c.whole2 in
-    λ h. integer-bare s p _ _ w.ensures.1 (w.ensures.0 h)
+    λ h. integer_bare s p _ _ w.ensures.1 (w.ensures.0 h)
 
 pub integer-spec : {M : Type 1} → statement M
 integer-spec =

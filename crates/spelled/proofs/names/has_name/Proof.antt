@@ -4,7 +4,7 @@ use mathlib.Core.List.{List}
 use native.Mathlib.Omega.{arith}
 use Prim.Native.Nat.{ℕ}
 use lib.ListN.{take, drop}
-use Rattle.jer.specs.Table.{sameBytes}
+use Rattle.jer.specs.Table.{same_bytes}
 use Rattle.spelled.proofs.NameLaws.{name-other, name-same}
 use borrow.Author.Rules.{rules}
 use Rattle.spelled.proofs.names.has_name.Statement.{statement}
@@ -18,7 +18,7 @@ returns c =
     let s = c.before.before.before.before.before.args.s.now in
     let p = c.before.before.before.before.before.args.p in
     let n = c.before.before.before.before.before.args.n in
-    name-other s p n _ c.before.before.before.before.before.requires c.if1.true ∙ ap (λ (y : List ℕ). sameBytes y (take n (drop p s))) c.before.name_in.ensures
+    name-other s p n _ c.before.before.before.before.before.requires c.if1.true ∙ ap (λ (y : List ℕ). same_bytes y (take n (drop p s))) c.before.name_in.ensures
 
 same-requires : tie.Need-same-requires
 same-requires c κs = omega (arith, c.before.before.before.before.before.requires, c.if1.false)

@@ -4,14 +4,14 @@ use mathlib.Core.Path.{◌≡◌, sym, ◌∙◌}
 use mathlib.Core.Bool.{false}
 use native.Mathlib.Omega.{arith}
 use lib.ListN.{take, drop}
-use Rattle.jer.specs.Table.{table, nameIn, sameBytes}
+use Rattle.jer.specs.Table.{table, name_in, same_bytes}
 use Rattle.spelled.proofs.NameLaws.{among_next, row-of}
 use borrow.Author.Rules.{rules}
 use Rattle.spelled.proofs.names.search.Statement.{statement}
 use Rattle.spelled.proofs.names.search.Tie as tie
 
 abbrev invariant-loop : tie.invariant-loop
-invariant-loop types names s first count p n k₀ k = ((i : ℕ) → i < k → sameBytes (nameIn (table types names) (first + i)) (take n (drop p s)) ≡ false) × (k ≤ count)
+invariant-loop types names s first count p n k₀ k = ((i : ℕ) → i < k → same_bytes (name_in (table types names) (first + i)) (take n (drop p s)) ≡ false) × (k ≤ count)
 
 abbrev decreases-loop : tie.decreases-loop
 decreases-loop types names s first count p n k₀ k = count - k

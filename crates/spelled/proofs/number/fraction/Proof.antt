@@ -1,7 +1,7 @@
 -- Made by tools/answers.py from answers/number/fraction.ans: edit that. 9ddd639f9369e2f2
 use native.Mathlib.Omega.{arith}
 use Rattle.tokens.proofs.PlaceLaws.{inside}
-use Rattle.spelled.proofs.AnyNumber.{dotted-none, dotted-some}
+use Rattle.spelled.proofs.AnyNumber.{dotted_none, dotted_some}
 use borrow.Author.Rules.{rules}
 use Rattle.spelled.proofs.number.fraction.Statement.{statement}
 use Rattle.spelled.proofs.number.fraction.Tie as tie
@@ -22,13 +22,13 @@ returns : tie.Need-returns
 returns c =
     let s = c.before.before.before.before.args.s.now in
     let p = c.before.before.before.before.args.p in
-    λ h. dotted-some s p _ _ c.before.before.byte_at.ensures.0 c.before.if1.true (c.some-digits.ensures h)
+    λ h. dotted_some s p _ _ c.before.before.byte_at.ensures.0 c.before.if1.true (c.some-digits.ensures h)
 
 returns-2 : tie.Need-returns-2
 returns-2 c =
     let s = c.before.before.before.args.s.now in
     let p = c.before.before.before.args.p in
-    λ h. dotted-none s p
+    λ h. dotted_none s p
 
 pub fraction-spec : {M : Type 1} → statement M
 fraction-spec =

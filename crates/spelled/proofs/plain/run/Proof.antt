@@ -3,7 +3,7 @@ use Prim.Native.Nat.{◌-◌, ◌≤◌}
 use lib.ListN.{length}
 use native.Mathlib.Omega.{arith}
 use Rattle.spelled.specs.Stretch.{Stretch, Selves}
-use Rattle.spelled.proofs.StringLaws.{selves-none, selves-more, selves-two, selves-three, selves-four, selves-join}
+use Rattle.spelled.proofs.StringLaws.{selves_none, selves_more, selves_two, selves_three, selves_four, selves_join}
 use borrow.Author.Rules.{rules}
 use Rattle.spelled.proofs.plain.run.Statement.{statement}
 use Rattle.spelled.proofs.plain.run.Tie as tie
@@ -18,13 +18,13 @@ returns : tie.Need-returns invariant-loop decreases-loop
 returns c =
     let s = c.before.before.args.s.now in
     let p = c.before.before.args.p in
-    (selves-none s p, omega arith)
+    (selves_none s p, omega arith)
 
 loop-holds : tie.Need-loop-init invariant-loop decreases-loop
 loop-holds c =
     let s = c.before.before.args.s.now in
     let p = c.before.before.args.p in
-    (selves-none s p, omega arith, omega arith)
+    (selves_none s p, omega arith, omega arith)
 
 sub-loop : tie.Need-overflow-sub-loop invariant-loop decreases-loop
 sub-loop c = search rules
@@ -56,7 +56,7 @@ returns-3 c =
     let p = c.before.before.before.before.before.before.before.before.args.p in
     let l = c.before.before.before.before.before.loop in
     let n = c.before.before.before.before.loop-test.true in
-    (selves-more s p l.i l.invariant.0 (omega (arith, n)) (c.before.before.before.flag.ensures c.before.before.if2.false), omega (arith, l.invariant.1, n))
+    (selves_more s p l.i l.invariant.0 (omega (arith, n)) (c.before.before.before.flag.ensures c.before.before.if2.false), omega (arith, l.invariant.1, n))
 
 add-flag-2 : tie.Need-overflow-add-flag-2 invariant-loop decreases-loop
 add-flag-2 c = search rules
@@ -75,7 +75,7 @@ returns-4 c =
     let p = c.before.before.before.before.before.before.before.before.before.before.args.p in
     let l = c.before.before.before.before.before.before.before.loop in
     let n = c.before.before.before.before.before.before.loop-test.true in
-    (selves-two s p l.i l.invariant.0 (c.before.before.before.before.before.flag.ensures c.before.before.before.before.if2.false) (c.before.before.before.flag2.ensures c.before.before.if3.false) (omega (arith, n)), omega (arith, l.invariant.1, n))
+    (selves_two s p l.i l.invariant.0 (c.before.before.before.before.before.flag.ensures c.before.before.before.before.if2.false) (c.before.before.before.flag2.ensures c.before.before.if3.false) (omega (arith, n)), omega (arith, l.invariant.1, n))
 
 add-flag-3 : tie.Need-overflow-add-flag-3 invariant-loop decreases-loop
 add-flag-3 c = search rules
@@ -94,7 +94,7 @@ returns-5 c =
     let p = c.before.before.before.before.before.before.before.before.before.before.before.before.args.p in
     let l = c.before.before.before.before.before.before.before.before.before.loop in
     let n = c.before.before.before.before.before.before.before.before.loop-test.true in
-    (selves-three s p l.i l.invariant.0 (c.before.before.before.before.before.before.before.flag.ensures c.before.before.before.before.before.before.if2.false) (c.before.before.before.before.before.flag2.ensures c.before.before.before.before.if3.false) (c.before.before.before.flag3.ensures c.before.before.if4.false) (omega (arith, n)), omega (arith, l.invariant.1, n))
+    (selves_three s p l.i l.invariant.0 (c.before.before.before.before.before.before.before.flag.ensures c.before.before.before.before.before.before.if2.false) (c.before.before.before.before.before.flag2.ensures c.before.before.before.before.if3.false) (c.before.before.before.flag3.ensures c.before.before.if4.false) (omega (arith, n)), omega (arith, l.invariant.1, n))
 
 add-i : tie.Need-overflow-add-i invariant-loop decreases-loop
 add-i c = search rules
@@ -108,7 +108,7 @@ loop-again c =
     let p = c.before.before.before.before.before.before.before.before.before.before.before.before.args.p in
     let l = c.before.before.before.before.before.before.before.before.before.loop in
     let n = c.before.before.before.before.before.before.before.before.loop-test.true in
-    (selves-four s p l.i l.invariant.0 (c.before.before.before.before.before.before.before.flag.ensures c.before.before.before.before.before.before.if2.false) (c.before.before.before.before.before.flag2.ensures c.before.before.before.before.if3.false) (c.before.before.before.flag3.ensures c.before.before.if4.false) (omega (arith, n)) (c.before.flag4.ensures c.if5.false), omega (arith, l.invariant.1), omega (arith, n))
+    (selves_four s p l.i l.invariant.0 (c.before.before.before.before.before.before.before.flag.ensures c.before.before.before.before.before.before.if2.false) (c.before.before.before.before.before.flag2.ensures c.before.before.before.before.if3.false) (c.before.before.before.flag3.ensures c.before.before.if4.false) (omega (arith, n)) (c.before.flag4.ensures c.if5.false), omega (arith, l.invariant.1), omega (arith, n))
 
 run-short-requires : tie.Need-run-short-requires invariant-loop decreases-loop
 run-short-requires c κs = c.before.before.before.before.requires
@@ -118,7 +118,7 @@ returns-6 c =
     let s = c.before.before.before.before.before.args.s.now in
     let p = c.before.before.before.before.before.args.p in
     let l = c.before.before.loop in
-    (selves-join s p l.i c.run_short.result l.invariant.0 c.run_short.ensures.0, omega (arith, l.invariant.1, l.invariant.2, c.run_short.ensures.1))
+    (selves_join s p l.i c.run_short.result l.invariant.0 c.run_short.ensures.0, omega (arith, l.invariant.1, l.invariant.2, c.run_short.ensures.1))
 
 pub run_spec : {M : Type 1} → statement M
 run_spec =

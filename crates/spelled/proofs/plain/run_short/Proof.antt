@@ -3,7 +3,7 @@ use Prim.Native.Nat.{◌-◌}
 use lib.ListN.{length}
 use native.Mathlib.Omega.{arith}
 use Rattle.spelled.specs.Stretch.{Stretch, Selves, Within}
-use Rattle.spelled.proofs.StringLaws.{selves-none, selves-more}
+use Rattle.spelled.proofs.StringLaws.{selves_none, selves_more}
 use borrow.Author.Rules.{rules}
 use Rattle.spelled.proofs.plain.run_short.Statement.{statement}
 use Rattle.spelled.proofs.plain.run_short.Tie as tie
@@ -17,7 +17,7 @@ decreases-loop s p flags i₀ i = length s - i
 loop-holds : tie.Need-loop-init invariant-loop decreases-loop
 loop-holds c =
     let s = c.before.args.s.now in
-    (selves-none s c.before.args.p, omega arith)
+    (selves_none s c.before.args.p, omega arith)
 
 flag-requires : tie.Need-flag-requires invariant-loop decreases-loop
 flag-requires c κs = (c.before.before.before.requires, c.loop-test.true)
@@ -37,7 +37,7 @@ loop-again : tie.Need-loop-preserved invariant-loop decreases-loop
 loop-again c =
     let s = c.before.before.before.before.before.args.s.now in
     let l = c.before.before.before.loop in
-    (selves-more s c.before.before.before.before.before.args.p l.i l.invariant.0 c.before.before.loop-test.true (c.before.flag.ensures c.if1.false), omega arith)
+    (selves_more s c.before.before.before.before.before.args.p l.i l.invariant.0 c.before.before.loop-test.true (c.before.flag.ensures c.if1.false), omega arith)
 
 returns-2 : tie.Need-returns-2 invariant-loop decreases-loop
 returns-2 c =

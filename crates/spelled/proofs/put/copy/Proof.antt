@@ -3,7 +3,7 @@ use Prim.Native.Nat.{◌+◌, ◌-◌}
 use mathlib.Core.Path.{◌≡◌, refl, ◌∙◌}
 use lib.ListN.{length, get_or, take, drop, length-set}
 use lib.Seq.{sets}
-use Rattle.spelled.proofs.PutLaws.{copy_start, copy_more, copy-end}
+use Rattle.spelled.proofs.PutLaws.{copy_start, copy_more, copy_end}
 use borrow.Author.Rules.{rules}
 use Rattle.spelled.proofs.put.copy.Statement.{statement}
 use Rattle.spelled.proofs.put.copy.Tie as tie
@@ -55,7 +55,7 @@ returns c =
     let a = c.before.before.args in
     let s = a.s.now in
     let l = c.before.loop in
-    copy-end s a.p a.n l.pool a.o l.k _ c.before.before.requires.0 c.loop-test.false l.invariant.0
+    copy_end s a.p a.n l.pool a.o l.k _ c.before.before.requires.0 c.loop-test.false l.invariant.0
 
 pub copy_spec : {M : Type 1} → statement M
 copy_spec =

@@ -4,7 +4,7 @@ use mathlib.Core.Path.{◌≡◌, refl, ◌∙◌}
 use lib.ListN.{length, take, drop}
 use native.Mathlib.Omega.{arith}
 use Rattle.jer.specs.Octets.{unbase64}
-use Rattle.spelled.proofs.PutLaws.{Storing, storing-start, base64-short, base64-more, base64-end}
+use Rattle.spelled.proofs.PutLaws.{Storing, storing_start, base64-short, base64-more, base64-end}
 use borrow.Author.Rules.{rules}
 use Rattle.spelled.proofs.put.put_base64.Statement.{statement}
 use Rattle.spelled.proofs.put.put_base64.Tie as tie
@@ -25,7 +25,7 @@ loop-holds : tie.Need-loop-init invariant-loop decreases-loop
 loop-holds c =
     let a = c.before.before.before.args in
     let s = a.s.now in
-    (storing-start unbase64 (take a.n (drop a.p s)) a.pool.now a.o, refl, omega arith, omega (arith, c.if1.false))
+    (storing_start unbase64 (take a.n (drop a.p s)) a.pool.now a.o, refl, omega arith, omega (arith, c.if1.false))
 
 add-put-group : tie.Need-overflow-add-put-group invariant-loop decreases-loop
 add-put-group c = search rules

@@ -1,5 +1,5 @@
 -- Made by tools/answers.py from answers/put/put_group.ans: edit that. 3a76cacfc1822a97
-use Rattle.spelled.proofs.PutLaws.{group-stored}
+use Rattle.spelled.proofs.PutLaws.{group_stored}
 use borrow.Author.Rules.{rules}
 use Rattle.spelled.proofs.put.put_group.Statement.{statement}
 use Rattle.spelled.proofs.put.put_group.Tie as tie
@@ -74,7 +74,7 @@ same_length : tie.Need-same-length
 same_length c = search rules
 
 returns : tie.Need-returns
-returns c = group-stored c.before.before.before.before.before.before.before.before.before.before.before.before.before.before.before.before.before.before.before.before.before.before.args.s.now c.before.before.before.before.before.before.before.before.before.before.before.before.before.before.before.before.before.before.before.before.before.before.args.q c.before.before.before.before.before.before.before.before.before.before.before.before.before.before.before.before.before.before.before.before.before.before.args.pool.now _ _ _ c.before.before.before.before.before.before.before.before.before.before.before.before.before.before.before.before.before.before.before.before.before.before.args.o _ _ _ _ c.before.before.before.before.before.before.before.before.before.before.before.before.before.before.before.before.before.before.digit.ensures c.before.before.before.before.before.before.before.before.before.before.before.before.before.before.before.before.digit2.ensures c.before.before.before.before.before.before.before.before.before.before.before.before.before.before.digit3.ensures c.before.before.before.before.before.before.before.before.before.before.before.before.digit4.ensures c.before.before.before.before.before.before.before.before.before.before.put.ensures c.before.before.before.before.before.before.put2.ensures c.before.before.put3.ensures
+returns c = group_stored c.before.before.before.before.before.before.before.before.before.before.before.before.before.before.before.before.before.before.before.before.before.before.args.s.now c.before.before.before.before.before.before.before.before.before.before.before.before.before.before.before.before.before.before.before.before.before.before.args.q c.before.before.before.before.before.before.before.before.before.before.before.before.before.before.before.before.before.before.before.before.before.before.args.pool.now _ _ _ c.before.before.before.before.before.before.before.before.before.before.before.before.before.before.before.before.before.before.before.before.before.before.args.o _ _ _ _ c.before.before.before.before.before.before.before.before.before.before.before.before.before.before.before.before.before.before.digit.ensures c.before.before.before.before.before.before.before.before.before.before.before.before.before.before.before.before.digit2.ensures c.before.before.before.before.before.before.before.before.before.before.before.before.before.before.digit3.ensures c.before.before.before.before.before.before.before.before.before.before.before.before.digit4.ensures c.before.before.before.before.before.before.before.before.before.before.put.ensures c.before.before.before.before.before.before.put2.ensures c.before.before.put3.ensures
 
 pub put-group-spec : {M : Type 1} → statement M
 put-group-spec =

@@ -4,7 +4,7 @@ use mathlib.Core.Path.{◌≡◌, refl, ◌∙◌}
 use lib.ListN.{length, take, drop, length-set}
 use native.Mathlib.Omega.{arith}
 use Rattle.jer.specs.Octets.{unhex}
-use Rattle.spelled.proofs.PutLaws.{Storing, storing-start, hex-more, hex-end}
+use Rattle.spelled.proofs.PutLaws.{Storing, storing_start, hex-more, hex-end}
 use borrow.Author.Rules.{rules}
 use Rattle.spelled.proofs.put.put_hex.Statement.{statement}
 use Rattle.spelled.proofs.put.put_hex.Tie as tie
@@ -19,7 +19,7 @@ loop-holds : tie.Need-loop-init invariant-loop decreases-loop
 loop-holds c =
     let a = c.before.before.args in
     let s = a.s.now in
-    (storing-start unhex (take (a.count * 2) (drop a.p s)) a.pool.now a.o, refl, omega arith)
+    (storing_start unhex (take (a.count * 2) (drop a.p s)) a.pool.now a.o, refl, omega arith)
 
 mul-i : tie.Need-overflow-mul-i invariant-loop decreases-loop
 mul-i c = search rules

@@ -2,7 +2,7 @@
 use Prim.Native.Nat.{◌-◌}
 use lib.ListN.{length}
 use native.Mathlib.Omega.{arith}
-use Rattle.spelled.proofs.SameLaws.{middle-first, middle-differs, middle-last}
+use Rattle.spelled.proofs.SameLaws.{middle_first, middle_differs, middle_last}
 use borrow.Author.Rules.{rules}
 use Rattle.spelled.proofs.same.same_middle.Statement.{statement}
 use Rattle.spelled.proofs.same.same_middle.Tie as tie
@@ -21,7 +21,7 @@ returns c =
     let s = c.before.before.before.before.before.args.s.now in
     let p = c.before.before.before.before.before.args.p in
     let x = c.before.before.before.before.before.args.x.now in
-    middle-differs s p x c.before.before.before.before.before.requires.0 _ _ c.before.before.before.before.before.requires.1 c.before.before.four.ensures c.before.four2.ensures c.if1.true
+    middle_differs s p x c.before.before.before.before.before.requires.0 _ _ c.before.before.before.before.before.requires.1 c.before.before.four.ensures c.before.four2.ensures c.if1.true
 
 add-four : tie.Need-overflow-add-four
 add-four c = search rules
@@ -37,7 +37,7 @@ returns-2 c =
     let s = c.before.before.before.before.before.before.before.args.s.now in
     let p = c.before.before.before.before.before.before.before.args.p in
     let x = c.before.before.before.before.before.before.before.args.x.now in
-    middle-last s p x c.before.before.before.before.before.before.before.requires.0 (length x - 4) _ _ (omega (arith, c.before.before.before.before.before.before.before.requires)) (omega (arith, c.before.before.before.before.before.before.before.requires)) (middle-first s p x c.before.before.before.before.before.before.before.requires.0 _ _ c.before.before.before.before.four.ensures c.before.before.before.four2.ensures c.before.before.if1.false) c.before.four3.ensures c.four4.ensures
+    middle_last s p x c.before.before.before.before.before.before.before.requires.0 (length x - 4) _ _ (omega (arith, c.before.before.before.before.before.before.before.requires)) (omega (arith, c.before.before.before.before.before.before.before.requires)) (middle_first s p x c.before.before.before.before.before.before.before.requires.0 _ _ c.before.before.before.before.four.ensures c.before.before.before.four2.ensures c.before.before.if1.false) c.before.four3.ensures c.four4.ensures
 
 pub same-middle-spec : {M : Type 1} → statement M
 same-middle-spec =

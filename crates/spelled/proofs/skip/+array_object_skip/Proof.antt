@@ -4,7 +4,7 @@ use mathlib.Core.Path.{sym, ◌∙◌}
 use native.Mathlib.Omega.{arith}
 use lib.ListN.{length}
 use Rattle.tokens.proofs.PlaceLaws.{inside}
-use Rattle.spelled.proofs.SkipLaws.{value_as, value-string, Listing, listing_none, listing-more, listing-last, Naming, naming-none, naming-more, naming-last, array-none, array-some, object-none, object-some}
+use Rattle.spelled.proofs.SkipLaws.{value_as, value-string, Listing, listing_none, listing_more, listing_last, Naming, naming_none, naming_more, naming_last, array-none, array-some, object-none, object-some}
 use borrow.Author.Rules.{rules}
 use borrow.Fn.Kinds.{In}
 use borrow.Fn.PlainCycle.{Measures, is, falls, and}
@@ -138,7 +138,7 @@ array-returns-4 t c =
     let l = c.before.before.before.before.before.loop in
     λ h.
     let v = c.before.before.before.before.skip.ensures (omega (arith, c.before.before.before.if3.false)) in
-    array-some s d p c.before.before.before.before.before.before.before.before.before.if1.false _ c.before.before.before.before.before.before.before.before.before.before.before.requires.1.1 (listing-last s (d - 1) (p + 1) l.at c.before.before.before.before.skip.result c.before.before.space2.result l.invariant.0 v c.before.before.space2.ensures.0 (sym c.before.byte-at2.ensures.0 ∙ c.if4.true))
+    array-some s d p c.before.before.before.before.before.before.before.before.before.if1.false _ c.before.before.before.before.before.before.before.before.before.before.before.requires.1.1 (listing_last s (d - 1) (p + 1) l.at c.before.before.before.before.skip.result c.before.before.space2.result l.invariant.0 v c.before.before.space2.ensures.0 (sym c.before.byte-at2.ensures.0 ∙ c.if4.true))
     (omega (arith, l.invariant.1, v.passed.ahead, c.before.before.space2.ensures.1.0))
 
 array-returns-5 : (t : ℕ) → array-lts.Need-returns-5 (array-calls t) (array_at t) array.Post array-Inv-loop array-μ-loop
@@ -164,7 +164,7 @@ array-loop-again t c =
     let d = c.before.before.before.before.before.before.before.before.before.before.before.before.before.args.depth in
     let l = c.before.before.before.before.before.before.before.loop in
     let v = c.before.before.before.before.before.before.skip.ensures (omega (arith, c.before.before.before.before.before.if3.false)) in (
-      listing-more s (d - 1) (p + 1) l.at c.before.before.before.before.before.before.skip.result c.before.before.before.before.space2.result l.invariant.0 v c.before.before.before.before.space2.ensures.0 c.space3.result (sym c.before.before.before.byte-at2.ensures.0 ∙ c.before.if5.false) c.space3.ensures.0,
+      listing_more s (d - 1) (p + 1) l.at c.before.before.before.before.before.before.skip.result c.before.before.before.before.space2.result l.invariant.0 v c.before.before.before.before.space2.ensures.0 c.space3.result (sym c.before.before.before.byte-at2.ensures.0 ∙ c.before.if5.false) c.space3.ensures.0,
       omega (arith, l.invariant.1, v.passed.ahead, c.before.before.before.before.space2.ensures.1.0, c.space3.ensures.1.0),
       omega (arith, c.space3.ensures.1, inside s c.before.before.before.before.space2.result (λ e. omega (arith, c.before.before.before.byte-at2.ensures.0))),
     )
@@ -201,7 +201,7 @@ object-loop-holds t c =
     let s = c.before.before.before.before.before.args.s.now in
     let p = c.before.before.before.before.before.args.p in
     let d = c.before.before.before.before.before.args.depth in
-    (naming-none s (d - 1) (p + 1) c.before.before.space.result c.before.before.space.ensures.0, omega (arith, c.before.before.space.ensures.1.0), omega (arith, c.before.before.space.ensures.1, inside s p (λ e. omega (arith, c.before.before.before.before.before.requires.1.1))))
+    (naming_none s (d - 1) (p + 1) c.before.before.space.result c.before.before.space.ensures.0, omega (arith, c.before.before.space.ensures.1.0), omega (arith, c.before.before.space.ensures.1, inside s p (λ e. omega (arith, c.before.before.before.before.before.requires.1.1))))
 
 object-name-requires : (t : ℕ) → object-lts.Need-name-requires (object_calls t) (object-at t) object.Post object-Inv-loop object-μ-loop
 object-name-requires t c κs = search rules
@@ -242,7 +242,7 @@ object-returns-5 t c =
     let n = c.before.before.before.before.before.before.before.name.ensures in
     let v = c.before.before.before.before.skip.ensures (omega (arith, c.before.before.before.if4.false)) in
     object-some s d p c.before.before.before.before.before.before.before.before.before.before.before.before.if1.false _ c.before.before.before.before.before.before.before.before.before.before.before.before.before.before.requires.1.1
-    (naming-last s (d - 1) (p + 1) l.at c.before.before.before.before.before.before.before.name.result c.before.before.before.before.before.space2.result c.before.before.before.before.skip.result c.before.before.space3.result l.invariant.0 (n.0 (omega (arith, c.before.before.before.before.before.before.if3.false))) c.before.before.before.before.before.space2.ensures.0 v c.before.before.space3.ensures.0 (sym c.before.byte-at2.ensures.0 ∙ c.if5.true))
+    (naming_last s (d - 1) (p + 1) l.at c.before.before.before.before.before.before.before.name.result c.before.before.before.before.before.space2.result c.before.before.before.before.skip.result c.before.before.space3.result l.invariant.0 (n.0 (omega (arith, c.before.before.before.before.before.before.if3.false))) c.before.before.before.before.before.space2.ensures.0 v c.before.before.space3.ensures.0 (sym c.before.byte-at2.ensures.0 ∙ c.if5.true))
     (omega (arith, l.invariant.1, (n.1 (omega (arith, c.before.before.before.before.before.before.if3.false))).0, c.before.before.before.before.before.space2.ensures.1.0, v.passed.ahead, c.before.before.space3.ensures.1.0))
 
 object-returns-6 : (t : ℕ) → object-lts.Need-returns-6 (object_calls t) (object-at t) object.Post object-Inv-loop object-μ-loop
@@ -270,7 +270,7 @@ object-loop-again t c =
     let l = c.before.before.before.before.before.before.before.before.before.before.loop in
     let n = c.before.before.before.before.before.before.before.before.before.name.ensures in
     let v = c.before.before.before.before.before.before.skip.ensures (omega (arith, c.before.before.before.before.before.if4.false)) in (
-      naming-more s (d - 1) (p + 1) l.at c.before.before.before.before.before.before.before.before.before.name.result c.before.before.before.before.before.before.before.space2.result c.before.before.before.before.before.before.skip.result c.before.before.before.before.space3.result l.invariant.0 (n.0 (omega (arith, c.before.before.before.before.before.before.before.before.if3.false))) c.before.before.before.before.before.before.before.space2.ensures.0 v c.before.before.before.before.space3.ensures.0 c.space4.result (sym c.before.before.before.byte-at2.ensures.0 ∙ c.before.if6.false) c.space4.ensures.0,
+      naming_more s (d - 1) (p + 1) l.at c.before.before.before.before.before.before.before.before.before.name.result c.before.before.before.before.before.before.before.space2.result c.before.before.before.before.before.before.skip.result c.before.before.before.before.space3.result l.invariant.0 (n.0 (omega (arith, c.before.before.before.before.before.before.before.before.if3.false))) c.before.before.before.before.before.before.before.space2.ensures.0 v c.before.before.before.before.space3.ensures.0 c.space4.result (sym c.before.before.before.byte-at2.ensures.0 ∙ c.before.if6.false) c.space4.ensures.0,
       omega (arith, l.invariant.1, (n.1 (omega (arith, c.before.before.before.before.before.before.before.before.if3.false))).0, v.passed.ahead, c.before.before.before.before.before.before.before.space2.ensures.1.0, c.before.before.before.before.space3.ensures.1.0, c.space4.ensures.1.0),
       omega (arith, c.space4.ensures.1, inside s c.before.before.before.before.space3.result (λ e. omega (arith, c.before.before.before.byte-at2.ensures.0))),
     )

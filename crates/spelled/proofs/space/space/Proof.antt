@@ -3,7 +3,7 @@ use Prim.Native.Nat.{◌-◌}
 use lib.ListN.{length}
 use native.Mathlib.Omega.{arith}
 use borrow.Author.Tests.{not-false}
-use Rattle.json.specs.Grammar.{Space}
+use Rattle.json_text.specs.Grammar.{Space}
 use Rattle.spelled.specs.Stretch.{Stretch, Within}
 use Rattle.spelled.proofs.SpaceLaws.{space-none, space-more}
 use borrow.Author.Rules.{rules}

@@ -5,7 +5,7 @@ use mathlib.Core.Path.{refl, sym, ◌∙◌}
 use native.Mathlib.Omega.{arith}
 use Rattle.tokens.proofs.PlaceLaws.{inside}
 use Rattle.spelled.specs.Leaves.{CharsAt}
-use Rattle.spelled.proofs.StringLaws.{chars-selves, chars-then, string-of}
+use Rattle.spelled.proofs.StringLaws.{chars_selves, chars-then, string-of}
 use borrow.Author.Rules.{rules}
 use Rattle.spelled.proofs.string.string.Statement.{statement}
 use Rattle.spelled.proofs.string.string.Tie as tie
@@ -49,7 +49,7 @@ returns-2 c =
     let p = c.before.before.before.before.before.before.args.p in
     let q = c.before.before.run.result in
     let w = c.before.before.run.ensures in
-    λ h. string-of s p q _ false (sym c.before.before.before.before.byte_at.ensures.0 ∙ c.before.before.before.if1.false) (chars-selves s (p + 1) q _ w.0 (omega (arith, w.1.0))) (sym c.before.byte-at2.ensures.0 ∙ c.if2.true)
+    λ h. string-of s p q _ false (sym c.before.before.before.before.byte_at.ensures.0 ∙ c.before.before.before.if1.false) (chars_selves s (p + 1) q _ w.0 (omega (arith, w.1.0))) (sym c.before.byte-at2.ensures.0 ∙ c.if2.true)
 
 rest-requires : tie.Need-rest-requires
 rest-requires c κs = search rules
@@ -79,7 +79,7 @@ returns-4 c =
     λ h.
     let k = c.before.before.before.before.rest.ensures (omega (arith, c.before.before.if3.false)) in
     let r = c.before.before.before.before.rest.result in
-    let x : CharsAt s (p + 1) q (q - p - 1) false = chars-selves s (p + 1) q (q - p - 1) w.0 (omega (arith, w.1.0)) in
+    let x : CharsAt s (p + 1) q (q - p - 1) false = chars_selves s (p + 1) q (q - p - 1) w.0 (omega (arith, w.1.0)) in
     string-of s p r.next _ r.escaped (sym c.before.before.before.before.before.before.before.before.before.byte_at.ensures.0 ∙ c.before.before.before.before.before.before.before.before.if1.false) (chars-then s (p + 1) q r.next (q - p - 1) r.count false r.escaped r.escaped x k.0 (λ i. refl) (λ i. i)) k.1
 
 pub string-spec : {M : Type 1} → statement M

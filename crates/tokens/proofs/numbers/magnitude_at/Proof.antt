@@ -2,14 +2,14 @@
 use Prim.Native.Nat.{◌-◌, ◌^◌, ◌≤◌}
 use mathlib.Core.Path.{◌≡◌, refl, sym, ◌∙◌}
 use native.Mathlib.Omega.{arith}
-use Rattle.tokens.specs.Numbers.{digitsAt}
+use Rattle.tokens.specs.Numbers.{digits_at}
 use Rattle.tokens.proofs.NumberLaws.{digits-end, digits-one, digits-over, digits-fit}
 use borrow.Author.Rules.{rules}
 use Rattle.tokens.proofs.numbers.magnitude_at.Statement.{statement}
 use Rattle.tokens.proofs.numbers.magnitude_at.Tie as tie
 
 abbrev invariant-loop : tie.invariant-loop
-invariant-loop s p end m₀ i₀ m i = (digitsAt s i (end - i) m ≡ digitsAt s p (end - p) 0) × (m ≤ 2 ^ 63)
+invariant-loop s p end m₀ i₀ m i = (digits_at s i (end - i) m ≡ digits_at s p (end - p) 0) × (m ≤ 2 ^ 63)
 
 abbrev decreases-loop : tie.decreases-loop
 decreases-loop s p end m₀ i₀ m i = end - i

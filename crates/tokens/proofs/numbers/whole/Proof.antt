@@ -1,8 +1,8 @@
 -- Made by tools/answers.py from answers/numbers/whole.ans: edit that. 77525900bad8d980
 use mathlib.Core.Path.{sym, ◌∙◌}
 use Prim.Native.Nat.{◌-◌}
-use Rattle.tokens.specs.Numbers.{digitsAt}
-use Rattle.tokens.proofs.NumberLaws.{within-fits, whole-point, whole-large, whole-small, whole-over, whole-fits}
+use Rattle.tokens.specs.Numbers.{digits_at}
+use Rattle.tokens.proofs.NumberLaws.{within-fits, whole_point, whole-large, whole-small, whole-over, whole-fits}
 use borrow.Author.Rules.{rules}
 use Rattle.tokens.proofs.numbers.whole.Statement.{statement}
 use Rattle.tokens.proofs.numbers.whole.Tie as tie
@@ -18,7 +18,7 @@ returns c =
     let a = c.before.before.before.before.args in
     let r = c.before.before.run in
     let b = c.before.byte_at in
-    whole-point a.s.now a.p r.result b.result a.minus r.ensures b.ensures.0 c.if1.true
+    whole_point a.s.now a.p r.result b.result a.minus r.ensures b.ensures.0 c.if1.true
 
 returns-2 : tie.Need-returns-2
 returns-2 c =
@@ -49,7 +49,7 @@ halves-requires c κs =
     let r = c.before.before.before.before.before.before.before.before.run in
     let m = c.before.m.given in
     let fits = sym m.1 ∙ c.before.before.before.magnitude-at.ensures in
-    (within-fits m.0.0 (digitsAt a.s.now a.p (r.result - a.p) 0) fits).1
+    (within-fits m.0.0 (digits_at a.s.now a.p (r.result - a.p) 0) fits).1
 
 returns-4 : tie.Need-returns-4
 returns-4 c =

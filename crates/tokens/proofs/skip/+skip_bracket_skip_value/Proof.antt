@@ -4,7 +4,7 @@ use mathlib.Core.Path.{◌∙◌}
 use native.Mathlib.Omega.{arith}
 use lib.ListN.{length}
 use Rattle.tokens.proofs.PlaceLaws.{inside}
-use Rattle.tokens.proofs.SkipLaws.{between_is, word-is, value-string, value-bracket, value-word, bracket-deep, Passing, passing-start, passing-end, passing-close, passing-next, passing-ahead, either, other, neither}
+use Rattle.tokens.proofs.SkipLaws.{between_is, word-is, value-string, value-bracket, value-word, bracket-deep, Passing, passing_start, passing_end, passing_close, passing_next, passing_ahead, either, other, neither}
 use borrow.Author.Rules.{rules}
 use borrow.Fn.Kinds.{In}
 use borrow.Fn.PlainCycle.{Measures, is, falls, and}
@@ -58,7 +58,7 @@ skip-bracket-returns t c =
 skip-bracket-loop-holds : (t : ℕ) → skip-bracket-lts.Need-loop-init (skip-bracket-calls t) (skip-bracket-at t) skip-bracket.Post skip-bracket-Inv-loop skip-bracket-μ-loop
 skip-bracket-loop-holds t c =
     let s = c.before.before.args.s.now in
-    passing-start c.before.before.args.depth s c.before.before.args.p c.if1.false
+    passing_start c.before.before.args.depth s c.before.before.args.p c.if1.false
 
 skip-bracket-run-requires : (t : ℕ) → skip-bracket-lts.Need-run-requires (skip-bracket-calls t) (skip-bracket-at t) skip-bracket.Post skip-bracket-Inv-loop skip-bracket-μ-loop
 skip-bracket-run-requires t c κs = search rules
@@ -72,7 +72,7 @@ skip-bracket-returns-2 t c =
     let inv = c.before.before.before.loop.invariant in
     let between = c.before.before.run.ensures ∙ between_is s c.before.before.before.loop.i in
     let byte = c.before.byte_at.ensures.0 in
-    passing-end inv between byte c.if2.true
+    passing_end inv between byte c.if2.true
 
 skip-bracket-add-result : (t : ℕ) → skip-bracket-lts.Need-overflow-add-result (skip-bracket-calls t) (skip-bracket-at t) skip-bracket.Post skip-bracket-Inv-loop skip-bracket-μ-loop
 skip-bracket-add-result t c =
@@ -87,7 +87,7 @@ skip-bracket-returns-3 t c =
     let between = c.before.before.before.run.ensures ∙ between_is s c.before.before.before.before.loop.i in
     let byte = c.before.before.byte_at.ensures.0 in
     let b = c.before.before.byte_at.result in
-    passing-close inv between byte c.before.if2.false (either b 0x5D 0x7D c.if3.true)
+    passing_close inv between byte c.before.if2.false (either b 0x5D 0x7D c.if3.true)
 
 skip-bracket-add-result-2 : (t : ℕ) → skip-bracket-lts.Need-overflow-add-result-2 (skip-bracket-calls t) (skip-bracket-at t) skip-bracket.Post skip-bracket-Inv-loop skip-bracket-μ-loop
 skip-bracket-add-result-2 t c =
@@ -102,7 +102,7 @@ skip-bracket-returns-4 t c =
     let between = c.before.before.before.before.run.ensures ∙ between_is s c.before.before.before.before.before.loop.i in
     let byte = c.before.before.before.byte_at.ensures.0 in
     let b = c.before.before.before.byte_at.result in
-    passing-close inv between byte c.before.before.if2.false (other b 0x5D 0x7D c.before.if3.false c.if4.true)
+    passing_close inv between byte c.before.before.if2.false (other b 0x5D 0x7D c.before.if3.false c.if4.true)
 
 skip-bracket-sub-skip-value : (t : ℕ) → skip-bracket-lts.Need-overflow-sub-skip-value (skip-bracket-calls t) (skip-bracket-at t) skip-bracket.Post skip-bracket-Inv-loop skip-bracket-μ-loop
 skip-bracket-sub-skip-value t c = search rules
@@ -118,7 +118,7 @@ skip-bracket-loop-less t c =
     let byte = c.before.before.before.before.byte_at.ensures.0 in
     let b = c.before.before.before.before.byte_at.result in
     let more = neither b 0x5D 0x7D c.before.before.if3.false c.before.if4.false in
-    passing-ahead inv between byte c.before.before.before.if2.false more c.skip-value.ensures
+    passing_ahead inv between byte c.before.before.before.if2.false more c.skip-value.ensures
 
 skip-bracket-loop-again : (t : ℕ) → skip-bracket-lts.Need-loop-preserved (skip-bracket-calls t) (skip-bracket-at t) skip-bracket.Post skip-bracket-Inv-loop skip-bracket-μ-loop
 skip-bracket-loop-again t c =
@@ -128,7 +128,7 @@ skip-bracket-loop-again t c =
     let byte = c.before.before.before.before.byte_at.ensures.0 in
     let b = c.before.before.before.before.byte_at.result in
     let more = neither b 0x5D 0x7D c.before.before.if3.false c.before.if4.false in
-    passing-next inv between byte c.before.before.before.if2.false more c.skip-value.ensures
+    passing_next inv between byte c.before.before.before.if2.false more c.skip-value.ensures
 
 skip-value-byte-at-requires : (t : ℕ) → skip-value-lts.Need-byte-at-requires (skip-value-calls t) (skip-value-at t) skip-value.Post
 skip-value-byte-at-requires t c κs = search rules

@@ -2,8 +2,8 @@
 use mathlib.Core.Path.{ap, ◌∙◌}
 use Prim.Native.Nat.{ℕ, ◌%◌}
 use native.Mathlib.Omega.{arith}
-use Rattle.slices.specs.Digit.{digitOf}
-use Rattle.tokens.specs.Strings.{digitAt}
+use Rattle.slices.specs.Digit.{digit_of}
+use Rattle.tokens.specs.Strings.{digit_at}
 use borrow.Author.Rules.{rules}
 use Rattle.tokens.proofs.strings.digit.Statement.{statement}
 use Rattle.tokens.proofs.strings.digit.Tie as tie
@@ -15,8 +15,8 @@ digit-requires : tie.Need-digit-requires
 digit-requires c κs = search rules
 
 returns : tie.Need-returns
-unfolding digitAt
-returns c = (ap (λ (x : ℕ). x % 16) (c.digit.ensures.0 ∙ ap digitOf c.before.byte_at.ensures.0), omega arith)
+unfolding digit_at
+returns c = (ap (λ (x : ℕ). x % 16) (c.digit.ensures.0 ∙ ap digit_of c.before.byte_at.ensures.0), omega arith)
 
 pub digit-spec : {M : Type 1} → statement M
 digit-spec = tie.close (tie.spec byte-at-requires digit-requires returns)

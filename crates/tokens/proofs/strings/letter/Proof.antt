@@ -1,6 +1,6 @@
 -- Made by tools/answers.py from answers/strings/letter.ans: edit that. 3a4d229374739d04
 use native.Mathlib.Omega.{arith}
-use Rattle.tokens.proofs.StringLaws.{letter-backspace, letter-form, letter-line, letter-return, letter-tab, letter-own}
+use Rattle.tokens.proofs.StringLaws.{letter-backspace, letter_form, letter_line, letter-return, letter-tab, letter-own}
 use Rattle.tokens.proofs.strings.letter.Statement.{statement}
 use Rattle.tokens.proofs.strings.letter.Tie as tie
 
@@ -8,10 +8,10 @@ returns : tie.Need-returns
 returns c = (letter-backspace c.before.args.b c.match.keys1, omega arith)
 
 returns-2 : tie.Need-returns-2
-returns-2 c = (letter-form c.before.args.b c.match.keys2, omega arith)
+returns-2 c = (letter_form c.before.args.b c.match.keys2, omega arith)
 
 returns-3 : tie.Need-returns-3
-returns-3 c = (letter-line c.before.args.b c.match.keys3, omega arith)
+returns-3 c = (letter_line c.before.args.b c.match.keys3, omega arith)
 
 returns-4 : tie.Need-returns-4
 returns-4 c = (letter-return c.before.args.b c.match.keys4, omega arith)

@@ -2,7 +2,7 @@
 use mathlib.Core.Path.{ap, ◌∙◌}
 use mathlib.Core.List.{List}
 use Prim.Native.Nat.{ℕ}
-use Rattle.jer.specs.Table.{sameBytes}
+use Rattle.jer.specs.Table.{same_bytes}
 use Rattle.tokens.specs.Strings.{denoted}
 use borrow.Author.Rules.{rules}
 use Rattle.tokens.proofs.strings.same.Statement.{statement}
@@ -17,7 +17,7 @@ same-as-requires c κs = search rules
 returns : tie.Need-returns
 returns c =
     let a = c.before.before.before.before.args in
-    c.same-as.ensures ∙ ap (λ (l : List ℕ). sameBytes l (denoted a.s.now a.p)) c.before.part.ensures
+    c.same-as.ensures ∙ ap (λ (l : List ℕ). same_bytes l (denoted a.s.now a.p)) c.before.part.ensures
 
 pub same_spec : {M : Type 1} → statement M
 same_spec = tie.close (tie.spec part-requires same-as-requires returns)

@@ -2,14 +2,14 @@
 use Prim.Native.Nat.{◌-◌}
 use mathlib.Core.Path.{◌≡◌, refl, sym, ◌∙◌}
 use lib.ListN.{length}
-use Rattle.tokens.specs.Strings.{stringEnd}
+use Rattle.tokens.specs.Strings.{string_end}
 use Rattle.tokens.proofs.StringLaws.{end-past, end-quote, end-pair, end-other}
 use borrow.Author.Rules.{rules}
 use Rattle.tokens.proofs.strings.string_end.Statement.{statement}
 use Rattle.tokens.proofs.strings.string_end.Tie as tie
 
 abbrev invariant-loop : tie.invariant-loop
-invariant-loop s p i₀ i = stringEnd s i ≡ stringEnd s p
+invariant-loop s p i₀ i = string_end s i ≡ string_end s p
 
 abbrev decreases-loop : tie.decreases-loop
 decreases-loop s p i₀ i = length s - i

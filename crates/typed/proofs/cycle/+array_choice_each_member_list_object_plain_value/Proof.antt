@@ -4,23 +4,23 @@ use mathlib.Core.Path.{◌≡◌, refl, sym, ap, ◌∙◌}
 use native.Mathlib.Omega.{arith}
 use borrow.Author.Tests.{not-true, not-false}
 use lib.ListN.{length}
-use Rattle.jer.specs.Table.{extensible, elementOf, countOf, type_at, table}
+use Rattle.jer.specs.Table.{extensible, element_of, count_of, type_at, table}
 use Rattle.jer.specs.Value.{Val}
 use Rattle.jer.specs.Answer.{Res, bind}
 use Rattle.jer.specs.declared.Cause.TheVariants.{OtherKind, UnknownName}
-use Rattle.jer.specs.Read.{missingElement}
+use Rattle.jer.specs.Read.{missing_element}
 use Rattle.places.specs.declared.Scanned.{Scanned}
-use Rattle.places.specs.ByPlaces.{ending, Got, firstPart, tokenAt, leafAt, within, readAt, itemsAt, elementsAt, membersAt, noPlaces}
+use Rattle.places.specs.ByPlaces.{ending, Got, first_part, token_at, leaf_at, within, read_at, items_at, elements_at, members_at, no_places}
 use Rattle.scan.proofs.WithinLaws.{space-within}
-use Rattle.tokens.specs.Places.{pastSpace}
+use Rattle.tokens.specs.Places.{past_space}
 use Rattle.tokens.specs.Strings.{denoted}
-use Rattle.typed.specs.Cycle.{limit, plainAt}
+use Rattle.typed.specs.Cycle.{limit, plain_at}
 use Rattle.types.proofs.RowLaws.{kind-of}
-use Rattle.typed.proofs.StoredLaws.{took, not-took, whole-list, whole-seq, whole-choice, closed, along, reads-no}
-use Rattle.typed.proofs.ListLaws.{Near, near_first, near-after, near-part, near-shut, Loop, loop-start, loop-shut, loop-full, loop-refused, loop-more}
-use Rattle.typed.proofs.SequenceLaws.{Elements, elements-start, elements-absent, elements-lost, elements-null, elements-refused, elements-more, near-absent, near-follows, near-there, InOrder, order-start, order-missing, order-absent, order-refused, order-more, order-end, object-ok, object-no, member_is, there-place, object-scanned, object-stopped, scan-near}
+use Rattle.typed.proofs.StoredLaws.{took, not-took, whole-list, whole_seq, whole-choice, closed, along, reads-no}
+use Rattle.typed.proofs.ListLaws.{Near, near_first, near-after, near_part, near-shut, Loop, loop_start, loop_shut, loop_full, loop_refused, loop_more}
+use Rattle.typed.proofs.SequenceLaws.{Elements, elements-start, elements-absent, elements_lost, elements-null, elements-refused, elements-more, near-absent, near-follows, near-there, InOrder, order_start, order_missing, order_absent, order_refused, order_more, order_end, object-ok, object-no, member_is, there-place, object-scanned, object_stopped, scan_near}
 use Rattle.typed.proofs.PlainLaws.{array_kind, object-kind, unwrapped-kind, value-plain, value_none, value-refused, value-picked, plain-leaf, plain-deep, plain-list, plain-array, plain-no-array, plain-choice, plain-object, plain-no-object, token-inside, token-array, token-object, string-not, string-code, positive, sequence-is, choice-not-one, choice-none, choice-refused, choice-picked, missing-small, missing-no, bounded-reads, bounded-near, leaf-near}
-use Rattle.typed.proofs.CycleLaws.{passed, failed, given_below, given-type, given-part, given-one, over-ok, over_no, list-ok, list-no, array-no, array-end, found_some, found_none, at_row, at_place, one-near, unknown-reads, unknown-over}
+use Rattle.typed.proofs.CycleLaws.{passed, failed, given_below, given-type, given_part, given-one, over-ok, over_no, list-ok, list-no, array-no, array-end, found_some, found_none, at_row, at_place, one-near, unknown-reads, unknown-over}
 use Rattle.places.proofs.MeaningNames.{alternative-found, position-found}
 use borrow.Author.Rules.{rules}
 use borrow.Fn.Kinds.{In}
@@ -165,7 +165,7 @@ abbrev value-calls : ℕ → value-lts.Claims
 value-calls t = (token-at-reads.Asked, token-at-reads.Learnt, at_reads.Asked, at_reads.Learnt, is-unwrapped-reads.Asked, is-unwrapped-reads.Learnt, plain-below t, plain.Post, alternative-reads.Asked, alternative-reads.Learnt, unknown-reads.Asked, unknown-reads.Learnt, type-at-reads.Asked, type-at-reads.Learnt, close-reads.Asked, close-reads.Learnt)
 
 abbrev array-Inv-loop : array-lts.invariant-loop
-array-Inv-loop types names s rows₀ pool₀ row place slot offset depth count next₀ k₀ present₀ n₀ m₀ rows pool next k present n m = (count ≡ countOf (table types names) row) × (count ≤ 64) × Near (65539 + depth) next × Elements (λ q u. readAt (depth - 1) (table types names) s q u) (depth - 1) (table types names) s row place (elementsAt (λ q u. readAt (depth - 1) (table types names) s q u) (depth - 1) (table types names) s row place 0 (countOf (table types names) row) (firstPart s 0x5D place)) next slot offset n m k present rows rows₀ pool pool₀ × (k ≤ count)
+array-Inv-loop types names s rows₀ pool₀ row place slot offset depth count next₀ k₀ present₀ n₀ m₀ rows pool next k present n m = (count ≡ count_of (table types names) row) × (count ≤ 64) × Near (65539 + depth) next × Elements (λ q u. read_at (depth - 1) (table types names) s q u) (depth - 1) (table types names) s row place (elements_at (λ q u. read_at (depth - 1) (table types names) s q u) (depth - 1) (table types names) s row place 0 (count_of (table types names) row) (first_part s 0x5D place)) next slot offset n m k present rows rows₀ pool pool₀ × (k ≤ count)
 
 abbrev array-μ-loop : array-lts.decreases-loop
 array-μ-loop types names s rows₀ pool₀ row place slot offset depth count next₀ k₀ present₀ n₀ m₀ rows pool next k present n m = count - k
@@ -185,12 +185,12 @@ array-loop-holds t c =
     let first = c.first_part.result in
     let first-part-said = c.first_part.ensures in
     let entry = c.before.before.before.before.before.before.before in
-    (c.before.count_of.ensures names, omega (arith, c.before.before.before.before.before.before.before.requires.1.0.sane.few c.before.before.before.before.before.before.before.args.row c.before.before.before.before.before.before.before.requires.1.0.typed, c.before.count_of.ensures names), near_first s 0x5D c.before.before.before.before.before.before.before.args.place (65539 + d) first c.before.before.before.before.before.before.before.requires.1.0.short c.before.before.before.before.before.before.before.requires.1.1.0 (omega (arith, c.before.before.before.before.before.before.before.requires.1.1.1)) first-part-said, elements-start (λ q u. readAt (d - 1) tab s q u) (d - 1) tab s c.before.before.before.before.before.before.before.args.row c.before.before.before.before.before.before.before.args.place (firstPart s 0x5D c.before.before.before.before.before.before.before.args.place) first c.before.before.before.before.before.before.before.args.slot c.before.before.before.before.before.before.before.args.offset c.before.before.before.before.before.before.before.args.rows.now c.before.before.before.before.before.before.before.args.pool.now first-part-said, omega arith)
+    (c.before.count_of.ensures names, omega (arith, c.before.before.before.before.before.before.before.requires.1.0.sane.few c.before.before.before.before.before.before.before.args.row c.before.before.before.before.before.before.before.requires.1.0.typed, c.before.count_of.ensures names), near_first s 0x5D c.before.before.before.before.before.before.before.args.place (65539 + d) first c.before.before.before.before.before.before.before.requires.1.0.short c.before.before.before.before.before.before.before.requires.1.1.0 (omega (arith, c.before.before.before.before.before.before.before.requires.1.1.1)) first-part-said, elements-start (λ q u. read_at (d - 1) tab s q u) (d - 1) tab s c.before.before.before.before.before.before.before.args.row c.before.before.before.before.before.before.before.args.place (first_part s 0x5D c.before.before.before.before.before.before.before.args.place) first c.before.before.before.before.before.before.before.args.slot c.before.before.before.before.before.before.before.args.offset c.before.before.before.before.before.before.before.args.rows.now c.before.before.before.before.before.before.before.args.pool.now first-part-said, omega arith)
 
 array-element-found-requires : (t : ℕ) → array-lts.Need-element-found-requires (array-calls t) (array_at t) array.Post array-Inv-loop array-μ-loop
 array-element-found-requires t c κs =
     let entry = c.before.before.before.before.before.before.before.before.before in
-    (c.before.before.before.before.before.before.before.before.before.requires.1.0.short, near-follows (65539 + c.before.before.before.before.before.before.before.before.before.args.depth) 4294967295 c.before.loop.next (omega (arith, c.before.before.before.before.before.before.before.before.before.requires.1.0.rowRoom)) (omega arith) c.before.loop.invariant.2)
+    (c.before.before.before.before.before.before.before.before.before.requires.1.0.short, near-follows (65539 + c.before.before.before.before.before.before.before.before.before.args.depth) 4294967295 c.before.loop.next (omega (arith, c.before.before.before.before.before.before.before.before.before.requires.1.0.row_room)) (omega arith) c.before.loop.invariant.2)
 
 array-enum-known-f : (t : ℕ) → array-lts.Need-enum-known-f (array-calls t) (array_at t) array.Post array-Inv-loop array-μ-loop
 array-enum-known-f t c = search rules
@@ -225,7 +225,7 @@ array-loop-again t c =
     let entry = c.before.before.before.before.before.before.before.before.before.before.before.before.before.before.before.before.before in
     let f = c.before.before.before.before.before.f in
     let back = sym f.given.1 ∙ c.before.before.before.before.before.before.before.element-found.ensures names in
-    (loop-inv, loop.invariant.1, near-absent tab s c.before.before.before.before.before.before.before.before.before.before.before.before.before.before.before.before.before.args.row loop.k (65539 + d) loop.next f.given.0.0 c.before.before.before.before.before.before.before.before.before.before.before.before.before.before.before.before.before.requires.1.0.short (omega (arith, c.before.before.before.before.before.before.before.before.before.before.before.before.before.before.before.before.before.requires.1.1.1)) loop.invariant.2 back, elements-absent (λ q u. readAt (d - 1) tab s q u) (d - 1) tab s c.before.before.before.before.before.before.before.before.before.before.before.before.before.before.before.before.before.args.row c.before.before.before.before.before.before.before.before.before.before.before.before.before.before.before.before.before.args.place loop.invariant.3 (rw (← loop-inv) c.before.before.before.before.before.before.before.before.loop-test.true) back c.before.before.put-row.ensures c.before.before.put-row.auto.0, omega (arith, loop-test-yes))
+    (loop-inv, loop.invariant.1, near-absent tab s c.before.before.before.before.before.before.before.before.before.before.before.before.before.before.before.before.before.args.row loop.k (65539 + d) loop.next f.given.0.0 c.before.before.before.before.before.before.before.before.before.before.before.before.before.before.before.before.before.requires.1.0.short (omega (arith, c.before.before.before.before.before.before.before.before.before.before.before.before.before.before.before.before.before.requires.1.1.1)) loop.invariant.2 back, elements-absent (λ q u. read_at (d - 1) tab s q u) (d - 1) tab s c.before.before.before.before.before.before.before.before.before.before.before.before.before.before.before.before.before.args.row c.before.before.before.before.before.before.before.before.before.before.before.before.before.before.before.before.before.args.place loop.invariant.3 (rw (← loop-inv) c.before.before.before.before.before.before.before.before.loop-test.true) back c.before.before.put-row.ensures c.before.before.put-row.auto.0, omega (arith, loop-test-yes))
 
 array-enum-known-q : (t : ℕ) → array-lts.Need-enum-known-q (array-calls t) (array_at t) array.Post array-Inv-loop array-μ-loop
 array-enum-known-q t c = search rules
@@ -255,7 +255,7 @@ array-returns t c =
     let s = c.before.before.before.before.before.before.before.before.before.before.before.before.before.before.before.before.before.before.before.before.args.s.now in
     let loop = c.before.before.before.before.before.before.before.before.before.before.before.before.loop in
     let q₂ = c.before.before.before.before.before.before.before.before.q in
-    reads-no (over_no tab c.before.before.before.before.before.before.before.before.before.before.before.before.before.before.before.before.before.before.before.before.args.row (array-no (λ q u. readAt (c.before.before.before.before.before.before.before.before.before.before.before.before.before.before.before.before.before.before.before.before.args.depth - 1) tab s q u) tab s c.before.before.before.before.before.before.before.before.before.before.before.before.before.before.before.before.before.before.before.before.args.row c.before.before.before.before.before.before.before.before.before.before.before.before.before.before.before.before.before.before.before.before.args.place (c.before.before.before.before.before.before.before.before.before.before.before.before.before.before.before.before.before.before.before.before.args.depth - 1) (elements-lost (λ q u. readAt (c.before.before.before.before.before.before.before.before.before.before.before.before.before.before.before.before.before.before.before.before.args.depth - 1) tab s q u) (c.before.before.before.before.before.before.before.before.before.before.before.before.before.before.before.before.before.before.before.before.args.depth - 1) tab s c.before.before.before.before.before.before.before.before.before.before.before.before.before.before.before.before.before.before.before.before.args.row c.before.before.before.before.before.before.before.before.before.before.before.before.before.before.before.before.before.before.before.before.args.place loop.invariant.3 (rw (← loop.invariant.0) c.before.before.before.before.before.before.before.before.before.before.before.loop-test.true) (sym q₂.given.1 ∙ c.before.before.before.before.before.before.before.before.before.before.element-found.ensures names) (missing-no tab c.before.before.before.before.before.before.before.before.before.before.before.before.before.before.before.before.before.before.before.before.args.row c.before.before.before.before.before.before.before.before.before.before.before.before.before.before.before.before.before.before.before.before.args.place loop.k q₂.given.0.0 (not-took tab (type_at tab c.before.before.before.before.before.before.before.before.before.before.before.before.before.before.before.before.before.before.before.before.args.row loop.k) _ c.before.e.given.0.0 (sym c.before.e.given.1 ∙ (c.before.before.before.before.before.missing.ensures names loop.pool (c.before.before.before.before.before.before.before.before.before.before.before.before.before.before.before.before.before.before.before.before.args.offset + loop.m)).answer))))))
+    reads-no (over_no tab c.before.before.before.before.before.before.before.before.before.before.before.before.before.before.before.before.before.before.before.before.args.row (array-no (λ q u. read_at (c.before.before.before.before.before.before.before.before.before.before.before.before.before.before.before.before.before.before.before.before.args.depth - 1) tab s q u) tab s c.before.before.before.before.before.before.before.before.before.before.before.before.before.before.before.before.before.before.before.before.args.row c.before.before.before.before.before.before.before.before.before.before.before.before.before.before.before.before.before.before.before.before.args.place (c.before.before.before.before.before.before.before.before.before.before.before.before.before.before.before.before.before.before.before.before.args.depth - 1) (elements_lost (λ q u. read_at (c.before.before.before.before.before.before.before.before.before.before.before.before.before.before.before.before.before.before.before.before.args.depth - 1) tab s q u) (c.before.before.before.before.before.before.before.before.before.before.before.before.before.before.before.before.before.before.before.before.args.depth - 1) tab s c.before.before.before.before.before.before.before.before.before.before.before.before.before.before.before.before.before.before.before.before.args.row c.before.before.before.before.before.before.before.before.before.before.before.before.before.before.before.before.before.before.before.before.args.place loop.invariant.3 (rw (← loop.invariant.0) c.before.before.before.before.before.before.before.before.before.before.before.loop-test.true) (sym q₂.given.1 ∙ c.before.before.before.before.before.before.before.before.before.before.element-found.ensures names) (missing-no tab c.before.before.before.before.before.before.before.before.before.before.before.before.before.before.before.before.before.before.before.before.args.row c.before.before.before.before.before.before.before.before.before.before.before.before.before.before.before.before.before.before.before.before.args.place loop.k q₂.given.0.0 (not-took tab (type_at tab c.before.before.before.before.before.before.before.before.before.before.before.before.before.before.before.before.before.before.before.before.args.row loop.k) _ c.before.e.given.0.0 (sym c.before.e.given.1 ∙ (c.before.before.before.before.before.missing.ensures names loop.pool (c.before.before.before.before.before.before.before.before.before.before.before.before.before.before.before.before.before.before.before.before.args.offset + loop.m)).answer))))))
 
 array-enum-known-a : (t : ℕ) → array-lts.Need-enum-known-a (array-calls t) (array_at t) array.Post array-Inv-loop array-μ-loop
 array-enum-known-a t c = search rules
@@ -270,7 +270,7 @@ array-add-n-2 t c =
     let loop = c.before.before.before.before.before.before.before.before.before.before.before.before.before.loop in
     let entry = c.before.before.before.before.before.before.before.before.before.before.before.before.before.before.before.before.before.before.before.before.before in
     let q = c.before.before.before.before.before.before.before.before.before.q.given.0.0 in
-    omega (arith, (missing-small tab c.before.before.before.before.before.before.before.before.before.before.before.before.before.before.before.before.before.before.before.before.before.args.row c.before.before.before.before.before.before.before.before.before.before.before.before.before.before.before.before.before.before.before.before.before.args.place loop.k q (took tab (type_at tab c.before.before.before.before.before.before.before.before.before.before.before.before.before.before.before.before.before.before.before.before.before.args.row loop.k) (ending q (missingElement tab c.before.before.before.before.before.before.before.before.before.before.before.before.before.before.before.before.before.before.before.before.before.args.row c.before.before.before.before.before.before.before.before.before.before.before.before.before.before.before.before.before.before.before.before.before.args.place loop.k)) c.before.before.a.given.0.0 c.before.before.a.given.0.1.0 c.before.before.a.given.0.1.1.0 (sym c.before.before.a.given.1 ∙ (c.before.before.before.before.before.before.missing.ensures names loop.pool (c.before.before.before.before.before.before.before.before.before.before.before.before.before.before.before.before.before.before.before.before.before.args.offset + loop.m)).answer))).0, loop.invariant.3.done.sofar.fewRows, loop.invariant.1, c.before.before.before.before.before.before.before.before.before.before.before.before.loop-test.true)
+    omega (arith, (missing-small tab c.before.before.before.before.before.before.before.before.before.before.before.before.before.before.before.before.before.before.before.before.before.args.row c.before.before.before.before.before.before.before.before.before.before.before.before.before.before.before.before.before.before.before.before.before.args.place loop.k q (took tab (type_at tab c.before.before.before.before.before.before.before.before.before.before.before.before.before.before.before.before.before.before.before.before.before.args.row loop.k) (ending q (missing_element tab c.before.before.before.before.before.before.before.before.before.before.before.before.before.before.before.before.before.before.before.before.before.args.row c.before.before.before.before.before.before.before.before.before.before.before.before.before.before.before.before.before.before.before.before.before.args.place loop.k)) c.before.before.a.given.0.0 c.before.before.a.given.0.1.0 c.before.before.a.given.0.1.1.0 (sym c.before.before.a.given.1 ∙ (c.before.before.before.before.before.before.missing.ensures names loop.pool (c.before.before.before.before.before.before.before.before.before.before.before.before.before.before.before.before.before.before.before.before.before.args.offset + loop.m)).answer))).0, loop.invariant.3.done.sofar.few_rows, loop.invariant.1, c.before.before.before.before.before.before.before.before.before.before.before.before.loop-test.true)
 
 array-add-m : (t : ℕ) → array-lts.Need-overflow-add-m (array-calls t) (array_at t) array.Post array-Inv-loop array-μ-loop
 array-add-m t c =
@@ -279,7 +279,7 @@ array-add-m t c =
     let loop = c.before.before.before.before.before.before.before.before.before.before.before.before.before.loop in
     let entry = c.before.before.before.before.before.before.before.before.before.before.before.before.before.before.before.before.before.before.before.before.before in
     let q = c.before.before.before.before.before.before.before.before.before.q.given.0.0 in
-    omega (arith, (missing-small tab c.before.before.before.before.before.before.before.before.before.before.before.before.before.before.before.before.before.before.before.before.before.args.row c.before.before.before.before.before.before.before.before.before.before.before.before.before.before.before.before.before.before.before.before.before.args.place loop.k q (took tab (type_at tab c.before.before.before.before.before.before.before.before.before.before.before.before.before.before.before.before.before.before.before.before.before.args.row loop.k) (ending q (missingElement tab c.before.before.before.before.before.before.before.before.before.before.before.before.before.before.before.before.before.before.before.before.before.args.row c.before.before.before.before.before.before.before.before.before.before.before.before.before.before.before.before.before.before.before.before.before.args.place loop.k)) c.before.before.a.given.0.0 c.before.before.a.given.0.1.0 c.before.before.a.given.0.1.1.0 (sym c.before.before.a.given.1 ∙ (c.before.before.before.before.before.before.missing.ensures names loop.pool (c.before.before.before.before.before.before.before.before.before.before.before.before.before.before.before.before.before.before.before.before.before.args.offset + loop.m)).answer))).1, loop.invariant.3.done.sofar.fewBytes, loop.invariant.1, c.before.before.before.before.before.before.before.before.before.before.before.before.loop-test.true)
+    omega (arith, (missing-small tab c.before.before.before.before.before.before.before.before.before.before.before.before.before.before.before.before.before.before.before.before.before.args.row c.before.before.before.before.before.before.before.before.before.before.before.before.before.before.before.before.before.before.before.before.before.args.place loop.k q (took tab (type_at tab c.before.before.before.before.before.before.before.before.before.before.before.before.before.before.before.before.before.before.before.before.before.args.row loop.k) (ending q (missing_element tab c.before.before.before.before.before.before.before.before.before.before.before.before.before.before.before.before.before.before.before.before.before.args.row c.before.before.before.before.before.before.before.before.before.before.before.before.before.before.before.before.before.before.before.before.before.args.place loop.k)) c.before.before.a.given.0.0 c.before.before.a.given.0.1.0 c.before.before.a.given.0.1.1.0 (sym c.before.before.a.given.1 ∙ (c.before.before.before.before.before.before.missing.ensures names loop.pool (c.before.before.before.before.before.before.before.before.before.before.before.before.before.before.before.before.before.before.before.before.before.args.offset + loop.m)).answer))).1, loop.invariant.3.done.sofar.few_bytes, loop.invariant.1, c.before.before.before.before.before.before.before.before.before.before.before.before.loop-test.true)
 
 array-add-k-2 : (t : ℕ) → array-lts.Need-overflow-add-k-2 (array-calls t) (array_at t) array.Post array-Inv-loop array-μ-loop
 array-add-k-2 t c = search rules
@@ -298,8 +298,8 @@ array-loop-again-2 t c =
     let q₂ = c.before.before.before.before.before.before.before.before.before.q in
     let entry = c.before.before.before.before.before.before.before.before.before.before.before.before.before.before.before.before.before.before.before.before.before in
     let missing = c.before.before.before.before.before.before.missing in
-    let took' = took tab (type_at tab c.before.before.before.before.before.before.before.before.before.before.before.before.before.before.before.before.before.before.before.before.before.args.row loop.k) (ending q₂.given.0.0 (missingElement tab c.before.before.before.before.before.before.before.before.before.before.before.before.before.before.before.before.before.before.before.before.before.args.row c.before.before.before.before.before.before.before.before.before.before.before.before.before.before.before.before.before.before.before.before.before.args.place loop.k)) c.before.before.a.given.0.0 c.before.before.a.given.0.1.0 c.before.before.a.given.0.1.1.0 (sym c.before.before.a.given.1 ∙ (missing.ensures names loop.pool (c.before.before.before.before.before.before.before.before.before.before.before.before.before.before.before.before.before.before.before.before.before.args.offset + loop.m)).answer) in
-    (loop-inv, loop.invariant.1, loop.invariant.2, elements-null (λ q u. readAt (c.before.before.before.before.before.before.before.before.before.before.before.before.before.before.before.before.before.before.before.before.before.args.depth - 1) tab s q u) (c.before.before.before.before.before.before.before.before.before.before.before.before.before.before.before.before.before.before.before.before.before.args.depth - 1) tab s c.before.before.before.before.before.before.before.before.before.before.before.before.before.before.before.before.before.before.before.before.before.args.row c.before.before.before.before.before.before.before.before.before.before.before.before.before.before.before.before.before.before.before.before.before.args.place loop.invariant.3 (rw (← loop-inv) c.before.before.before.before.before.before.before.before.before.before.before.before.loop-test.true) (sym q₂.given.1 ∙ c.before.before.before.before.before.before.before.before.before.before.before.element-found.ensures names) took' (missing.ensures names loop.pool (c.before.before.before.before.before.before.before.before.before.before.before.before.before.before.before.before.before.before.before.before.before.args.offset + loop.m)) (missing-small tab c.before.before.before.before.before.before.before.before.before.before.before.before.before.before.before.before.before.before.before.before.before.args.row c.before.before.before.before.before.before.before.before.before.before.before.before.before.before.before.before.before.before.before.before.before.args.place loop.k q₂.given.0.0 took').0 (missing-small tab c.before.before.before.before.before.before.before.before.before.before.before.before.before.before.before.before.before.before.before.before.before.args.row c.before.before.before.before.before.before.before.before.before.before.before.before.before.before.before.before.before.before.before.before.before.args.place loop.k q₂.given.0.0 took').1 missing.auto.1.0 refl c.with.ensures, omega (arith, loop-test-yes))
+    let took' = took tab (type_at tab c.before.before.before.before.before.before.before.before.before.before.before.before.before.before.before.before.before.before.before.before.before.args.row loop.k) (ending q₂.given.0.0 (missing_element tab c.before.before.before.before.before.before.before.before.before.before.before.before.before.before.before.before.before.before.before.before.before.args.row c.before.before.before.before.before.before.before.before.before.before.before.before.before.before.before.before.before.before.before.before.before.args.place loop.k)) c.before.before.a.given.0.0 c.before.before.a.given.0.1.0 c.before.before.a.given.0.1.1.0 (sym c.before.before.a.given.1 ∙ (missing.ensures names loop.pool (c.before.before.before.before.before.before.before.before.before.before.before.before.before.before.before.before.before.before.before.before.before.args.offset + loop.m)).answer) in
+    (loop-inv, loop.invariant.1, loop.invariant.2, elements-null (λ q u. read_at (c.before.before.before.before.before.before.before.before.before.before.before.before.before.before.before.before.before.before.before.before.before.args.depth - 1) tab s q u) (c.before.before.before.before.before.before.before.before.before.before.before.before.before.before.before.before.before.before.before.before.before.args.depth - 1) tab s c.before.before.before.before.before.before.before.before.before.before.before.before.before.before.before.before.before.before.before.before.before.args.row c.before.before.before.before.before.before.before.before.before.before.before.before.before.before.before.before.before.before.before.before.before.args.place loop.invariant.3 (rw (← loop-inv) c.before.before.before.before.before.before.before.before.before.before.before.before.loop-test.true) (sym q₂.given.1 ∙ c.before.before.before.before.before.before.before.before.before.before.before.element-found.ensures names) took' (missing.ensures names loop.pool (c.before.before.before.before.before.before.before.before.before.before.before.before.before.before.before.before.before.before.before.before.before.args.offset + loop.m)) (missing-small tab c.before.before.before.before.before.before.before.before.before.before.before.before.before.before.before.before.before.before.before.before.before.args.row c.before.before.before.before.before.before.before.before.before.before.before.before.before.before.before.before.before.before.before.before.before.args.place loop.k q₂.given.0.0 took').0 (missing-small tab c.before.before.before.before.before.before.before.before.before.before.before.before.before.before.before.before.before.before.before.before.before.args.row c.before.before.before.before.before.before.before.before.before.before.before.before.before.before.before.before.before.before.before.before.before.args.place loop.k q₂.given.0.0 took').1 missing.auto.1.0 refl c.with.ensures, omega (arith, loop-test-yes))
 
 array-enum-known-q-2 : (t : ℕ) → array-lts.Need-enum-known-q-2 (array-calls t) (array_at t) array.Post array-Inv-loop array-μ-loop
 array-enum-known-q-2 t c = search rules
@@ -326,7 +326,7 @@ array-value-requires t c κs =
     let loop-test-yes = c.before.before.before.before.before.before.before.loop-test.true in
     let entry = c.before.before.before.before.before.before.before.before.before.before.before.before.before.before.before.before in
     let loop-inv = loop.invariant.1 in
-    (omega arith, given-part c.before.before.before.before.before.before.before.before.before.before.before.before.before.before.before.before.requires.1.0 c.before.before.before.before.before.before.before.before.before.before.before.before.before.before.before.before.requires.1.1.1 (rw (c.before.before.type-at.ensures names) (c.before.before.before.before.before.before.before.before.before.before.before.before.before.before.before.before.requires.1.0.sane.member c.before.before.before.before.before.before.before.before.before.before.before.before.before.before.before.before.args.row loop.k c.before.before.before.before.before.before.before.before.before.before.before.before.before.before.before.before.requires.1.0.typed (rw (← loop.invariant.0) c.before.before.before.before.before.before.before.loop-test.true))) (omega (arith, near-there (table c.before.before.before.before.before.before.before.before.before.before.before.before.before.before.before.before.args.types.now names) c.before.before.before.before.before.before.before.before.before.before.before.before.before.before.before.before.args.s.now c.before.before.before.before.before.before.before.before.before.before.before.before.before.before.before.before.args.row loop.k (65539 + c.before.before.before.before.before.before.before.before.before.before.before.before.before.before.before.before.args.depth) loop.next loop.invariant.2 (sym c.before.before.before.before.q2.given.1 ∙ c.before.before.before.before.before.before.element-found.ensures names))) (omega (arith, loop.invariant.3.done.sofar.fewRows, loop-inv, loop-test-yes)) (omega (arith, loop.invariant.3.done.sofar.fewBytes, loop-inv, loop-test-yes)))
+    (omega arith, given_part c.before.before.before.before.before.before.before.before.before.before.before.before.before.before.before.before.requires.1.0 c.before.before.before.before.before.before.before.before.before.before.before.before.before.before.before.before.requires.1.1.1 (rw (c.before.before.type-at.ensures names) (c.before.before.before.before.before.before.before.before.before.before.before.before.before.before.before.before.requires.1.0.sane.member c.before.before.before.before.before.before.before.before.before.before.before.before.before.before.before.before.args.row loop.k c.before.before.before.before.before.before.before.before.before.before.before.before.before.before.before.before.requires.1.0.typed (rw (← loop.invariant.0) c.before.before.before.before.before.before.before.loop-test.true))) (omega (arith, near-there (table c.before.before.before.before.before.before.before.before.before.before.before.before.before.before.before.before.args.types.now names) c.before.before.before.before.before.before.before.before.before.before.before.before.before.before.before.before.args.s.now c.before.before.before.before.before.before.before.before.before.before.before.before.before.before.before.before.args.row loop.k (65539 + c.before.before.before.before.before.before.before.before.before.before.before.before.before.before.before.before.args.depth) loop.next loop.invariant.2 (sym c.before.before.before.before.q2.given.1 ∙ c.before.before.before.before.before.before.element-found.ensures names))) (omega (arith, loop.invariant.3.done.sofar.few_rows, loop-inv, loop-test-yes)) (omega (arith, loop.invariant.3.done.sofar.few_bytes, loop-inv, loop-test-yes)))
 
 array-enum-known-e-2 : (t : ℕ) → array-lts.Need-enum-known-e-2 (array-calls t) (array_at t) array.Post array-Inv-loop array-μ-loop
 array-enum-known-e-2 t c = search rules
@@ -344,7 +344,7 @@ array-returns-2 t c =
     let s = c.before.before.before.before.before.before.before.before.before.before.before.before.before.before.before.before.before.before.before.before.before.before.before.before.args.s.now in
     let loop = c.before.before.before.before.before.before.before.before.before.before.before.before.before.before.before.before.loop in
     let q2 = c.before.before.before.before.before.before.before.before.before.before.before.before.q2 in
-    reads-no (over_no tab c.before.before.before.before.before.before.before.before.before.before.before.before.before.before.before.before.before.before.before.before.before.before.before.before.args.row (array-no (λ q u. readAt (c.before.before.before.before.before.before.before.before.before.before.before.before.before.before.before.before.before.before.before.before.before.before.before.before.args.depth - 1) tab s q u) tab s c.before.before.before.before.before.before.before.before.before.before.before.before.before.before.before.before.before.before.before.before.before.before.before.before.args.row c.before.before.before.before.before.before.before.before.before.before.before.before.before.before.before.before.before.before.before.before.before.before.before.before.args.place (c.before.before.before.before.before.before.before.before.before.before.before.before.before.before.before.before.before.before.before.before.before.before.before.before.args.depth - 1) (elements-refused (λ q u. readAt (c.before.before.before.before.before.before.before.before.before.before.before.before.before.before.before.before.before.before.before.before.before.before.before.before.args.depth - 1) tab s q u) (c.before.before.before.before.before.before.before.before.before.before.before.before.before.before.before.before.before.before.before.before.before.before.before.before.args.depth - 1) tab s c.before.before.before.before.before.before.before.before.before.before.before.before.before.before.before.before.before.before.before.before.before.before.before.before.args.row c.before.before.before.before.before.before.before.before.before.before.before.before.before.before.before.before.before.before.before.before.before.before.before.before.args.place loop.invariant.3 (rw (← loop.invariant.0) c.before.before.before.before.before.before.before.before.before.before.before.before.before.before.before.loop-test.true) (sym q2.given.1 ∙ c.before.before.before.before.before.before.before.before.before.before.before.before.before.before.element-found.ensures names) (failed (at_row (λ q u. readAt (c.before.before.before.before.before.before.before.before.before.before.before.before.before.before.before.before.before.before.before.before.before.before.before.before.args.depth - 1) tab s q u) q2.given.0.0 (c.before.before.before.before.before.before.before.before.before.before.type-at.ensures names) c.before.before.before.before.before.before.before.value.ensures) c.before.e2.given.1))))
+    reads-no (over_no tab c.before.before.before.before.before.before.before.before.before.before.before.before.before.before.before.before.before.before.before.before.before.before.before.before.args.row (array-no (λ q u. read_at (c.before.before.before.before.before.before.before.before.before.before.before.before.before.before.before.before.before.before.before.before.before.before.before.before.args.depth - 1) tab s q u) tab s c.before.before.before.before.before.before.before.before.before.before.before.before.before.before.before.before.before.before.before.before.before.before.before.before.args.row c.before.before.before.before.before.before.before.before.before.before.before.before.before.before.before.before.before.before.before.before.before.before.before.before.args.place (c.before.before.before.before.before.before.before.before.before.before.before.before.before.before.before.before.before.before.before.before.before.before.before.before.args.depth - 1) (elements-refused (λ q u. read_at (c.before.before.before.before.before.before.before.before.before.before.before.before.before.before.before.before.before.before.before.before.before.before.before.before.args.depth - 1) tab s q u) (c.before.before.before.before.before.before.before.before.before.before.before.before.before.before.before.before.before.before.before.before.before.before.before.before.args.depth - 1) tab s c.before.before.before.before.before.before.before.before.before.before.before.before.before.before.before.before.before.before.before.before.before.before.before.before.args.row c.before.before.before.before.before.before.before.before.before.before.before.before.before.before.before.before.before.before.before.before.before.before.before.before.args.place loop.invariant.3 (rw (← loop.invariant.0) c.before.before.before.before.before.before.before.before.before.before.before.before.before.before.before.loop-test.true) (sym q2.given.1 ∙ c.before.before.before.before.before.before.before.before.before.before.before.before.before.before.element-found.ensures names) (failed (at_row (λ q u. read_at (c.before.before.before.before.before.before.before.before.before.before.before.before.before.before.before.before.before.before.before.before.before.before.before.before.args.depth - 1) tab s q u) q2.given.0.0 (c.before.before.before.before.before.before.before.before.before.before.type-at.ensures names) c.before.before.before.before.before.before.before.value.ensures) c.before.e2.given.1))))
 
 array-enum-known-end : (t : ℕ) → array-lts.Need-enum-known-end (array-calls t) (array_at t) array.Post array-Inv-loop array-μ-loop
 array-enum-known-end t c = search rules
@@ -358,7 +358,7 @@ array-after-part-requires t c κs =
     let loop = c.before.before.before.before.before.before.before.before.before.before.before.before.before.before.before.before.loop in
     let q2 = c.before.before.before.before.before.before.before.before.before.before.before.before.q2 in
     let entry = c.before.before.before.before.before.before.before.before.before.before.before.before.before.before.before.before.before.before.before.before.before.before.before.before in
-    (c.before.before.before.before.before.before.before.before.before.before.before.before.before.before.before.before.before.before.before.before.before.before.before.before.requires.1.0.short, omega (arith, (passed (at_row (λ q u. readAt (d - 1) tab s q u) q2.given.0.0 (c.before.before.before.before.before.before.before.before.before.before.type-at.ensures names) c.before.before.before.before.before.before.before.value.ensures) c.before.end.given.1).near, near-there tab s c.before.before.before.before.before.before.before.before.before.before.before.before.before.before.before.before.before.before.before.before.before.before.before.before.args.row loop.k (65539 + d) loop.next loop.invariant.2 (sym q2.given.1 ∙ c.before.before.before.before.before.before.before.before.before.before.before.before.before.before.element-found.ensures names), c.before.before.before.before.before.before.before.before.before.before.before.before.before.before.before.before.before.before.before.before.before.before.before.before.requires.1.0.rowRoom))
+    (c.before.before.before.before.before.before.before.before.before.before.before.before.before.before.before.before.before.before.before.before.before.before.before.before.requires.1.0.short, omega (arith, (passed (at_row (λ q u. read_at (d - 1) tab s q u) q2.given.0.0 (c.before.before.before.before.before.before.before.before.before.before.type-at.ensures names) c.before.before.before.before.before.before.before.value.ensures) c.before.end.given.1).near, near-there tab s c.before.before.before.before.before.before.before.before.before.before.before.before.before.before.before.before.before.before.before.before.before.before.before.before.args.row loop.k (65539 + d) loop.next loop.invariant.2 (sym q2.given.1 ∙ c.before.before.before.before.before.before.before.before.before.before.before.before.before.before.element-found.ensures names), c.before.before.before.before.before.before.before.before.before.before.before.before.before.before.before.before.before.before.before.before.before.before.before.before.requires.1.0.row_room))
 
 array-with-requires-2 : (t : ℕ) → array-lts.Need-with-requires-2 (array-calls t) (array_at t) array.Post array-Inv-loop array-μ-loop
 array-with-requires-2 t c κs = search rules
@@ -368,14 +368,14 @@ array-add-n-3 t c =
     let names = c.before.before.before.before.before.before.before.before.before.before.before.before.before.before.before.before.before.before.before.before.before.before.before.before.before.before.args.names.now in
     let loop = c.before.before.before.before.before.before.before.before.before.before.before.before.before.before.before.before.before.before.loop in
     let entry = c.before.before.before.before.before.before.before.before.before.before.before.before.before.before.before.before.before.before.before.before.before.before.before.before.before.before in
-    omega (arith, (passed (at_row (λ q u. readAt (c.before.before.before.before.before.before.before.before.before.before.before.before.before.before.before.before.before.before.before.before.before.before.before.before.before.before.args.depth - 1) (table c.before.before.before.before.before.before.before.before.before.before.before.before.before.before.before.before.before.before.before.before.before.before.before.before.before.before.args.types.now names) c.before.before.before.before.before.before.before.before.before.before.before.before.before.before.before.before.before.before.before.before.before.before.before.before.before.before.args.s.now q u) c.before.before.before.before.before.before.before.before.before.before.before.before.before.before.q2.given.0.0 (c.before.before.before.before.before.before.before.before.before.before.before.before.type-at.ensures names) c.before.before.before.before.before.before.before.before.before.value.ensures) c.before.before.before.end.given.1).fewRows, loop.invariant.3.done.sofar.fewRows, loop.invariant.1, c.before.before.before.before.before.before.before.before.before.before.before.before.before.before.before.before.before.loop-test.true)
+    omega (arith, (passed (at_row (λ q u. read_at (c.before.before.before.before.before.before.before.before.before.before.before.before.before.before.before.before.before.before.before.before.before.before.before.before.before.before.args.depth - 1) (table c.before.before.before.before.before.before.before.before.before.before.before.before.before.before.before.before.before.before.before.before.before.before.before.before.before.before.args.types.now names) c.before.before.before.before.before.before.before.before.before.before.before.before.before.before.before.before.before.before.before.before.before.before.before.before.before.before.args.s.now q u) c.before.before.before.before.before.before.before.before.before.before.before.before.before.before.q2.given.0.0 (c.before.before.before.before.before.before.before.before.before.before.before.before.type-at.ensures names) c.before.before.before.before.before.before.before.before.before.value.ensures) c.before.before.before.end.given.1).few_rows, loop.invariant.3.done.sofar.few_rows, loop.invariant.1, c.before.before.before.before.before.before.before.before.before.before.before.before.before.before.before.before.before.loop-test.true)
 
 array-add-m-2 : (t : ℕ) → array-lts.Need-overflow-add-m-2 (array-calls t) (array_at t) array.Post array-Inv-loop array-μ-loop
 array-add-m-2 t c =
     let names = c.before.before.before.before.before.before.before.before.before.before.before.before.before.before.before.before.before.before.before.before.before.before.before.before.before.before.args.names.now in
     let loop = c.before.before.before.before.before.before.before.before.before.before.before.before.before.before.before.before.before.before.loop in
     let entry = c.before.before.before.before.before.before.before.before.before.before.before.before.before.before.before.before.before.before.before.before.before.before.before.before.before.before in
-    omega (arith, (passed (at_row (λ q u. readAt (c.before.before.before.before.before.before.before.before.before.before.before.before.before.before.before.before.before.before.before.before.before.before.before.before.before.before.args.depth - 1) (table c.before.before.before.before.before.before.before.before.before.before.before.before.before.before.before.before.before.before.before.before.before.before.before.before.before.before.args.types.now names) c.before.before.before.before.before.before.before.before.before.before.before.before.before.before.before.before.before.before.before.before.before.before.before.before.before.before.args.s.now q u) c.before.before.before.before.before.before.before.before.before.before.before.before.before.before.q2.given.0.0 (c.before.before.before.before.before.before.before.before.before.before.before.before.type-at.ensures names) c.before.before.before.before.before.before.before.before.before.value.ensures) c.before.before.before.end.given.1).fewBytes, loop.invariant.3.done.sofar.fewBytes, loop.invariant.1, c.before.before.before.before.before.before.before.before.before.before.before.before.before.before.before.before.before.loop-test.true)
+    omega (arith, (passed (at_row (λ q u. read_at (c.before.before.before.before.before.before.before.before.before.before.before.before.before.before.before.before.before.before.before.before.before.before.before.before.before.before.args.depth - 1) (table c.before.before.before.before.before.before.before.before.before.before.before.before.before.before.before.before.before.before.before.before.before.before.before.before.before.before.args.types.now names) c.before.before.before.before.before.before.before.before.before.before.before.before.before.before.before.before.before.before.before.before.before.before.before.before.before.before.args.s.now q u) c.before.before.before.before.before.before.before.before.before.before.before.before.before.before.q2.given.0.0 (c.before.before.before.before.before.before.before.before.before.before.before.before.type-at.ensures names) c.before.before.before.before.before.before.before.before.before.value.ensures) c.before.before.before.end.given.1).few_bytes, loop.invariant.3.done.sofar.few_bytes, loop.invariant.1, c.before.before.before.before.before.before.before.before.before.before.before.before.before.before.before.before.before.loop-test.true)
 
 array-add-k-3 : (t : ℕ) → array-lts.Need-overflow-add-k-3 (array-calls t) (array_at t) array.Post array-Inv-loop array-μ-loop
 array-add-k-3 t c = search rules
@@ -395,12 +395,12 @@ array-loop-again-3 t c =
     let q2 = c.before.before.before.before.before.before.before.before.before.before.before.before.before.before.q2 in
     let value₂ = c.before.before.before.before.before.before.before.before.before.value in
     let it = 65539 + d in
-    let after-part-said = c.before.after-part.ensures in
+    let after-part-said = c.before.after_part_lem.ensures in
     let entry = c.before.before.before.before.before.before.before.before.before.before.before.before.before.before.before.before.before.before.before.before.before.before.before.before.before.before in
-    let there = at_row (λ q u. readAt (d - 1) tab s q u) q2.given.0.0 (c.before.before.before.before.before.before.before.before.before.before.before.before.type-at.ensures names) value₂.ensures in
+    let there = at_row (λ q u. read_at (d - 1) tab s q u) q2.given.0.0 (c.before.before.before.before.before.before.before.before.before.before.before.before.type-at.ensures names) value₂.ensures in
     let went = passed there c.before.before.before.end.given.1 in
     let back = sym q2.given.1 ∙ c.before.before.before.before.before.before.before.before.before.before.before.before.before.before.before.before.element-found.ensures names in
-    (loop-inv, loop.invariant.1, near-after s c.before.before.before.end.given.0.0 it c.before.after-part.result c.before.before.before.before.before.before.before.before.before.before.before.before.before.before.before.before.before.before.before.before.before.before.before.before.before.before.requires.1.0.short (omega (arith, went.near, near-there tab s c.before.before.before.before.before.before.before.before.before.before.before.before.before.before.before.before.before.before.before.before.before.before.before.before.before.before.args.row loop.k it loop.next loop.invariant.2 back, c.before.before.before.before.before.before.before.before.before.before.before.before.before.before.before.before.before.before.before.before.before.before.before.before.before.before.requires.1.1.1)) (omega arith) after-part-said, elements-more (λ q u. readAt (d - 1) tab s q u) (d - 1) tab s c.before.before.before.before.before.before.before.before.before.before.before.before.before.before.before.before.before.before.before.before.before.before.before.before.before.before.args.row c.before.before.before.before.before.before.before.before.before.before.before.before.before.before.before.before.before.before.before.before.before.before.before.before.before.before.args.place loop.invariant.3 (rw (← loop-inv) c.before.before.before.before.before.before.before.before.before.before.before.before.before.before.before.before.before.loop-test.true) back went.took there.stepped went.fewRows went.fewBytes value₂.auto.1.1.1.0 value₂.auto.1.1.1.1.0 c.with2.ensures after-part-said, omega (arith, loop-test-yes))
+    (loop-inv, loop.invariant.1, near-after s c.before.before.before.end.given.0.0 it c.before.after_part_lem.result c.before.before.before.before.before.before.before.before.before.before.before.before.before.before.before.before.before.before.before.before.before.before.before.before.before.before.requires.1.0.short (omega (arith, went.near, near-there tab s c.before.before.before.before.before.before.before.before.before.before.before.before.before.before.before.before.before.before.before.before.before.before.before.before.before.before.args.row loop.k it loop.next loop.invariant.2 back, c.before.before.before.before.before.before.before.before.before.before.before.before.before.before.before.before.before.before.before.before.before.before.before.before.before.before.requires.1.1.1)) (omega arith) after-part-said, elements-more (λ q u. read_at (d - 1) tab s q u) (d - 1) tab s c.before.before.before.before.before.before.before.before.before.before.before.before.before.before.before.before.before.before.before.before.before.before.before.before.before.before.args.row c.before.before.before.before.before.before.before.before.before.before.before.before.before.before.before.before.before.before.before.before.before.before.before.before.before.before.args.place loop.invariant.3 (rw (← loop-inv) c.before.before.before.before.before.before.before.before.before.before.before.before.before.before.before.before.before.loop-test.true) back went.took there.stepped went.few_rows went.few_bytes value₂.auto.1.1.1.0 value₂.auto.1.1.1.1.0 c.with2.ensures after-part-said, omega (arith, loop-test-yes))
 
 array-ones-requires : (t : ℕ) → array-lts.Need-ones-requires (array-calls t) (array_at t) array.Post array-Inv-loop array-μ-loop
 array-ones-requires t c κs = search rules
@@ -408,7 +408,7 @@ array-ones-requires t c κs = search rules
 array-close-array-requires : (t : ℕ) → array-lts.Need-close-array-requires (array-calls t) (array_at t) array.Post array-Inv-loop array-μ-loop
 array-close-array-requires t c κs =
     let entry = c.before.before.before.before.before.before.before.before.before.before.before in
-    (c.before.before.before.before.before.before.before.before.before.before.before.requires.1.0.short, c.before.before.before.before.before.before.before.before.before.before.before.requires.1.1.1, omega (arith, c.before.before.before.before.before.before.before.before.before.before.before.requires.1.0.rowRoom), omega (arith, c.before.before.before.loop.invariant.3.done.sofar.fewRows, c.before.before.before.loop.invariant.4, c.before.before.before.loop.invariant.1))
+    (c.before.before.before.before.before.before.before.before.before.before.before.requires.1.0.short, c.before.before.before.before.before.before.before.before.before.before.before.requires.1.1.1, omega (arith, c.before.before.before.before.before.before.before.before.before.before.before.requires.1.0.row_room), omega (arith, c.before.before.before.loop.invariant.3.done.sofar.few_rows, c.before.before.before.loop.invariant.4, c.before.before.before.loop.invariant.1))
 
 array-same-length-5 : (t : ℕ) → array-lts.Need-same-length-5 (array-calls t) (array_at t) array.Post array-Inv-loop array-μ-loop
 array-same-length-5 t c = search rules
@@ -423,7 +423,7 @@ array-returns-3 t c =
     let s = c.before.before.before.before.before.before.before.before.before.before.before.before.before.before.args.s.now in
     let loop = c.before.before.before.before.before.before.loop in
     let entry = c.before.before.before.before.before.before.before.before.before.before.before.before.before.before in
-    array-end (λ q u. readAt (c.before.before.before.before.before.before.before.before.before.before.before.before.before.before.args.depth - 1) tab s q u) tab s c.before.before.before.before.before.before.before.before.before.before.before.before.before.before.args.row c.before.before.before.before.before.before.before.before.before.before.before.before.before.before.args.place (c.before.before.before.before.before.before.before.before.before.before.before.before.before.before.args.depth - 1) loop.invariant.3 (omega (arith, loop.invariant.0, c.before.before.before.before.before.loop-test.false)) c.before.before.before.before.before.before.before.before.before.before.before.before.before.before.requires.1.1.2 c.before.before.before.ones.ensures c.before.before.before.before.before.before.before.before.before.before.before.before.before.before.requires.1.0.short (omega (arith, c.before.before.before.before.before.before.before.before.before.before.before.before.before.before.requires.1.1.1)) (omega (arith, c.before.before.before.before.before.before.before.before.before.before.before.before.before.before.requires.1.1.0, c.before.before.before.before.before.before.before.before.before.before.before.before.before.before.requires.1.0.short)) loop.invariant.2 (c.before.before.close-array.ensures names)
+    array-end (λ q u. read_at (c.before.before.before.before.before.before.before.before.before.before.before.before.before.before.args.depth - 1) tab s q u) tab s c.before.before.before.before.before.before.before.before.before.before.before.before.before.before.args.row c.before.before.before.before.before.before.before.before.before.before.before.before.before.before.args.place (c.before.before.before.before.before.before.before.before.before.before.before.before.before.before.args.depth - 1) loop.invariant.3 (omega (arith, loop.invariant.0, c.before.before.before.before.before.loop-test.false)) c.before.before.before.before.before.before.before.before.before.before.before.before.before.before.requires.1.1.2 c.before.before.before.ones.ensures c.before.before.before.before.before.before.before.before.before.before.before.before.before.before.requires.1.0.short (omega (arith, c.before.before.before.before.before.before.before.before.before.before.before.before.before.before.requires.1.1.1)) (omega (arith, c.before.before.before.before.before.before.before.before.before.before.before.before.before.before.requires.1.1.0, c.before.before.before.before.before.before.before.before.before.before.before.before.before.before.requires.1.0.short)) loop.invariant.2 (c.before.before.close-array.ensures names)
 
 choice-sub-one-at : (t : ℕ) → choice-lts.Need-overflow-sub-one-at (choice-calls t) (choice-at t) choice.Post
 choice-sub-one-at t c = search rules
@@ -482,19 +482,19 @@ choice-skip-space-requires t c κs = search rules
 
 choice-advance-requires : (t : ℕ) → choice-lts.Need-advance-requires (choice-calls t) (choice-at t) choice.Post
 choice-advance-requires t c κs =
-    let z : c.skip-space.result.at + 1 < 18446744073709551616 = omega (arith, c.skip-space.ensures, c.before.before.before.before.before.before.before.before.before.before.before.value-place.ensures.1, c.before.before.before.before.before.before.before.before.before.before.before.before.before.before.before.before.before.before.before.before.before.before.before.before.before.before.requires.1.0.rowRoom, space-within c.before.before.before.before.before.before.before.before.before.before.before.before.before.before.before.before.before.before.before.before.before.before.before.before.before.before.args.s.now (limit c.before.before.before.before.before.before.before.before.before.before.before.value-place.result + (c.before.before.before.before.before.before.before.before.before.before.before.before.before.before.before.before.before.before.before.before.before.before.before.before.before.before.args.depth - 1)) c.before.before.next.given.0.0 (omega (arith, c.before.before.before.before.before.before.before.before.before.before.before.before.before.before.before.before.before.before.before.before.before.before.before.before.before.before.requires.1.0.short)) (passed c.before.before.before.before.before.before.before.before.value.ensures c.before.before.next.given.1).near) in z
+    let z : c.skip-space.result.at + 1 < 18446744073709551616 = omega (arith, c.skip-space.ensures, c.before.before.before.before.before.before.before.before.before.before.before.value-place.ensures.1, c.before.before.before.before.before.before.before.before.before.before.before.before.before.before.before.before.before.before.before.before.before.before.before.before.before.before.requires.1.0.row_room, space-within c.before.before.before.before.before.before.before.before.before.before.before.before.before.before.before.before.before.before.before.before.before.before.before.before.before.before.args.s.now (limit c.before.before.before.before.before.before.before.before.before.before.before.value-place.result + (c.before.before.before.before.before.before.before.before.before.before.before.before.before.before.before.before.before.before.before.before.before.before.before.before.before.before.args.depth - 1)) c.before.before.next.given.0.0 (omega (arith, c.before.before.before.before.before.before.before.before.before.before.before.before.before.before.before.before.before.before.before.before.before.before.before.before.before.before.requires.1.0.short)) (passed c.before.before.before.before.before.before.before.before.value.ensures c.before.before.next.given.1).near) in z
 
 choice-close-requires : (t : ℕ) → choice-lts.Need-close-requires (choice-calls t) (choice-at t) choice.Post
 choice-close-requires t c κs =
     let names = c.before.before.before.before.before.before.before.before.before.before.before.before.before.before.before.before.before.before.before.before.before.before.before.before.before.before.before.before.args.names.now in
     let entry = c.before.before.before.before.before.before.before.before.before.before.before.before.before.before.before.before.before.before.before.before.before.before.before.before.before.before.before.before in
-    (omega (arith, c.before.before.before.before.before.before.before.before.before.before.before.before.before.before.before.before.before.before.before.before.before.before.before.before.before.before.before.before.requires.1.0.rowRoom), omega (arith, (passed (at_place (λ q u. readAt (c.before.before.before.before.before.before.before.before.before.before.before.before.before.before.before.before.before.before.before.before.before.before.before.before.before.before.before.before.args.depth - 1) (table c.before.before.before.before.before.before.before.before.before.before.before.before.before.before.before.before.before.before.before.before.before.before.before.before.before.before.before.before.args.types.now names) c.before.before.before.before.before.before.before.before.before.before.before.before.before.before.before.before.before.before.before.before.before.before.before.before.before.before.before.before.args.s.now q u) (c.before.before.before.before.before.before.before.before.before.before.before.before.before.before.type-at.ensures names) c.before.before.before.before.before.before.before.before.before.before.before.before.before.value-place.ensures.0 c.before.before.before.before.before.before.before.before.before.before.value.ensures) c.before.before.before.before.next.given.1).fewRows))
+    (omega (arith, c.before.before.before.before.before.before.before.before.before.before.before.before.before.before.before.before.before.before.before.before.before.before.before.before.before.before.before.before.requires.1.0.row_room), omega (arith, (passed (at_place (λ q u. read_at (c.before.before.before.before.before.before.before.before.before.before.before.before.before.before.before.before.before.before.before.before.before.before.before.before.before.before.before.before.args.depth - 1) (table c.before.before.before.before.before.before.before.before.before.before.before.before.before.before.before.before.before.before.before.before.before.before.before.before.before.before.before.before.args.types.now names) c.before.before.before.before.before.before.before.before.before.before.before.before.before.before.before.before.before.before.before.before.before.before.before.before.before.before.before.before.args.s.now q u) (c.before.before.before.before.before.before.before.before.before.before.before.before.before.before.type-at.ensures names) c.before.before.before.before.before.before.before.before.before.before.before.before.before.value-place.ensures.0 c.before.before.before.before.before.before.before.before.before.before.value.ensures) c.before.before.before.before.next.given.1).few_rows))
 
 choice-returns : (t : ℕ) → choice-lts.Need-returns (choice-calls t) (choice-at t) choice.Post
 choice-returns t c =
     let s = c.before.before.before.before.before.before.before.before.before.args.s.now in
     let tab = table c.before.before.before.before.before.before.before.before.before.args.types.now c.before.before.before.before.before.before.before.before.before.args.names.now in
-    rw c.refused.ensures (reads-no (over_no tab c.before.before.before.before.before.before.before.before.before.args.row (choice-not-one (λ q u. readAt (c.before.before.before.before.before.before.before.before.before.args.depth - 1) tab s q u) (c.before.before.before.before.before.before.before.before.before.args.depth - 1) tab s c.before.before.before.before.before.before.before.before.before.args.row c.before.before.before.before.before.before.before.before.before.args.place (sym c.before.enum_told.given.1 ∙ c.before.before.before.one_at.ensures))))
+    rw c.refused.ensures (reads-no (over_no tab c.before.before.before.before.before.before.before.before.before.args.row (choice-not-one (λ q u. read_at (c.before.before.before.before.before.before.before.before.before.args.depth - 1) tab s q u) (c.before.before.before.before.before.before.before.before.before.args.depth - 1) tab s c.before.before.before.before.before.before.before.before.before.args.row c.before.before.before.before.before.before.before.before.before.args.place (sym c.before.enum_told.given.1 ∙ c.before.before.before.one_at.ensures))))
 
 choice-returns-2 : (t : ℕ) → choice-lts.Need-returns-2 (choice-calls t) (choice-at t) choice.Post
 choice-returns-2 t c =
@@ -502,7 +502,7 @@ choice-returns-2 t c =
     let tab = table c.before.before.before.before.before.before.before.before.before.before.before.before.before.args.types.now names in
     let s = c.before.before.before.before.before.before.before.before.before.before.before.before.before.args.s.now in
     let q₂ = c.before.before.before.before.before.q in
-    unknown-over UnknownName c.before.before.before.before.before.before.before.before.before.before.before.before.before.args.place q₂.given.0.0 (extensible tab c.before.before.before.before.before.before.before.before.before.before.before.before.before.args.row) (c.unknown.ensures names) (choice-none (λ q u. readAt (c.before.before.before.before.before.before.before.before.before.before.before.before.before.args.depth - 1) tab s q u) (c.before.before.before.before.before.before.before.before.before.before.before.before.before.args.depth - 1) tab s c.before.before.before.before.before.before.before.before.before.before.before.before.before.args.row c.before.before.before.before.before.before.before.before.before.before.before.before.before.args.place (sym q₂.given.1 ∙ c.before.before.before.before.before.before.before.one_at.ensures) (found_none _ (sym c.before.enum-told2.given.1 ∙ c.before.before.before.position.ensures)))
+    unknown-over UnknownName c.before.before.before.before.before.before.before.before.before.before.before.before.before.args.place q₂.given.0.0 (extensible tab c.before.before.before.before.before.before.before.before.before.before.before.before.before.args.row) (c.unknown.ensures names) (choice-none (λ q u. read_at (c.before.before.before.before.before.before.before.before.before.before.before.before.before.args.depth - 1) tab s q u) (c.before.before.before.before.before.before.before.before.before.before.before.before.before.args.depth - 1) tab s c.before.before.before.before.before.before.before.before.before.before.before.before.before.args.row c.before.before.before.before.before.before.before.before.before.before.before.before.before.args.place (sym q₂.given.1 ∙ c.before.before.before.before.before.before.before.one_at.ensures) (found_none _ (sym c.before.enum-told2.given.1 ∙ c.before.before.before.position.ensures)))
 
 choice-same-length : (t : ℕ) → choice-lts.Need-same-length (choice-calls t) (choice-at t) choice.Post
 choice-same-length t c = search rules
@@ -515,7 +515,7 @@ choice-returns-3 t c =
     let names = c.before.before.before.before.before.before.before.before.before.before.before.before.before.before.before.before.before.before.before.before.before.before.before.before.before.args.names.now in
     let tab = table c.before.before.before.before.before.before.before.before.before.before.before.before.before.before.before.before.before.before.before.before.before.before.before.before.before.args.types.now names in
     let s = c.before.before.before.before.before.before.before.before.before.before.before.before.before.before.before.before.before.before.before.before.before.before.before.before.before.args.s.now in
-    reads-no (over_no tab c.before.before.before.before.before.before.before.before.before.before.before.before.before.before.before.before.before.before.before.before.before.before.before.before.before.args.row (choice-refused (λ q u. readAt (c.before.before.before.before.before.before.before.before.before.before.before.before.before.before.before.before.before.before.before.before.before.before.before.before.before.args.depth - 1) tab s q u) (c.before.before.before.before.before.before.before.before.before.before.before.before.before.before.before.before.before.before.before.before.before.before.before.before.before.args.depth - 1) tab s c.before.before.before.before.before.before.before.before.before.before.before.before.before.before.before.before.before.before.before.before.before.before.before.before.before.args.row c.before.before.before.before.before.before.before.before.before.before.before.before.before.before.before.before.before.before.before.before.before.before.before.before.before.args.place (sym c.before.before.before.before.before.before.before.before.before.before.before.before.before.before.before.before.before.q.given.1 ∙ c.before.before.before.before.before.before.before.before.before.before.before.before.before.before.before.before.before.before.before.one_at.ensures) (found_some _ (sym c.before.before.before.before.before.before.before.before.before.before.before.before.before.k.given.1 ∙ c.before.before.before.before.before.before.before.before.before.before.before.before.before.before.before.position.ensures)) (failed (at_place (λ q u. readAt (c.before.before.before.before.before.before.before.before.before.before.before.before.before.before.before.before.before.before.before.before.before.before.before.before.before.args.depth - 1) tab s q u) (c.before.before.before.before.before.before.before.before.before.before.before.type-at.ensures names) c.before.before.before.before.before.before.before.before.before.before.value-place.ensures.0 c.before.before.before.before.before.before.before.value.ensures) c.before.e.given.1)))
+    reads-no (over_no tab c.before.before.before.before.before.before.before.before.before.before.before.before.before.before.before.before.before.before.before.before.before.before.before.before.before.args.row (choice-refused (λ q u. read_at (c.before.before.before.before.before.before.before.before.before.before.before.before.before.before.before.before.before.before.before.before.before.before.before.before.before.args.depth - 1) tab s q u) (c.before.before.before.before.before.before.before.before.before.before.before.before.before.before.before.before.before.before.before.before.before.before.before.before.before.args.depth - 1) tab s c.before.before.before.before.before.before.before.before.before.before.before.before.before.before.before.before.before.before.before.before.before.before.before.before.before.args.row c.before.before.before.before.before.before.before.before.before.before.before.before.before.before.before.before.before.before.before.before.before.before.before.before.before.args.place (sym c.before.before.before.before.before.before.before.before.before.before.before.before.before.before.before.before.before.q.given.1 ∙ c.before.before.before.before.before.before.before.before.before.before.before.before.before.before.before.before.before.before.before.one_at.ensures) (found_some _ (sym c.before.before.before.before.before.before.before.before.before.before.before.before.before.k.given.1 ∙ c.before.before.before.before.before.before.before.before.before.before.before.before.before.before.before.position.ensures)) (failed (at_place (λ q u. read_at (c.before.before.before.before.before.before.before.before.before.before.before.before.before.before.before.before.before.before.before.before.before.before.before.before.before.args.depth - 1) tab s q u) (c.before.before.before.before.before.before.before.before.before.before.before.type-at.ensures names) c.before.before.before.before.before.before.before.before.before.before.value-place.ensures.0 c.before.before.before.before.before.before.before.value.ensures) c.before.e.given.1)))
 
 choice-same-length-3 : (t : ℕ) → choice-lts.Need-same-length-3 (choice-calls t) (choice-at t) choice.Post
 choice-same-length-3 t c = search rules
@@ -532,12 +532,12 @@ choice-returns-4 t c =
     let entry = c.before.before.before.before.before.before.before.before.before.before.before.before.before.before.before.before.before.before.before.before.before.before.before.before.before.before.before.before.before.before.before in
     let value-place = c.before.before.before.before.before.before.before.before.before.before.before.before.before.before.before.before.value-place in
     let value-said = c.before.before.before.before.before.before.before.before.before.before.before.before.before.value.ensures in
-    let here = at_place (λ q u. readAt (c.before.before.before.before.before.before.before.before.before.before.before.before.before.before.before.before.before.before.before.before.before.before.before.before.before.before.before.before.before.before.before.args.depth - 1) tab s q u) (c.before.before.before.before.before.before.before.before.before.before.before.before.before.before.before.before.before.type-at.ensures names) value-place.ensures.0 value-said in
+    let here = at_place (λ q u. read_at (c.before.before.before.before.before.before.before.before.before.before.before.before.before.before.before.before.before.before.before.before.before.before.before.before.before.before.before.before.before.before.before.args.depth - 1) tab s q u) (c.before.before.before.before.before.before.before.before.before.before.before.before.before.before.before.before.before.type-at.ensures names) value-place.ensures.0 value-said in
     let went = passed here next in
-    along (over-ok tab c.before.before.before.before.before.before.before.before.before.before.before.before.before.before.before.before.before.before.before.before.before.before.before.before.before.before.before.before.before.before.before.args.row (choice-picked (λ q u. readAt (c.before.before.before.before.before.before.before.before.before.before.before.before.before.before.before.before.before.before.before.before.before.before.before.before.before.before.before.before.before.before.before.args.depth - 1) tab s q u) (c.before.before.before.before.before.before.before.before.before.before.before.before.before.before.before.before.before.before.before.before.before.before.before.before.before.before.before.before.before.before.before.args.depth - 1) tab s c.before.before.before.before.before.before.before.before.before.before.before.before.before.before.before.before.before.before.before.before.before.before.before.before.before.before.before.before.before.before.before.args.row c.before.before.before.before.before.before.before.before.before.before.before.before.before.before.before.before.before.before.before.before.before.before.before.before.before.before.before.before.before.before.before.args.place (sym c.before.before.before.before.before.before.before.before.before.before.before.before.before.before.before.before.before.before.before.before.before.before.before.q.given.1 ∙ c.before.before.before.before.before.before.before.before.before.before.before.before.before.before.before.before.before.before.before.before.before.before.before.before.before.one_at.ensures) (found_some _ (sym c.before.before.before.before.before.before.before.before.before.before.before.before.before.before.before.before.before.before.before.k.given.1 ∙ c.before.before.before.before.before.before.before.before.before.before.before.before.before.before.before.before.before.before.before.before.before.position.ensures)) went.took.is)) (closed (whole-choice went.took here.stepped c.before.before.before.before.before.before.before.before.before.before.before.before.before.before.before.before.before.before.before.before.before.before.before.before.before.before.before.before.before.before.before.requires.1.1.2) (omega (arith, space-within s (limit value-place.result + (c.before.before.before.before.before.before.before.before.before.before.before.before.before.before.before.before.before.before.before.before.before.before.before.before.before.before.before.before.before.before.before.args.depth - 1)) went.took.g.next (omega (arith, c.before.before.before.before.before.before.before.before.before.before.before.before.before.before.before.before.before.before.before.before.before.before.before.before.before.before.before.before.before.before.before.requires.1.0.short)) (omega (arith, went.took.next, (passed value-said next).near)), c.before.before.before.before.before.before.before.before.before.before.before.before.before.before.before.before.before.before.before.before.before.before.before.before.before.before.before.before.before.before.before.requires.1.1.0, c.before.before.before.before.before.before.before.before.before.before.before.before.before.before.before.before.before.before.before.before.before.before.before.before.before.before.before.before.before.before.before.requires.1.1.1, value-place.ensures.1, c.before.before.before.before.before.before.before.before.before.before.before.before.before.before.before.before.before.before.before.before.before.before.before.before.before.before.before.before.before.before.before.requires.1.0.short)) (rw (sym (c.before.before.before.before.advance.ensures ∙ ap (λ (x : ℕ). x + 1) (c.before.before.before.before.before.skip-space.ensures ∙ ap (λ (x : ℕ). pastSpace s x) (sym went.took.next)))) c.before.before.close.ensures.0) c.before.before.close.ensures.1)
+    along (over-ok tab c.before.before.before.before.before.before.before.before.before.before.before.before.before.before.before.before.before.before.before.before.before.before.before.before.before.before.before.before.before.before.before.args.row (choice-picked (λ q u. read_at (c.before.before.before.before.before.before.before.before.before.before.before.before.before.before.before.before.before.before.before.before.before.before.before.before.before.before.before.before.before.before.before.args.depth - 1) tab s q u) (c.before.before.before.before.before.before.before.before.before.before.before.before.before.before.before.before.before.before.before.before.before.before.before.before.before.before.before.before.before.before.before.args.depth - 1) tab s c.before.before.before.before.before.before.before.before.before.before.before.before.before.before.before.before.before.before.before.before.before.before.before.before.before.before.before.before.before.before.before.args.row c.before.before.before.before.before.before.before.before.before.before.before.before.before.before.before.before.before.before.before.before.before.before.before.before.before.before.before.before.before.before.before.args.place (sym c.before.before.before.before.before.before.before.before.before.before.before.before.before.before.before.before.before.before.before.before.before.before.before.q.given.1 ∙ c.before.before.before.before.before.before.before.before.before.before.before.before.before.before.before.before.before.before.before.before.before.before.before.before.before.one_at.ensures) (found_some _ (sym c.before.before.before.before.before.before.before.before.before.before.before.before.before.before.before.before.before.before.before.k.given.1 ∙ c.before.before.before.before.before.before.before.before.before.before.before.before.before.before.before.before.before.before.before.before.before.position.ensures)) went.took.is)) (closed (whole-choice went.took here.stepped c.before.before.before.before.before.before.before.before.before.before.before.before.before.before.before.before.before.before.before.before.before.before.before.before.before.before.before.before.before.before.before.requires.1.1.2) (omega (arith, space-within s (limit value-place.result + (c.before.before.before.before.before.before.before.before.before.before.before.before.before.before.before.before.before.before.before.before.before.before.before.before.before.before.before.before.before.before.before.args.depth - 1)) went.took.g.next (omega (arith, c.before.before.before.before.before.before.before.before.before.before.before.before.before.before.before.before.before.before.before.before.before.before.before.before.before.before.before.before.before.before.before.requires.1.0.short)) (omega (arith, went.took.next, (passed value-said next).near)), c.before.before.before.before.before.before.before.before.before.before.before.before.before.before.before.before.before.before.before.before.before.before.before.before.before.before.before.before.before.before.before.requires.1.1.0, c.before.before.before.before.before.before.before.before.before.before.before.before.before.before.before.before.before.before.before.before.before.before.before.before.before.before.before.before.before.before.before.requires.1.1.1, value-place.ensures.1, c.before.before.before.before.before.before.before.before.before.before.before.before.before.before.before.before.before.before.before.before.before.before.before.before.before.before.before.before.before.before.before.requires.1.0.short)) (rw (sym (c.before.before.before.before.advance.ensures ∙ ap (λ (x : ℕ). x + 1) (c.before.before.before.before.before.skip-space.ensures ∙ ap (λ (x : ℕ). past_space s x) (sym went.took.next)))) c.before.before.close.ensures.0) c.before.before.close.ensures.1)
 
 abbrev each-member-Inv-loop : each-member-lts.invariant-loop
-each-member-Inv-loop types names s rows₀ pool₀ met row place next slot offset depth places count k₀ present₀ n₀ m₀ rows pool k present n m = (count ≡ countOf (table types names) row) × (count ≤ 64) × InOrder (λ q u. readAt (depth - 1) (table types names) s q u) (table types names) s row place met places (membersAt (λ q u. readAt (depth - 1) (table types names) s q u) (table types names) s row place met places 0 (countOf (table types names) row)) slot offset n m k present rows rows₀ pool pool₀ × (k ≤ count)
+each-member-Inv-loop types names s rows₀ pool₀ met row place next slot offset depth places count k₀ present₀ n₀ m₀ rows pool k present n m = (count ≡ count_of (table types names) row) × (count ≤ 64) × InOrder (λ q u. read_at (depth - 1) (table types names) s q u) (table types names) s row place met places (members_at (λ q u. read_at (depth - 1) (table types names) s q u) (table types names) s row place met places 0 (count_of (table types names) row)) slot offset n m k present rows rows₀ pool pool₀ × (k ≤ count)
 
 abbrev each-member-μ-loop : each-member-lts.decreases-loop
 each-member-μ-loop types names s rows₀ pool₀ met row place next slot offset depth places count k₀ present₀ n₀ m₀ rows pool k present n m = count - k
@@ -551,7 +551,7 @@ each-member-loop-holds t c =
     let tab = table c.before.before.before.before.before.before.args.types.now names in
     let s = c.before.before.before.before.before.before.args.s.now in
     let entry = c.before.before.before.before.before.before in
-    (c.count_of.ensures names, omega (arith, c.before.before.before.before.before.before.requires.1.0.sane.few c.before.before.before.before.before.before.args.row c.before.before.before.before.before.before.requires.1.0.typed, c.count_of.ensures names), order-start (λ q u. readAt (c.before.before.before.before.before.before.args.depth - 1) tab s q u) tab s c.before.before.before.before.before.before.args.row c.before.before.before.before.before.before.args.place c.before.before.before.before.before.before.args.met c.before.before.before.before.before.before.args.t6 c.before.before.before.before.before.before.args.slot c.before.before.before.before.before.before.args.offset c.before.before.before.before.before.before.args.rows.now c.before.before.before.before.before.before.args.pool.now, omega arith)
+    (c.count_of.ensures names, omega (arith, c.before.before.before.before.before.before.requires.1.0.sane.few c.before.before.before.before.before.before.args.row c.before.before.before.before.before.before.requires.1.0.typed, c.count_of.ensures names), order_start (λ q u. read_at (c.before.before.before.before.before.before.args.depth - 1) tab s q u) tab s c.before.before.before.before.before.before.args.row c.before.before.before.before.before.before.args.place c.before.before.before.before.before.before.args.met c.before.before.before.before.before.before.args.t6 c.before.before.before.before.before.before.args.slot c.before.before.before.before.before.before.args.offset c.before.before.before.before.before.before.args.rows.now c.before.before.before.before.before.before.args.pool.now, omega arith)
 
 each-member-wide-requires : (t : ℕ) → each-member-lts.Need-wide-requires (each-member-calls t) (each-member-at t) Each-member.Post each-member-Inv-loop each-member-μ-loop
 each-member-wide-requires t c κs = search rules
@@ -589,7 +589,7 @@ each-member-returns t c =
     let tab = table c.before.before.before.before.before.before.before.before.before.before.before.before.before.before.before.args.types.now names in
     let s = c.before.before.before.before.before.before.before.before.before.before.before.before.before.before.before.args.s.now in
     let loop = c.before.before.before.before.before.before.before.before.loop in
-    rw c.refused.ensures (reads-no (over_no tab c.before.before.before.before.before.before.before.before.before.before.before.before.before.before.before.args.row (object-no (λ q u. readAt (c.before.before.before.before.before.before.before.before.before.before.before.before.before.before.before.args.depth - 1) tab s q u) tab s c.before.before.before.before.before.before.before.before.before.before.before.before.before.before.before.args.row c.before.before.before.before.before.before.before.before.before.before.before.before.before.before.before.args.place c.before.before.before.before.before.before.before.before.before.before.before.before.before.before.before.args.met c.before.before.before.before.before.before.before.before.before.before.before.before.before.before.before.args.t6 c.before.before.before.before.before.before.before.before.before.before.before.before.before.before.before.args.next (order-missing (λ q u. readAt (c.before.before.before.before.before.before.before.before.before.before.before.before.before.before.before.args.depth - 1) tab s q u) tab s c.before.before.before.before.before.before.before.before.before.before.before.before.before.before.before.args.row c.before.before.before.before.before.before.before.before.before.before.before.before.before.before.before.args.place c.before.before.before.before.before.before.before.before.before.before.before.before.before.before.before.args.met c.before.before.before.before.before.before.before.before.before.before.before.before.before.before.before.args.t6 loop.invariant.2 (rw (← loop.invariant.0) c.before.before.before.before.before.before.before.loop-test.true) (sym c.before.enum_told.given.1 ∙ member_is tab s c.before.before.before.before.before.before.before.before.before.before.before.before.before.before.before.args.row loop.k c.before.before.before.before.before.before.before.before.before.before.before.before.before.before.before.args.met c.before.before.before.before.before.before.before.before.before.before.before.before.before.before.before.args.t6 c.before.before.before.before.before.before.wide.ensures.0 c.before.before.before.before.before.wide2.ensures.0 c.before.before.before.before.bit.ensures (c.before.before.before.member-found.ensures names))))))
+    rw c.refused.ensures (reads-no (over_no tab c.before.before.before.before.before.before.before.before.before.before.before.before.before.before.before.args.row (object-no (λ q u. read_at (c.before.before.before.before.before.before.before.before.before.before.before.before.before.before.before.args.depth - 1) tab s q u) tab s c.before.before.before.before.before.before.before.before.before.before.before.before.before.before.before.args.row c.before.before.before.before.before.before.before.before.before.before.before.before.before.before.before.args.place c.before.before.before.before.before.before.before.before.before.before.before.before.before.before.before.args.met c.before.before.before.before.before.before.before.before.before.before.before.before.before.before.before.args.t6 c.before.before.before.before.before.before.before.before.before.before.before.before.before.before.before.args.next (order_missing (λ q u. read_at (c.before.before.before.before.before.before.before.before.before.before.before.before.before.before.before.args.depth - 1) tab s q u) tab s c.before.before.before.before.before.before.before.before.before.before.before.before.before.before.before.args.row c.before.before.before.before.before.before.before.before.before.before.before.before.before.before.before.args.place c.before.before.before.before.before.before.before.before.before.before.before.before.before.before.before.args.met c.before.before.before.before.before.before.before.before.before.before.before.before.before.before.before.args.t6 loop.invariant.2 (rw (← loop.invariant.0) c.before.before.before.before.before.before.before.loop-test.true) (sym c.before.enum_told.given.1 ∙ member_is tab s c.before.before.before.before.before.before.before.before.before.before.before.before.before.before.before.args.row loop.k c.before.before.before.before.before.before.before.before.before.before.before.before.before.before.before.args.met c.before.before.before.before.before.before.before.before.before.before.before.before.before.before.before.args.t6 c.before.before.before.before.before.before.wide.ensures.0 c.before.before.before.before.before.wide2.ensures.0 c.before.before.before.before.bit.ensures (c.before.before.before.member-found.ensures names))))))
 
 each-member-enum-told-2 : (t : ℕ) → each-member-lts.Need-enum-told-2 (each-member-calls t) (each-member-at t) Each-member.Post each-member-Inv-loop each-member-μ-loop
 each-member-enum-told-2 t c = search rules
@@ -621,7 +621,7 @@ each-member-loop-again t c =
     let loop-inv = loop.invariant.0 in
     let loop-test-yes = c.before.before.before.before.before.before.before.before.before.before.loop-test.true in
     let entry = c.before.before.before.before.before.before.before.before.before.before.before.before.before.before.before.before.before.before in
-    (loop-inv, loop.invariant.1, order-absent (λ q u. readAt (c.before.before.before.before.before.before.before.before.before.before.before.before.before.before.before.before.before.before.args.depth - 1) tab s q u) tab s c.before.before.before.before.before.before.before.before.before.before.before.before.before.before.before.before.before.before.args.row c.before.before.before.before.before.before.before.before.before.before.before.before.before.before.before.before.before.before.args.place c.before.before.before.before.before.before.before.before.before.before.before.before.before.before.before.before.before.before.args.met c.before.before.before.before.before.before.before.before.before.before.before.before.before.before.before.before.before.before.args.t6 loop.invariant.2 (rw (← loop-inv) c.before.before.before.before.before.before.before.before.before.before.loop-test.true) (sym c.before.before.before.before.enum-told2.given.1 ∙ member_is tab s c.before.before.before.before.before.before.before.before.before.before.before.before.before.before.before.before.before.before.args.row loop.k c.before.before.before.before.before.before.before.before.before.before.before.before.before.before.before.before.before.before.args.met c.before.before.before.before.before.before.before.before.before.before.before.before.before.before.before.before.before.before.args.t6 c.before.before.before.before.before.before.before.before.before.wide.ensures.0 c.before.before.before.before.before.before.before.before.wide2.ensures.0 c.before.before.before.before.before.before.before.bit.ensures (c.before.before.before.before.before.before.member-found.ensures names)) c.before.before.put-row.ensures c.before.before.put-row.auto.0, omega (arith, loop-test-yes))
+    (loop-inv, loop.invariant.1, order_absent (λ q u. read_at (c.before.before.before.before.before.before.before.before.before.before.before.before.before.before.before.before.before.before.args.depth - 1) tab s q u) tab s c.before.before.before.before.before.before.before.before.before.before.before.before.before.before.before.before.before.before.args.row c.before.before.before.before.before.before.before.before.before.before.before.before.before.before.before.before.before.before.args.place c.before.before.before.before.before.before.before.before.before.before.before.before.before.before.before.before.before.before.args.met c.before.before.before.before.before.before.before.before.before.before.before.before.before.before.before.before.before.before.args.t6 loop.invariant.2 (rw (← loop-inv) c.before.before.before.before.before.before.before.before.before.before.loop-test.true) (sym c.before.before.before.before.enum-told2.given.1 ∙ member_is tab s c.before.before.before.before.before.before.before.before.before.before.before.before.before.before.before.before.before.before.args.row loop.k c.before.before.before.before.before.before.before.before.before.before.before.before.before.before.before.before.before.before.args.met c.before.before.before.before.before.before.before.before.before.before.before.before.before.before.before.before.before.before.args.t6 c.before.before.before.before.before.before.before.before.before.wide.ensures.0 c.before.before.before.before.before.before.before.before.wide2.ensures.0 c.before.before.before.before.before.before.before.bit.ensures (c.before.before.before.before.before.before.member-found.ensures names)) c.before.before.put-row.ensures c.before.before.put-row.auto.0, omega (arith, loop-test-yes))
 
 each-member-enum-known-q : (t : ℕ) → each-member-lts.Need-enum-known-q (each-member-calls t) (each-member-at t) Each-member.Post each-member-Inv-loop each-member-μ-loop
 each-member-enum-known-q t c = search rules
@@ -649,16 +649,16 @@ each-member-value-requires t c κs =
     let entry = c.before.before.before.before.before.before.before.before.before.before.before.before.before.before.before.before.before.before in
     let wide2 = c.before.before.before.before.before.before.before.before.wide2 in
     let loop-inv = loop.invariant.1 in
-    (omega arith, given-part c.before.before.before.before.before.before.before.before.before.before.before.before.before.before.before.before.before.before.requires.1.0 c.before.before.before.before.before.before.before.before.before.before.before.before.before.before.before.before.before.before.requires.1.1.0 (rw (c.before.before.type-at.ensures names) (c.before.before.before.before.before.before.before.before.before.before.before.before.before.before.before.before.before.before.requires.1.0.sane.member c.before.before.before.before.before.before.before.before.before.before.before.before.before.before.before.before.before.before.args.row loop.k c.before.before.before.before.before.before.before.before.before.before.before.before.before.before.before.before.before.before.requires.1.0.typed (rw (← loop.invariant.0) c.before.before.before.before.before.before.before.before.before.before.loop-test.true))) (omega (arith, there-place (table c.before.before.before.before.before.before.before.before.before.before.before.before.before.before.before.before.before.before.args.types.now names) c.before.before.before.before.before.before.before.before.before.before.before.before.before.before.before.before.before.before.args.s.now c.before.before.before.before.before.before.before.before.before.before.before.before.before.before.before.before.before.before.args.row loop.k c.before.before.before.before.before.before.before.bit.result wide2.result (sym c.before.before.before.before.q.given.1 ∙ c.before.before.before.before.before.before.member-found.ensures names), wide2.ensures.0, wide2.ensures.1)) (omega (arith, loop.invariant.2.done.sofar.fewRows, loop-inv, loop-test-yes)) (omega (arith, loop.invariant.2.done.sofar.fewBytes, loop-inv, loop-test-yes)))
+    (omega arith, given_part c.before.before.before.before.before.before.before.before.before.before.before.before.before.before.before.before.before.before.requires.1.0 c.before.before.before.before.before.before.before.before.before.before.before.before.before.before.before.before.before.before.requires.1.1.0 (rw (c.before.before.type-at.ensures names) (c.before.before.before.before.before.before.before.before.before.before.before.before.before.before.before.before.before.before.requires.1.0.sane.member c.before.before.before.before.before.before.before.before.before.before.before.before.before.before.before.before.before.before.args.row loop.k c.before.before.before.before.before.before.before.before.before.before.before.before.before.before.before.before.before.before.requires.1.0.typed (rw (← loop.invariant.0) c.before.before.before.before.before.before.before.before.before.before.loop-test.true))) (omega (arith, there-place (table c.before.before.before.before.before.before.before.before.before.before.before.before.before.before.before.before.before.before.args.types.now names) c.before.before.before.before.before.before.before.before.before.before.before.before.before.before.before.before.before.before.args.s.now c.before.before.before.before.before.before.before.before.before.before.before.before.before.before.before.before.before.before.args.row loop.k c.before.before.before.before.before.before.before.bit.result wide2.result (sym c.before.before.before.before.q.given.1 ∙ c.before.before.before.before.before.before.member-found.ensures names), wide2.ensures.0, wide2.ensures.1)) (omega (arith, loop.invariant.2.done.sofar.few_rows, loop-inv, loop-test-yes)) (omega (arith, loop.invariant.2.done.sofar.few_bytes, loop-inv, loop-test-yes)))
 
 each-member-enum-known-e : (t : ℕ) → each-member-lts.Need-enum-known-e (each-member-calls t) (each-member-at t) Each-member.Post each-member-Inv-loop each-member-μ-loop
 each-member-enum-known-e t c = search rules
 
 each-member-same-length-3 : (t : ℕ) → each-member-lts.Need-same-length-3 (each-member-calls t) (each-member-at t) Each-member.Post each-member-Inv-loop each-member-μ-loop
-each-member-same-length-3 t c = c.before.before.before.before.before.before.before.value.auto.1.1.1.0 ∙ c.before.before.before.before.before.before.before.before.before.before.before.before.before.before.before.before.before.before.before.loop.invariant.2.done.sofar.keptRows
+each-member-same-length-3 t c = c.before.before.before.before.before.before.before.value.auto.1.1.1.0 ∙ c.before.before.before.before.before.before.before.before.before.before.before.before.before.before.before.before.before.before.before.loop.invariant.2.done.sofar.kept_rows
 
 each-member-same-length-4 : (t : ℕ) → each-member-lts.Need-same-length-4 (each-member-calls t) (each-member-at t) Each-member.Post each-member-Inv-loop each-member-μ-loop
-each-member-same-length-4 t c = c.before.before.before.before.before.before.before.value.auto.1.1.1.1.0 ∙ c.before.before.before.before.before.before.before.before.before.before.before.before.before.before.before.before.before.before.before.loop.invariant.2.done.sofar.keptPool
+each-member-same-length-4 t c = c.before.before.before.before.before.before.before.value.auto.1.1.1.1.0 ∙ c.before.before.before.before.before.before.before.before.before.before.before.before.before.before.before.before.before.before.before.loop.invariant.2.done.sofar.kept_pool
 
 each-member-returns-2 : (t : ℕ) → each-member-lts.Need-returns-2 (each-member-calls t) (each-member-at t) Each-member.Post each-member-Inv-loop each-member-μ-loop
 each-member-returns-2 t c =
@@ -667,7 +667,7 @@ each-member-returns-2 t c =
     let s = c.before.before.before.before.before.before.before.before.before.before.before.before.before.before.before.before.before.before.before.before.before.before.before.before.before.before.args.s.now in
     let loop = c.before.before.before.before.before.before.before.before.before.before.before.before.before.before.before.before.before.before.before.loop in
     let q₂ = c.before.before.before.before.before.before.before.before.before.before.before.before.q in
-    reads-no (over_no tab c.before.before.before.before.before.before.before.before.before.before.before.before.before.before.before.before.before.before.before.before.before.before.before.before.before.before.args.row (object-no (λ q u. readAt (c.before.before.before.before.before.before.before.before.before.before.before.before.before.before.before.before.before.before.before.before.before.before.before.before.before.before.args.depth - 1) tab s q u) tab s c.before.before.before.before.before.before.before.before.before.before.before.before.before.before.before.before.before.before.before.before.before.before.before.before.before.before.args.row c.before.before.before.before.before.before.before.before.before.before.before.before.before.before.before.before.before.before.before.before.before.before.before.before.before.before.args.place c.before.before.before.before.before.before.before.before.before.before.before.before.before.before.before.before.before.before.before.before.before.before.before.before.before.before.args.met c.before.before.before.before.before.before.before.before.before.before.before.before.before.before.before.before.before.before.before.before.before.before.before.before.before.before.args.t6 c.before.before.before.before.before.before.before.before.before.before.before.before.before.before.before.before.before.before.before.before.before.before.before.before.before.before.args.next (order-refused (λ q u. readAt (c.before.before.before.before.before.before.before.before.before.before.before.before.before.before.before.before.before.before.before.before.before.before.before.before.before.before.args.depth - 1) tab s q u) tab s c.before.before.before.before.before.before.before.before.before.before.before.before.before.before.before.before.before.before.before.before.before.before.before.before.before.before.args.row c.before.before.before.before.before.before.before.before.before.before.before.before.before.before.before.before.before.before.before.before.before.before.before.before.before.before.args.place c.before.before.before.before.before.before.before.before.before.before.before.before.before.before.before.before.before.before.before.before.before.before.before.before.before.before.args.met c.before.before.before.before.before.before.before.before.before.before.before.before.before.before.before.before.before.before.before.before.before.before.before.before.before.before.args.t6 loop.invariant.2 (rw (← loop.invariant.0) c.before.before.before.before.before.before.before.before.before.before.before.before.before.before.before.before.before.before.loop-test.true) (sym q₂.given.1 ∙ member_is tab s c.before.before.before.before.before.before.before.before.before.before.before.before.before.before.before.before.before.before.before.before.before.before.before.before.before.before.args.row loop.k c.before.before.before.before.before.before.before.before.before.before.before.before.before.before.before.before.before.before.before.before.before.before.before.before.before.before.args.met c.before.before.before.before.before.before.before.before.before.before.before.before.before.before.before.before.before.before.before.before.before.before.before.before.before.before.args.t6 c.before.before.before.before.before.before.before.before.before.before.before.before.before.before.before.before.before.wide.ensures.0 c.before.before.before.before.before.before.before.before.before.before.before.before.before.before.before.before.wide2.ensures.0 c.before.before.before.before.before.before.before.before.before.before.before.before.before.before.before.bit.ensures (c.before.before.before.before.before.before.before.before.before.before.before.before.before.before.member-found.ensures names)) (failed (at_row (λ q u. readAt (c.before.before.before.before.before.before.before.before.before.before.before.before.before.before.before.before.before.before.before.before.before.before.before.before.before.before.args.depth - 1) tab s q u) q₂.given.0.0 (c.before.before.before.before.before.before.before.before.before.before.type-at.ensures names) c.before.before.before.before.before.before.before.value.ensures) c.before.e.given.1))))
+    reads-no (over_no tab c.before.before.before.before.before.before.before.before.before.before.before.before.before.before.before.before.before.before.before.before.before.before.before.before.before.before.args.row (object-no (λ q u. read_at (c.before.before.before.before.before.before.before.before.before.before.before.before.before.before.before.before.before.before.before.before.before.before.before.before.before.before.args.depth - 1) tab s q u) tab s c.before.before.before.before.before.before.before.before.before.before.before.before.before.before.before.before.before.before.before.before.before.before.before.before.before.before.args.row c.before.before.before.before.before.before.before.before.before.before.before.before.before.before.before.before.before.before.before.before.before.before.before.before.before.before.args.place c.before.before.before.before.before.before.before.before.before.before.before.before.before.before.before.before.before.before.before.before.before.before.before.before.before.before.args.met c.before.before.before.before.before.before.before.before.before.before.before.before.before.before.before.before.before.before.before.before.before.before.before.before.before.before.args.t6 c.before.before.before.before.before.before.before.before.before.before.before.before.before.before.before.before.before.before.before.before.before.before.before.before.before.before.args.next (order_refused (λ q u. read_at (c.before.before.before.before.before.before.before.before.before.before.before.before.before.before.before.before.before.before.before.before.before.before.before.before.before.before.args.depth - 1) tab s q u) tab s c.before.before.before.before.before.before.before.before.before.before.before.before.before.before.before.before.before.before.before.before.before.before.before.before.before.before.args.row c.before.before.before.before.before.before.before.before.before.before.before.before.before.before.before.before.before.before.before.before.before.before.before.before.before.before.args.place c.before.before.before.before.before.before.before.before.before.before.before.before.before.before.before.before.before.before.before.before.before.before.before.before.before.before.args.met c.before.before.before.before.before.before.before.before.before.before.before.before.before.before.before.before.before.before.before.before.before.before.before.before.before.before.args.t6 loop.invariant.2 (rw (← loop.invariant.0) c.before.before.before.before.before.before.before.before.before.before.before.before.before.before.before.before.before.before.loop-test.true) (sym q₂.given.1 ∙ member_is tab s c.before.before.before.before.before.before.before.before.before.before.before.before.before.before.before.before.before.before.before.before.before.before.before.before.before.before.args.row loop.k c.before.before.before.before.before.before.before.before.before.before.before.before.before.before.before.before.before.before.before.before.before.before.before.before.before.before.args.met c.before.before.before.before.before.before.before.before.before.before.before.before.before.before.before.before.before.before.before.before.before.before.before.before.before.before.args.t6 c.before.before.before.before.before.before.before.before.before.before.before.before.before.before.before.before.before.wide.ensures.0 c.before.before.before.before.before.before.before.before.before.before.before.before.before.before.before.before.wide2.ensures.0 c.before.before.before.before.before.before.before.before.before.before.before.before.before.before.before.bit.ensures (c.before.before.before.before.before.before.before.before.before.before.before.before.before.before.member-found.ensures names)) (failed (at_row (λ q u. read_at (c.before.before.before.before.before.before.before.before.before.before.before.before.before.before.before.before.before.before.before.before.before.before.before.before.before.before.args.depth - 1) tab s q u) q₂.given.0.0 (c.before.before.before.before.before.before.before.before.before.before.type-at.ensures names) c.before.before.before.before.before.before.before.value.ensures) c.before.e.given.1))))
 
 each-member-enum-known-a : (t : ℕ) → each-member-lts.Need-enum-known-a (each-member-calls t) (each-member-at t) Each-member.Post each-member-Inv-loop each-member-μ-loop
 each-member-enum-known-a t c = search rules
@@ -680,14 +680,14 @@ each-member-add-n-2 t c =
     let names = c.before.before.before.before.before.before.before.before.before.before.before.before.before.before.before.before.before.before.before.before.before.before.before.before.before.before.before.args.names.now in
     let loop = c.before.before.before.before.before.before.before.before.before.before.before.before.before.before.before.before.before.before.before.before.loop in
     let entry = c.before.before.before.before.before.before.before.before.before.before.before.before.before.before.before.before.before.before.before.before.before.before.before.before.before.before.before in
-    omega (arith, (passed (at_row (λ q u. readAt (c.before.before.before.before.before.before.before.before.before.before.before.before.before.before.before.before.before.before.before.before.before.before.before.before.before.before.before.args.depth - 1) (table c.before.before.before.before.before.before.before.before.before.before.before.before.before.before.before.before.before.before.before.before.before.before.before.before.before.before.before.args.types.now names) c.before.before.before.before.before.before.before.before.before.before.before.before.before.before.before.before.before.before.before.before.before.before.before.before.before.before.before.args.s.now q u) c.before.before.before.before.before.before.before.before.before.before.before.before.before.q.given.0.0 (c.before.before.before.before.before.before.before.before.before.before.before.type-at.ensures names) c.before.before.before.before.before.before.before.before.value.ensures) c.before.before.a.given.1).fewRows, loop.invariant.2.done.sofar.fewRows, loop.invariant.1, c.before.before.before.before.before.before.before.before.before.before.before.before.before.before.before.before.before.before.before.loop-test.true)
+    omega (arith, (passed (at_row (λ q u. read_at (c.before.before.before.before.before.before.before.before.before.before.before.before.before.before.before.before.before.before.before.before.before.before.before.before.before.before.before.args.depth - 1) (table c.before.before.before.before.before.before.before.before.before.before.before.before.before.before.before.before.before.before.before.before.before.before.before.before.before.before.before.args.types.now names) c.before.before.before.before.before.before.before.before.before.before.before.before.before.before.before.before.before.before.before.before.before.before.before.before.before.before.before.args.s.now q u) c.before.before.before.before.before.before.before.before.before.before.before.before.before.q.given.0.0 (c.before.before.before.before.before.before.before.before.before.before.before.type-at.ensures names) c.before.before.before.before.before.before.before.before.value.ensures) c.before.before.a.given.1).few_rows, loop.invariant.2.done.sofar.few_rows, loop.invariant.1, c.before.before.before.before.before.before.before.before.before.before.before.before.before.before.before.before.before.before.before.loop-test.true)
 
 each-member-add-m : (t : ℕ) → each-member-lts.Need-overflow-add-m (each-member-calls t) (each-member-at t) Each-member.Post each-member-Inv-loop each-member-μ-loop
 each-member-add-m t c =
     let names = c.before.before.before.before.before.before.before.before.before.before.before.before.before.before.before.before.before.before.before.before.before.before.before.before.before.before.before.args.names.now in
     let loop = c.before.before.before.before.before.before.before.before.before.before.before.before.before.before.before.before.before.before.before.before.loop in
     let entry = c.before.before.before.before.before.before.before.before.before.before.before.before.before.before.before.before.before.before.before.before.before.before.before.before.before.before.before in
-    omega (arith, (passed (at_row (λ q u. readAt (c.before.before.before.before.before.before.before.before.before.before.before.before.before.before.before.before.before.before.before.before.before.before.before.before.before.before.before.args.depth - 1) (table c.before.before.before.before.before.before.before.before.before.before.before.before.before.before.before.before.before.before.before.before.before.before.before.before.before.before.before.args.types.now names) c.before.before.before.before.before.before.before.before.before.before.before.before.before.before.before.before.before.before.before.before.before.before.before.before.before.before.before.args.s.now q u) c.before.before.before.before.before.before.before.before.before.before.before.before.before.q.given.0.0 (c.before.before.before.before.before.before.before.before.before.before.before.type-at.ensures names) c.before.before.before.before.before.before.before.before.value.ensures) c.before.before.a.given.1).fewBytes, loop.invariant.2.done.sofar.fewBytes, loop.invariant.1, c.before.before.before.before.before.before.before.before.before.before.before.before.before.before.before.before.before.before.before.loop-test.true)
+    omega (arith, (passed (at_row (λ q u. read_at (c.before.before.before.before.before.before.before.before.before.before.before.before.before.before.before.before.before.before.before.before.before.before.before.before.before.before.before.args.depth - 1) (table c.before.before.before.before.before.before.before.before.before.before.before.before.before.before.before.before.before.before.before.before.before.before.before.before.before.before.before.args.types.now names) c.before.before.before.before.before.before.before.before.before.before.before.before.before.before.before.before.before.before.before.before.before.before.before.before.before.before.before.args.s.now q u) c.before.before.before.before.before.before.before.before.before.before.before.before.before.q.given.0.0 (c.before.before.before.before.before.before.before.before.before.before.before.type-at.ensures names) c.before.before.before.before.before.before.before.before.value.ensures) c.before.before.a.given.1).few_bytes, loop.invariant.2.done.sofar.few_bytes, loop.invariant.1, c.before.before.before.before.before.before.before.before.before.before.before.before.before.before.before.before.before.before.before.loop-test.true)
 
 each-member-add-k-2 : (t : ℕ) → each-member-lts.Need-overflow-add-k-2 (each-member-calls t) (each-member-at t) Each-member.Post each-member-Inv-loop each-member-μ-loop
 each-member-add-k-2 t c = search rules
@@ -706,9 +706,9 @@ each-member-loop-again-2 t c =
     let q₂ = c.before.before.before.before.before.before.before.before.before.before.before.before.before.q in
     let value₂ = c.before.before.before.before.before.before.before.before.value in
     let entry = c.before.before.before.before.before.before.before.before.before.before.before.before.before.before.before.before.before.before.before.before.before.before.before.before.before.before.before in
-    let there = at_row (λ q u. readAt (c.before.before.before.before.before.before.before.before.before.before.before.before.before.before.before.before.before.before.before.before.before.before.before.before.before.before.before.args.depth - 1) tab s q u) q₂.given.0.0 (c.before.before.before.before.before.before.before.before.before.before.before.type-at.ensures names) value₂.ensures in
+    let there = at_row (λ q u. read_at (c.before.before.before.before.before.before.before.before.before.before.before.before.before.before.before.before.before.before.before.before.before.before.before.before.before.before.before.args.depth - 1) tab s q u) q₂.given.0.0 (c.before.before.before.before.before.before.before.before.before.before.before.type-at.ensures names) value₂.ensures in
     let went = passed there c.before.before.a.given.1 in
-    (loop-inv, loop.invariant.1, order-more (λ q u. readAt (c.before.before.before.before.before.before.before.before.before.before.before.before.before.before.before.before.before.before.before.before.before.before.before.before.before.before.before.args.depth - 1) tab s q u) tab s c.before.before.before.before.before.before.before.before.before.before.before.before.before.before.before.before.before.before.before.before.before.before.before.before.before.before.before.args.row c.before.before.before.before.before.before.before.before.before.before.before.before.before.before.before.before.before.before.before.before.before.before.before.before.before.before.before.args.place c.before.before.before.before.before.before.before.before.before.before.before.before.before.before.before.before.before.before.before.before.before.before.before.before.before.before.before.args.met c.before.before.before.before.before.before.before.before.before.before.before.before.before.before.before.before.before.before.before.before.before.before.before.before.before.before.before.args.t6 loop.invariant.2 (rw (← loop-inv) c.before.before.before.before.before.before.before.before.before.before.before.before.before.before.before.before.before.before.before.loop-test.true) (sym q₂.given.1 ∙ member_is tab s c.before.before.before.before.before.before.before.before.before.before.before.before.before.before.before.before.before.before.before.before.before.before.before.before.before.before.before.args.row loop.k c.before.before.before.before.before.before.before.before.before.before.before.before.before.before.before.before.before.before.before.before.before.before.before.before.before.before.before.args.met c.before.before.before.before.before.before.before.before.before.before.before.before.before.before.before.before.before.before.before.before.before.before.before.before.before.before.before.args.t6 c.before.before.before.before.before.before.before.before.before.before.before.before.before.before.before.before.before.before.wide.ensures.0 c.before.before.before.before.before.before.before.before.before.before.before.before.before.before.before.before.before.wide2.ensures.0 c.before.before.before.before.before.before.before.before.before.before.before.before.before.before.before.before.bit.ensures (c.before.before.before.before.before.before.before.before.before.before.before.before.before.before.before.member-found.ensures names)) went.took there.stepped went.fewRows went.fewBytes value₂.auto.1.1.1.0 value₂.auto.1.1.1.1.0 c.with.ensures, omega (arith, loop-test-yes))
+    (loop-inv, loop.invariant.1, order_more (λ q u. read_at (c.before.before.before.before.before.before.before.before.before.before.before.before.before.before.before.before.before.before.before.before.before.before.before.before.before.before.before.args.depth - 1) tab s q u) tab s c.before.before.before.before.before.before.before.before.before.before.before.before.before.before.before.before.before.before.before.before.before.before.before.before.before.before.before.args.row c.before.before.before.before.before.before.before.before.before.before.before.before.before.before.before.before.before.before.before.before.before.before.before.before.before.before.before.args.place c.before.before.before.before.before.before.before.before.before.before.before.before.before.before.before.before.before.before.before.before.before.before.before.before.before.before.before.args.met c.before.before.before.before.before.before.before.before.before.before.before.before.before.before.before.before.before.before.before.before.before.before.before.before.before.before.before.args.t6 loop.invariant.2 (rw (← loop-inv) c.before.before.before.before.before.before.before.before.before.before.before.before.before.before.before.before.before.before.before.loop-test.true) (sym q₂.given.1 ∙ member_is tab s c.before.before.before.before.before.before.before.before.before.before.before.before.before.before.before.before.before.before.before.before.before.before.before.before.before.before.before.args.row loop.k c.before.before.before.before.before.before.before.before.before.before.before.before.before.before.before.before.before.before.before.before.before.before.before.before.before.before.before.args.met c.before.before.before.before.before.before.before.before.before.before.before.before.before.before.before.before.before.before.before.before.before.before.before.before.before.before.before.args.t6 c.before.before.before.before.before.before.before.before.before.before.before.before.before.before.before.before.before.before.wide.ensures.0 c.before.before.before.before.before.before.before.before.before.before.before.before.before.before.before.before.before.wide2.ensures.0 c.before.before.before.before.before.before.before.before.before.before.before.before.before.before.before.before.bit.ensures (c.before.before.before.before.before.before.before.before.before.before.before.before.before.before.before.member-found.ensures names)) went.took there.stepped went.few_rows went.few_bytes value₂.auto.1.1.1.0 value₂.auto.1.1.1.1.0 c.with.ensures, omega (arith, loop-test-yes))
 
 each-member-ones-requires : (t : ℕ) → each-member-lts.Need-ones-requires (each-member-calls t) (each-member-at t) Each-member.Post each-member-Inv-loop each-member-μ-loop
 each-member-ones-requires t c κs = search rules
@@ -716,7 +716,7 @@ each-member-ones-requires t c κs = search rules
 each-member-close-requires : (t : ℕ) → each-member-lts.Need-close-requires (each-member-calls t) (each-member-at t) Each-member.Post each-member-Inv-loop each-member-μ-loop
 each-member-close-requires t c κs =
     let c₁₀ = c.before.before.before.before.before.before.before.before.before.before in
-    (omega (arith, c.before.before.before.before.before.before.before.before.before.before.requires.1.0.rowRoom), omega (arith, c.before.before.before.loop.invariant.2.done.sofar.fewRows, c.before.before.before.loop.invariant.3, c.before.before.before.loop.invariant.1))
+    (omega (arith, c.before.before.before.before.before.before.before.before.before.before.requires.1.0.row_room), omega (arith, c.before.before.before.loop.invariant.2.done.sofar.few_rows, c.before.before.before.loop.invariant.3, c.before.before.before.loop.invariant.1))
 
 each-member-same-length-5 : (t : ℕ) → each-member-lts.Need-same-length-5 (each-member-calls t) (each-member-at t) Each-member.Post each-member-Inv-loop each-member-μ-loop
 each-member-same-length-5 t c = search rules
@@ -730,10 +730,10 @@ each-member-returns-3 t c =
     let loop = c.before.before.before.before.before.before.loop in
     let entry = c.before.before.before.before.before.before.before.before.before.before.before.before.before in
     let tab = table c.before.before.before.before.before.before.before.before.before.before.before.before.before.args.types.now c.before.before.before.before.before.before.before.before.before.before.before.before.before.args.names.now in
-    along (over-ok tab c.before.before.before.before.before.before.before.before.before.before.before.before.before.args.row (object-ok (λ q u. readAt (c.before.before.before.before.before.before.before.before.before.before.before.before.before.args.depth - 1) tab s q u) tab s c.before.before.before.before.before.before.before.before.before.before.before.before.before.args.row c.before.before.before.before.before.before.before.before.before.before.before.before.before.args.place c.before.before.before.before.before.before.before.before.before.before.before.before.before.args.met c.before.before.before.before.before.before.before.before.before.before.before.before.before.args.t6 (order-end (λ q u. readAt (c.before.before.before.before.before.before.before.before.before.before.before.before.before.args.depth - 1) tab s q u) tab s c.before.before.before.before.before.before.before.before.before.before.before.before.before.args.row c.before.before.before.before.before.before.before.before.before.before.before.before.before.args.place c.before.before.before.before.before.before.before.before.before.before.before.before.before.args.met c.before.before.before.before.before.before.before.before.before.before.before.before.before.args.t6 loop.invariant.2 (omega (arith, loop.invariant.0, c.before.before.before.before.before.loop-test.false))))) (closed (whole-seq loop.invariant.2.done.sofar c.before.before.before.before.before.before.before.before.before.before.before.before.before.requires.1.1.2 loop.invariant.2.done.members (c.before.before.before.ones.ensures ∙ loop.invariant.2.done.count)) c.before.before.before.before.before.before.before.before.before.before.before.before.before.requires.1.1.1 c.before.before.close.ensures.0 c.before.before.close.ensures.1)
+    along (over-ok tab c.before.before.before.before.before.before.before.before.before.before.before.before.before.args.row (object-ok (λ q u. read_at (c.before.before.before.before.before.before.before.before.before.before.before.before.before.args.depth - 1) tab s q u) tab s c.before.before.before.before.before.before.before.before.before.before.before.before.before.args.row c.before.before.before.before.before.before.before.before.before.before.before.before.before.args.place c.before.before.before.before.before.before.before.before.before.before.before.before.before.args.met c.before.before.before.before.before.before.before.before.before.before.before.before.before.args.t6 (order_end (λ q u. read_at (c.before.before.before.before.before.before.before.before.before.before.before.before.before.args.depth - 1) tab s q u) tab s c.before.before.before.before.before.before.before.before.before.before.before.before.before.args.row c.before.before.before.before.before.before.before.before.before.before.before.before.before.args.place c.before.before.before.before.before.before.before.before.before.before.before.before.before.args.met c.before.before.before.before.before.before.before.before.before.before.before.before.before.args.t6 loop.invariant.2 (omega (arith, loop.invariant.0, c.before.before.before.before.before.loop-test.false))))) (closed (whole_seq loop.invariant.2.done.sofar c.before.before.before.before.before.before.before.before.before.before.before.before.before.requires.1.1.2 loop.invariant.2.done.members (c.before.before.before.ones.ensures ∙ loop.invariant.2.done.count)) c.before.before.before.before.before.before.before.before.before.before.before.before.before.requires.1.1.1 c.before.before.close.ensures.0 c.before.before.close.ensures.1)
 
 abbrev list-Inv-loop : list-lts.invariant-loop
-list-Inv-loop types names s rows₀ pool₀ row place slot offset depth t next₀ count₀ n₀ m₀ rows pool next count n m = (t ≡ elementOf (table types names) row) × Near (65539 + depth) next × Loop (λ q. readAt (depth - 1) (table types names) s (elementOf (table types names) row) q) s (table types names) (elementOf (table types names) row) (itemsAt (λ q. readAt (depth - 1) (table types names) s (elementOf (table types names) row) q) s (length s) (firstPart s 0x5D place)) next slot offset n m count rows rows₀ pool pool₀
+list-Inv-loop types names s rows₀ pool₀ row place slot offset depth t next₀ count₀ n₀ m₀ rows pool next count n m = (t ≡ element_of (table types names) row) × Near (65539 + depth) next × Loop (λ q. read_at (depth - 1) (table types names) s (element_of (table types names) row) q) s (table types names) (element_of (table types names) row) (items_at (λ q. read_at (depth - 1) (table types names) s (element_of (table types names) row) q) s (length s) (first_part s 0x5D place)) next slot offset n m count rows rows₀ pool pool₀
 
 abbrev list-μ-loop : list-lts.decreases-loop
 list-μ-loop types names s rows₀ pool₀ row place slot offset depth t next₀ count₀ n₀ m₀ rows pool next count n m = length s - count
@@ -753,8 +753,8 @@ list-loop-holds t c =
     let first = c.first_part.result in
     let first-part-said = c.first_part.ensures in
     let entry = c.before.before.before.before.before.before.before in
-    let elementOf' = elementOf tab c.before.before.before.before.before.before.before.args.row in
-    (c.before.element-of.ensures names, near_first s 0x5D c.before.before.before.before.before.before.before.args.place (65539 + d) first c.before.before.before.before.before.before.before.requires.1.0.short c.before.before.before.before.before.before.before.requires.1.1.0 (omega (arith, c.before.before.before.before.before.before.before.requires.1.1.1)) first-part-said, loop-start (λ q. readAt (d - 1) tab s elementOf' q) s tab elementOf' (firstPart s 0x5D c.before.before.before.before.before.before.before.args.place) first c.before.before.before.before.before.before.before.args.slot c.before.before.before.before.before.before.before.args.offset c.before.before.before.before.before.before.before.args.rows.now c.before.before.before.before.before.before.before.args.pool.now first-part-said)
+    let elementOf' = element_of tab c.before.before.before.before.before.before.before.args.row in
+    (c.before.element-of.ensures names, near_first s 0x5D c.before.before.before.before.before.before.before.args.place (65539 + d) first c.before.before.before.before.before.before.before.requires.1.0.short c.before.before.before.before.before.before.before.requires.1.1.0 (omega (arith, c.before.before.before.before.before.before.before.requires.1.1.1)) first-part-said, loop_start (λ q. read_at (d - 1) tab s elementOf' q) s tab elementOf' (first_part s 0x5D c.before.before.before.before.before.before.before.args.place) first c.before.before.before.before.before.before.before.args.slot c.before.before.before.before.before.before.before.args.offset c.before.before.before.before.before.before.before.args.rows.now c.before.before.before.before.before.before.before.args.pool.now first-part-said)
 
 list-enum-known-next : (t : ℕ) → list-lts.Need-enum-known-next (list-calls t) (list_at t) list.Post list-Inv-loop list-μ-loop
 list-enum-known-next t c = search rules
@@ -779,7 +779,7 @@ list-returns t c =
     let here = c.before.before.before.before.before.before.next.given.1 in
     let entry = c.before.before.before.before.before.before.before.before.before.before.before.before.before.before.before.before in
     let tab = table c.before.before.before.before.before.before.before.before.before.before.before.before.before.before.before.before.args.types.now c.before.before.before.before.before.before.before.before.before.before.before.before.before.before.before.before.args.names.now in
-    along (over-ok tab c.before.before.before.before.before.before.before.before.before.before.before.before.before.before.before.before.args.row (list-ok (λ q u. readAt (d - 1) tab s q u) tab s c.before.before.before.before.before.before.before.before.before.before.before.before.before.before.before.before.args.row c.before.before.before.before.before.before.before.before.before.before.before.before.before.before.before.before.args.place (loop-shut loop.invariant.2 here))) (closed (whole-list loop.invariant.2.sofar c.before.before.before.before.before.before.before.before.before.before.before.before.before.before.before.before.requires.1.1.2 loop.invariant.2.items (c.before.before.before.narrow.ensures (omega (arith, c.before.before.before.before.before.before.before.before.before.before.before.before.before.before.before.before.requires.1.0.short, loop.invariant.2.few)))) (omega (arith, c.before.before.before.before.before.before.before.before.before.before.before.before.before.before.before.before.requires.1.1.0, near-shut (65539 + d) here loop.invariant.1)) c.before.before.close.ensures.0 c.before.before.close.ensures.1)
+    along (over-ok tab c.before.before.before.before.before.before.before.before.before.before.before.before.before.before.before.before.args.row (list-ok (λ q u. read_at (d - 1) tab s q u) tab s c.before.before.before.before.before.before.before.before.before.before.before.before.before.before.before.before.args.row c.before.before.before.before.before.before.before.before.before.before.before.before.before.before.before.before.args.place (loop_shut loop.invariant.2 here))) (closed (whole-list loop.invariant.2.sofar c.before.before.before.before.before.before.before.before.before.before.before.before.before.before.before.before.requires.1.1.2 loop.invariant.2.items (c.before.before.before.narrow.ensures (omega (arith, c.before.before.before.before.before.before.before.before.before.before.before.before.before.before.before.before.requires.1.0.short, loop.invariant.2.few)))) (omega (arith, c.before.before.before.before.before.before.before.before.before.before.before.before.before.before.before.before.requires.1.1.0, near-shut (65539 + d) here loop.invariant.1)) c.before.before.close.ensures.0 c.before.before.close.ensures.1)
 
 list-enum-known-next-2 : (t : ℕ) → list-lts.Need-enum-known-next-2 (list-calls t) (list_at t) list.Post list-Inv-loop list-μ-loop
 list-enum-known-next-2 t c = search rules
@@ -804,7 +804,7 @@ list-returns-2 t c =
     let here = c.before.before.before.before.before.before.before.next2.given.1 in
     let entry = c.before.before.before.before.before.before.before.before.before.before.before.before.before.before.before.before.before in
     let tab = table c.before.before.before.before.before.before.before.before.before.before.before.before.before.before.before.before.before.args.types.now c.before.before.before.before.before.before.before.before.before.before.before.before.before.before.before.before.before.args.names.now in
-    along (over-ok tab c.before.before.before.before.before.before.before.before.before.before.before.before.before.before.before.before.before.args.row (list-ok (λ q u. readAt (d - 1) tab s q u) tab s c.before.before.before.before.before.before.before.before.before.before.before.before.before.before.before.before.before.args.row c.before.before.before.before.before.before.before.before.before.before.before.before.before.before.before.before.before.args.place (loop-full loop.invariant.2 here c.before.before.before.before.before.if1.true))) (closed (whole-list loop.invariant.2.sofar c.before.before.before.before.before.before.before.before.before.before.before.before.before.before.before.before.before.requires.1.1.2 loop.invariant.2.items (c.before.before.before.narrow2.ensures (omega (arith, c.before.before.before.before.before.before.before.before.before.before.before.before.before.before.before.before.before.requires.1.0.short, loop.invariant.2.few)))) (omega (arith, c.before.before.before.before.before.before.before.before.before.before.before.before.before.before.before.before.before.requires.1.1.0, near-part (65539 + d) here loop.invariant.1)) c.before.before.close2.ensures.0 c.before.before.close2.ensures.1)
+    along (over-ok tab c.before.before.before.before.before.before.before.before.before.before.before.before.before.before.before.before.before.args.row (list-ok (λ q u. read_at (d - 1) tab s q u) tab s c.before.before.before.before.before.before.before.before.before.before.before.before.before.before.before.before.before.args.row c.before.before.before.before.before.before.before.before.before.before.before.before.before.before.before.before.before.args.place (loop_full loop.invariant.2 here c.before.before.before.before.before.if1.true))) (closed (whole-list loop.invariant.2.sofar c.before.before.before.before.before.before.before.before.before.before.before.before.before.before.before.before.before.requires.1.1.2 loop.invariant.2.items (c.before.before.before.narrow2.ensures (omega (arith, c.before.before.before.before.before.before.before.before.before.before.before.before.before.before.before.before.before.requires.1.0.short, loop.invariant.2.few)))) (omega (arith, c.before.before.before.before.before.before.before.before.before.before.before.before.before.before.before.before.before.requires.1.1.0, near_part (65539 + d) here loop.invariant.1)) c.before.before.close2.ensures.0 c.before.before.close2.ensures.1)
 
 list-add-value : (t : ℕ) → list-lts.Need-overflow-add-value (list-calls t) (list_at t) list.Post list-Inv-loop list-μ-loop
 list-add-value t c = search rules
@@ -823,7 +823,7 @@ list-value-requires t c κs =
     let loop = c.before.before.before.before.before.before.loop in
     let entry = c.before.before.before.before.before.before.before.before.before.before.before.before.before.before in
     let if1-no = c.before.before.if1.false in
-    (omega arith, given-part c.before.before.before.before.before.before.before.before.before.before.before.before.before.before.requires.1.0 c.before.before.before.before.before.before.before.before.before.before.before.before.before.before.requires.1.1.1 (rw loop.invariant.0 (c.before.before.before.before.before.before.before.before.before.before.before.before.before.before.requires.1.0.sane.element c.before.before.before.before.before.before.before.before.before.before.before.before.before.before.args.row c.before.before.before.before.before.before.before.before.before.before.before.before.before.before.requires.1.1.2)) (omega (arith, near-part (65539 + c.before.before.before.before.before.before.before.before.before.before.before.before.before.before.args.depth) c.before.before.before.before.next2.given.1 loop.invariant.1)) (omega (arith, loop.invariant.2.sofar.fewRows, if1-no, c.before.before.before.before.before.before.before.before.before.before.before.before.before.before.requires.1.0.short)) (omega (arith, loop.invariant.2.sofar.fewBytes, if1-no, c.before.before.before.before.before.before.before.before.before.before.before.before.before.before.requires.1.0.short)))
+    (omega arith, given_part c.before.before.before.before.before.before.before.before.before.before.before.before.before.before.requires.1.0 c.before.before.before.before.before.before.before.before.before.before.before.before.before.before.requires.1.1.1 (rw loop.invariant.0 (c.before.before.before.before.before.before.before.before.before.before.before.before.before.before.requires.1.0.sane.element c.before.before.before.before.before.before.before.before.before.before.before.before.before.before.args.row c.before.before.before.before.before.before.before.before.before.before.before.before.before.before.requires.1.1.2)) (omega (arith, near_part (65539 + c.before.before.before.before.before.before.before.before.before.before.before.before.before.before.args.depth) c.before.before.before.before.next2.given.1 loop.invariant.1)) (omega (arith, loop.invariant.2.sofar.few_rows, if1-no, c.before.before.before.before.before.before.before.before.before.before.before.before.before.before.requires.1.0.short)) (omega (arith, loop.invariant.2.sofar.few_bytes, if1-no, c.before.before.before.before.before.before.before.before.before.before.before.before.before.before.requires.1.0.short)))
 
 list-enum-known-e : (t : ℕ) → list-lts.Need-enum-known-e (list-calls t) (list_at t) list.Post list-Inv-loop list-μ-loop
 list-enum-known-e t c = search rules
@@ -840,7 +840,7 @@ list-returns-3 t c =
     let loop = c.before.before.before.before.before.before.before.before.before.before.before.before.before.before.loop in
     let next2 = c.before.before.before.before.before.before.before.before.before.before.before.before.next2 in
     let tab = table c.before.before.before.before.before.before.before.before.before.before.before.before.before.before.before.before.before.before.before.before.before.before.args.types.now c.before.before.before.before.before.before.before.before.before.before.before.before.before.before.before.before.before.before.before.before.before.before.args.names.now in
-    reads-no (over_no tab c.before.before.before.before.before.before.before.before.before.before.before.before.before.before.before.before.before.before.before.before.before.before.args.row (list-no (λ q u. readAt (c.before.before.before.before.before.before.before.before.before.before.before.before.before.before.before.before.before.before.before.before.before.before.args.depth - 1) tab s q u) tab s c.before.before.before.before.before.before.before.before.before.before.before.before.before.before.before.before.before.before.before.before.before.before.args.row c.before.before.before.before.before.before.before.before.before.before.before.before.before.before.before.before.before.before.before.before.before.before.args.place (loop-refused loop.invariant.2 next2.given.1 c.before.before.before.before.before.before.before.before.before.before.if1.false (failed (at_row (λ q u. readAt (c.before.before.before.before.before.before.before.before.before.before.before.before.before.before.before.before.before.before.before.before.before.before.args.depth - 1) tab s q u) next2.given.0.0 loop.invariant.0 c.before.before.before.before.before.before.before.value.ensures) c.before.e.given.1))))
+    reads-no (over_no tab c.before.before.before.before.before.before.before.before.before.before.before.before.before.before.before.before.before.before.before.before.before.before.args.row (list-no (λ q u. read_at (c.before.before.before.before.before.before.before.before.before.before.before.before.before.before.before.before.before.before.before.before.before.before.args.depth - 1) tab s q u) tab s c.before.before.before.before.before.before.before.before.before.before.before.before.before.before.before.before.before.before.before.before.before.before.args.row c.before.before.before.before.before.before.before.before.before.before.before.before.before.before.before.before.before.before.before.before.before.before.args.place (loop_refused loop.invariant.2 next2.given.1 c.before.before.before.before.before.before.before.before.before.before.if1.false (failed (at_row (λ q u. read_at (c.before.before.before.before.before.before.before.before.before.before.before.before.before.before.before.before.before.before.before.before.before.before.args.depth - 1) tab s q u) next2.given.0.0 loop.invariant.0 c.before.before.before.before.before.before.before.value.ensures) c.before.e.given.1))))
 
 list-enum-known-end : (t : ℕ) → list-lts.Need-enum-known-end (list-calls t) (list_at t) list.Post list-Inv-loop list-μ-loop
 list-enum-known-end t c = search rules
@@ -848,16 +848,16 @@ list-enum-known-end t c = search rules
 list-after-part-requires : (t : ℕ) → list-lts.Need-after-part-requires (list-calls t) (list_at t) list.Post list-Inv-loop list-μ-loop
 list-after-part-requires t c κs =
     let entry = c.before.before.before.before.before.before.before.before.before.before.before.before.before.before.before.before.before.before.before.before.before.before in
-    (c.before.before.before.before.before.before.before.before.before.before.before.before.before.before.before.before.before.before.before.before.before.before.requires.1.0.short, omega (arith, (passed c.before.before.before.before.before.before.before.value.ensures c.before.end.given.1).near, near-part (65539 + c.before.before.before.before.before.before.before.before.before.before.before.before.before.before.before.before.before.before.before.before.before.before.args.depth) c.before.before.before.before.before.before.before.before.before.before.before.before.next2.given.1 c.before.before.before.before.before.before.before.before.before.before.before.before.before.before.loop.invariant.1, c.before.before.before.before.before.before.before.before.before.before.before.before.before.before.before.before.before.before.before.before.before.before.requires.1.0.rowRoom))
+    (c.before.before.before.before.before.before.before.before.before.before.before.before.before.before.before.before.before.before.before.before.before.before.requires.1.0.short, omega (arith, (passed c.before.before.before.before.before.before.before.value.ensures c.before.end.given.1).near, near_part (65539 + c.before.before.before.before.before.before.before.before.before.before.before.before.before.before.before.before.before.before.before.before.before.before.args.depth) c.before.before.before.before.before.before.before.before.before.before.before.before.next2.given.1 c.before.before.before.before.before.before.before.before.before.before.before.before.before.before.loop.invariant.1, c.before.before.before.before.before.before.before.before.before.before.before.before.before.before.before.before.before.before.before.before.before.before.requires.1.0.row_room))
 
 list-add-count : (t : ℕ) → list-lts.Need-overflow-add-count (list-calls t) (list_at t) list.Post list-Inv-loop list-μ-loop
 list-add-count t c = omega (arith, c.before.before.before.before.before.before.before.before.before.before.before.if1.false, c.before.before.before.before.before.before.before.before.before.before.before.before.before.before.before.before.before.before.before.before.before.before.before.requires.1.0.short)
 
 list-add-n : (t : ℕ) → list-lts.Need-overflow-add-n (list-calls t) (list_at t) list.Post list-Inv-loop list-μ-loop
-list-add-n t c = omega (arith, (passed c.before.before.before.before.before.before.before.before.value.ensures c.before.before.end.given.1).fewRows, c.before.before.before.before.before.before.before.before.before.before.before.before.before.before.before.loop.invariant.2.sofar.fewRows, c.before.before.before.before.before.before.before.before.before.before.before.if1.false, c.before.before.before.before.before.before.before.before.before.before.before.before.before.before.before.before.before.before.before.before.before.before.before.requires.1.0.short)
+list-add-n t c = omega (arith, (passed c.before.before.before.before.before.before.before.before.value.ensures c.before.before.end.given.1).few_rows, c.before.before.before.before.before.before.before.before.before.before.before.before.before.before.before.loop.invariant.2.sofar.few_rows, c.before.before.before.before.before.before.before.before.before.before.before.if1.false, c.before.before.before.before.before.before.before.before.before.before.before.before.before.before.before.before.before.before.before.before.before.before.before.requires.1.0.short)
 
 list-add-m : (t : ℕ) → list-lts.Need-overflow-add-m (list-calls t) (list_at t) list.Post list-Inv-loop list-μ-loop
-list-add-m t c = omega (arith, (passed c.before.before.before.before.before.before.before.before.value.ensures c.before.before.end.given.1).fewBytes, c.before.before.before.before.before.before.before.before.before.before.before.before.before.before.before.loop.invariant.2.sofar.fewBytes, c.before.before.before.before.before.before.before.before.before.before.before.if1.false, c.before.before.before.before.before.before.before.before.before.before.before.before.before.before.before.before.before.before.before.before.before.before.before.requires.1.0.short)
+list-add-m t c = omega (arith, (passed c.before.before.before.before.before.before.before.before.value.ensures c.before.before.end.given.1).few_bytes, c.before.before.before.before.before.before.before.before.before.before.before.before.before.before.before.loop.invariant.2.sofar.few_bytes, c.before.before.before.before.before.before.before.before.before.before.before.if1.false, c.before.before.before.before.before.before.before.before.before.before.before.before.before.before.before.before.before.before.before.before.before.before.before.requires.1.0.short)
 
 list-loop-less : (t : ℕ) → list-lts.Need-loop-smaller (list-calls t) (list_at t) list.Post list-Inv-loop list-μ-loop
 list-loop-less t c = search rules
@@ -870,13 +870,13 @@ list-loop-again t c =
     let loop-inv = loop.invariant.0 in
     let value₂ = c.before.before.before.before.before.before.before.before.value in
     let it = 65539 + d in
-    let after-part-said = c.after-part.ensures in
+    let after-part-said = c.after_part_lem.ensures in
     let next2 = c.before.before.before.before.before.before.before.before.before.before.before.before.before.next2 in
     let entry = c.before.before.before.before.before.before.before.before.before.before.before.before.before.before.before.before.before.before.before.before.before.before.before in
     let end = c.before.before.end.given.1 in
     let here = next2.given.1 in
-    let there = at_row (λ q u. readAt (d - 1) (table c.before.before.before.before.before.before.before.before.before.before.before.before.before.before.before.before.before.before.before.before.before.before.before.args.types.now c.before.before.before.before.before.before.before.before.before.before.before.before.before.before.before.before.before.before.before.before.before.before.before.args.names.now) s q u) next2.given.0.0 loop-inv value₂.ensures in
-    (loop-inv, near-after s c.before.before.end.given.0.0 it c.after-part.result c.before.before.before.before.before.before.before.before.before.before.before.before.before.before.before.before.before.before.before.before.before.before.before.requires.1.0.short (omega (arith, (passed value₂.ensures end).near, near-part it here loop.invariant.1, c.before.before.before.before.before.before.before.before.before.before.before.before.before.before.before.before.before.before.before.before.before.before.before.requires.1.1.1)) (omega arith) after-part-said, loop-more loop.invariant.2 here c.before.before.before.before.before.before.before.before.before.before.before.if1.false (passed there end).took there.stepped (passed value₂.ensures end).fewRows (passed value₂.ensures end).fewBytes value₂.auto.1.1.1.0 value₂.auto.1.1.1.1.0 after-part-said)
+    let there = at_row (λ q u. read_at (d - 1) (table c.before.before.before.before.before.before.before.before.before.before.before.before.before.before.before.before.before.before.before.before.before.before.before.args.types.now c.before.before.before.before.before.before.before.before.before.before.before.before.before.before.before.before.before.before.before.before.before.before.before.args.names.now) s q u) next2.given.0.0 loop-inv value₂.ensures in
+    (loop-inv, near-after s c.before.before.end.given.0.0 it c.after_part_lem.result c.before.before.before.before.before.before.before.before.before.before.before.before.before.before.before.before.before.before.before.before.before.before.before.requires.1.0.short (omega (arith, (passed value₂.ensures end).near, near_part it here loop.invariant.1, c.before.before.before.before.before.before.before.before.before.before.before.before.before.before.before.before.before.before.before.before.before.before.before.requires.1.1.1)) (omega arith) after-part-said, loop_more loop.invariant.2 here c.before.before.before.before.before.before.before.before.before.before.before.if1.false (passed there end).took there.stepped (passed value₂.ensures end).few_rows (passed value₂.ensures end).few_bytes value₂.auto.1.1.1.0 value₂.auto.1.1.1.1.0 after-part-said)
 
 object-sub-scan : (t : ℕ) → object-lts.Need-overflow-sub-scan (object_calls t) (object-at t) object.Post
 object-sub-scan t c = search rules
@@ -897,16 +897,16 @@ object-each-member-requires t c κs =
     let entry = c.before.before.before.before.before.before.before.before.before.before.before.before in
     let pre = c.before.before.before.before.before.before.before.before.before.before.before.before.requires.1.1.1 in
     let it = c.before.before.before.before.before.before.before.before.before.before.before.before.requires.1.0.short in
-    let firstPart' = firstPart s 0x7D c.before.before.before.before.before.before.before.before.before.before.before.before.args.place in
+    let firstPart' = first_part s 0x7D c.before.before.before.before.before.before.before.before.before.before.before.before.args.place in
     let pre₂ = c.before.before.before.before.before.before.before.before.before.before.before.before.requires.1.1.0 in
-    (omega arith, (c.before.before.before.before.before.before.before.before.before.before.before.before.requires.1.0, (pre, omega (arith, scan-near (c.before.before.before.before.before.before.before.before.before.before.before.before.args.depth - 1) (table c.before.before.before.before.before.before.before.before.before.before.before.before.args.types.now c.before.before.before.before.before.before.before.before.before.before.before.before.args.names.now) s c.before.before.before.before.before.before.before.before.before.before.before.before.args.row 65540 it (omega arith) (length s) firstPart' 0 noPlaces (near_first s 0x7D c.before.before.before.before.before.before.before.before.before.before.before.before.args.place 65540 firstPart' it c.before.before.before.before.before.before.before.before.before.before.before.before.requires.1.1.0 (omega arith) refl) c.before.before.before.end2.given.0.0 (sym c.before.before.before.end2.given.1 ∙ ap (λ (x : Scanned). x.end) scan.ensures), pre, pre₂, c.before.before.before.before.before.before.before.before.before.before.before.before.requires.1.0.short), c.before.before.before.before.before.before.before.before.before.before.before.before.requires.1.1.2)))
+    (omega arith, (c.before.before.before.before.before.before.before.before.before.before.before.before.requires.1.0, (pre, omega (arith, scan_near (c.before.before.before.before.before.before.before.before.before.before.before.before.args.depth - 1) (table c.before.before.before.before.before.before.before.before.before.before.before.before.args.types.now c.before.before.before.before.before.before.before.before.before.before.before.before.args.names.now) s c.before.before.before.before.before.before.before.before.before.before.before.before.args.row 65540 it (omega arith) (length s) firstPart' 0 no_places (near_first s 0x7D c.before.before.before.before.before.before.before.before.before.before.before.before.args.place 65540 firstPart' it c.before.before.before.before.before.before.before.before.before.before.before.before.requires.1.1.0 (omega arith) refl) c.before.before.before.end2.given.0.0 (sym c.before.before.before.end2.given.1 ∙ ap (λ (x : Scanned). x.end) scan.ensures), pre, pre₂, c.before.before.before.before.before.before.before.before.before.before.before.before.requires.1.0.short), c.before.before.before.before.before.before.before.before.before.before.before.before.requires.1.1.2)))
 
 object-returns : (t : ℕ) → object-lts.Need-returns (object_calls t) (object-at t) object.Post
 object-returns t c =
     let s = c.before.before.before.before.before.before.before.before.before.before.args.s.now in
     let scan = c.before.before.before.before.scan in
     let tab = table c.before.before.before.before.before.before.before.before.before.before.args.types.now c.before.before.before.before.before.before.before.before.before.before.args.names.now in
-    reads-no (over_no tab c.before.before.before.before.before.before.before.before.before.before.args.row (object-stopped (λ q u. readAt (c.before.before.before.before.before.before.before.before.before.before.args.depth - 1) tab s q u) (c.before.before.before.before.before.before.before.before.before.before.args.depth - 1) tab s c.before.before.before.before.before.before.before.before.before.before.args.row c.before.before.before.before.before.before.before.before.before.before.args.place c.before.end.given.1 scan.ensures))
+    reads-no (over_no tab c.before.before.before.before.before.before.before.before.before.before.args.row (object_stopped (λ q u. read_at (c.before.before.before.before.before.before.before.before.before.before.args.depth - 1) tab s q u) (c.before.before.before.before.before.before.before.before.before.before.args.depth - 1) tab s c.before.before.before.before.before.before.before.before.before.before.args.row c.before.before.before.before.before.before.before.before.before.before.args.place c.before.end.given.1 scan.ensures))
 
 object-same-length : (t : ℕ) → object-lts.Need-same-length (object_calls t) (object-at t) object.Post
 object-same-length t c = search rules
@@ -919,12 +919,12 @@ object-returns-2 t c =
     let s = c.before.before.before.before.before.before.before.before.before.before.before.before.before.before.before.before.before.args.s.now in
     let scan = c.before.before.before.before.before.before.before.before.before.before.before.scan in
     let tab = table c.before.before.before.before.before.before.before.before.before.before.before.before.before.before.before.before.before.args.types.now c.before.before.before.before.before.before.before.before.before.before.before.before.before.before.before.before.before.args.names.now in
-    along (ap (λ (x : Res (Got Val)). bind x (within tab c.before.before.before.before.before.before.before.before.before.before.before.before.before.before.before.before.before.args.row)) (object-scanned (λ q u. readAt (c.before.before.before.before.before.before.before.before.before.before.before.before.before.before.before.before.before.args.depth - 1) tab s q u) (c.before.before.before.before.before.before.before.before.before.before.before.before.before.before.before.before.before.args.depth - 1) tab s c.before.before.before.before.before.before.before.before.before.before.before.before.before.before.before.before.before.args.row c.before.before.before.before.before.before.before.before.before.before.before.before.before.before.before.before.before.args.place c.before.before.before.before.before.before.before.before.end2.given.1 scan.ensures)) c.before.before.before.before.Each-member.ensures
+    along (ap (λ (x : Res (Got Val)). bind x (within tab c.before.before.before.before.before.before.before.before.before.before.before.before.before.before.before.before.before.args.row)) (object-scanned (λ q u. read_at (c.before.before.before.before.before.before.before.before.before.before.before.before.before.before.before.before.before.args.depth - 1) tab s q u) (c.before.before.before.before.before.before.before.before.before.before.before.before.before.before.before.before.before.args.depth - 1) tab s c.before.before.before.before.before.before.before.before.before.before.before.before.before.before.before.before.before.args.row c.before.before.before.before.before.before.before.before.before.before.before.before.before.before.before.before.before.args.place c.before.before.before.before.before.before.before.before.end2.given.1 scan.ensures)) c.before.before.before.before.Each-member.ensures
 
 plain-leaf-requires : (t : ℕ) → plain-lts.Need-leaf-requires (plain-calls t) (plain_at t) plain.Post
 plain-leaf-requires t c κs =
     let entry = c.before.before.before.before.before.before.before.before in
-    (c.before.before.before.before.before.before.before.before.requires.1.0.short, λ h. omega (arith, string-code c.before.before.before.before.before.before.before.before.args.s.now c.before.before.before.before.before.before.before.before.args.place c.before.before.before.before.before.before.before.before.requires.1.1 h, c.before.before.before.before.before.before.before.before.requires.1.0.short), omega (arith, c.before.before.before.before.before.before.before.before.requires.1.0.rowRoom))
+    (c.before.before.before.before.before.before.before.before.requires.1.0.short, λ h. omega (arith, string-code c.before.before.before.before.before.before.before.before.args.s.now c.before.before.before.before.before.before.before.before.args.place c.before.before.before.before.before.before.before.before.requires.1.1 h, c.before.before.before.before.before.before.before.before.requires.1.0.short), omega (arith, c.before.before.before.before.before.before.before.before.requires.1.0.row_room))
 
 plain-bounded-requires : (t : ℕ) → plain-lts.Need-bounded-requires (plain-calls t) (plain_at t) plain.Post
 plain-bounded-requires t c κs = search rules
@@ -939,9 +939,9 @@ plain-returns : (t : ℕ) → plain-lts.Need-returns (plain-calls t) (plain_at t
 plain-returns t c =
     let s = c.before.before.before.before.before.before.before.before.before.before.before.before.before.before.args.s.now in
     let pre = c.before.before.before.before.before.before.before.before.before.before.before.before.before.before.requires.1.1 in
-    let tokenAt' = tokenAt s c.before.before.before.before.before.before.before.before.before.before.before.before.before.before.args.place in
+    let tokenAt' = token_at s c.before.before.before.before.before.before.before.before.before.before.before.before.before.before.args.place in
     let tab = table c.before.before.before.before.before.before.before.before.before.before.before.before.before.before.args.types.now c.before.before.before.before.before.before.before.before.before.before.before.before.before.before.args.names.now in
-    along (ap (λ (x : Res (Got Val)). bind x (within tab c.before.before.before.before.before.before.before.before.before.before.before.before.before.before.args.row)) (plain-leaf tab s c.before.before.before.before.before.before.before.before.before.before.before.before.before.before.args.row c.before.before.before.before.before.before.before.before.before.before.before.before.before.before.args.place c.before.before.before.before.before.before.before.before.before.before.before.before.before.before.args.depth tokenAt' (rw (← pre) c.before.before.before.before.before.before.before.before.if1.true))) (bounded-near c.before.before.before.before.before.before.before.before.before.before.before.before.before.before.args.place c.before.before.before.before.before.before.before.before.before.before.before.before.before.before.args.depth (bounded-reads (leafAt tab s tokenAt' c.before.before.before.before.before.before.before.before.before.before.before.before.before.before.args.row c.before.before.before.before.before.before.before.before.before.before.before.before.before.before.args.place) (c.before.before.before.before.before.leaf.ensures tokenAt' pre) c.bounded.ensures (λ g e. leaf-near tab s c.before.before.before.before.before.before.before.before.before.before.before.before.before.before.args.row c.before.before.before.before.before.before.before.before.before.before.before.before.before.before.args.place c.before.before.before.before.before.before.before.before.before.before.before.before.before.before.requires.1.0.short tokenAt' (λ h. token-inside s c.before.before.before.before.before.before.before.before.before.before.before.before.before.before.args.place (string-not s c.before.before.before.before.before.before.before.before.before.before.before.before.before.before.args.place h)) e)))
+    along (ap (λ (x : Res (Got Val)). bind x (within tab c.before.before.before.before.before.before.before.before.before.before.before.before.before.before.args.row)) (plain-leaf tab s c.before.before.before.before.before.before.before.before.before.before.before.before.before.before.args.row c.before.before.before.before.before.before.before.before.before.before.before.before.before.before.args.place c.before.before.before.before.before.before.before.before.before.before.before.before.before.before.args.depth tokenAt' (rw (← pre) c.before.before.before.before.before.before.before.before.if1.true))) (bounded-near c.before.before.before.before.before.before.before.before.before.before.before.before.before.before.args.place c.before.before.before.before.before.before.before.before.before.before.before.before.before.before.args.depth (bounded-reads (leaf_at tab s tokenAt' c.before.before.before.before.before.before.before.before.before.before.before.before.before.before.args.row c.before.before.before.before.before.before.before.before.before.before.before.before.before.before.args.place) (c.before.before.before.before.before.leaf.ensures tokenAt' pre) c.bounded.ensures (λ g e. leaf-near tab s c.before.before.before.before.before.before.before.before.before.before.before.before.before.before.args.row c.before.before.before.before.before.before.before.before.before.before.before.before.before.before.args.place c.before.before.before.before.before.before.before.before.before.before.before.before.before.before.requires.1.0.short tokenAt' (λ h. token-inside s c.before.before.before.before.before.before.before.before.before.before.before.before.before.before.args.place (string-not s c.before.before.before.before.before.before.before.before.before.before.before.before.before.before.args.place h)) e)))
 
 plain-refused-requires : (t : ℕ) → plain-lts.Need-refused-requires (plain-calls t) (plain_at t) plain.Post
 plain-refused-requires t c κs = search rules
@@ -950,7 +950,7 @@ plain-returns-2 : (t : ℕ) → plain-lts.Need-returns-2 (plain-calls t) (plain_
 plain-returns-2 t c =
     let s = c.before.before.before.before.before.before.before.before.args.s.now in
     let tab = table c.before.before.before.before.before.before.before.before.args.types.now c.before.before.before.before.before.before.before.before.args.names.now in
-    rw c.refused.ensures (reads-no (over_no tab c.before.before.before.before.before.before.before.before.args.row (plain-deep tab s c.before.before.before.before.before.before.before.before.args.row c.before.before.before.before.before.before.before.before.args.place c.before.before.before.before.before.before.before.before.args.depth (tokenAt s c.before.before.before.before.before.before.before.before.args.place) (rw (← c.before.before.before.before.before.before.before.before.requires.1.1) c.before.before.if1.false) c.before.if2.true)))
+    rw c.refused.ensures (reads-no (over_no tab c.before.before.before.before.before.before.before.before.args.row (plain-deep tab s c.before.before.before.before.before.before.before.before.args.row c.before.before.before.before.before.before.before.before.args.place c.before.before.before.before.before.before.before.before.args.depth (token_at s c.before.before.before.before.before.before.before.before.args.place) (rw (← c.before.before.before.before.before.before.before.before.requires.1.1) c.before.before.if1.false) c.before.if2.true)))
 
 plain-at-requires : (t : ℕ) → plain-lts.Need-at-requires (plain-calls t) (plain_at t) plain.Post
 plain-at-requires t c κs = search rules
@@ -971,7 +971,7 @@ plain-returns-3 t c =
     let names = c.before.before.before.before.before.before.before.before.before.before.before.before.before.before.before.before.before.before.args.names.now in
     let tab = table c.before.before.before.before.before.before.before.before.before.before.before.before.before.before.before.before.before.before.args.types.now names in
     let s = c.before.before.before.before.before.before.before.before.before.before.before.before.before.before.before.before.before.before.args.s.now in
-    along (ap (λ (x : Res (Got Val)). bind x (within tab c.before.before.before.before.before.before.before.before.before.before.before.before.before.before.before.before.before.before.args.row)) (plain-list tab s c.before.before.before.before.before.before.before.before.before.before.before.before.before.before.before.before.before.before.args.row c.before.before.before.before.before.before.before.before.before.before.before.before.before.before.before.before.before.before.args.place c.before.before.before.before.before.before.before.before.before.before.before.before.before.before.before.before.before.before.args.depth c.before.before.before.before.before.before.before.before.before.before.before.if2.false (token-array (tokenAt s c.before.before.before.before.before.before.before.before.before.before.before.before.before.before.before.before.before.before.args.place) (sym c.before.before.before.before.before.before.before.before.before.before.before.before.before.before.before.before.before.before.requires.1.1 ∙ c.before.before.before.before.before.before.before.before.before.if3.true)) (sym (kind-of _ c.before.before.before.before.before.before.before.before.before.before.before.before.before.before.before.before.before.before.args.row (c.before.before.before.before.before.before.before.before.before.before.at.ensures names)) ∙ c.before.before.before.before.before.before.before.if4.true))) c.before.before.before.before.list.ensures
+    along (ap (λ (x : Res (Got Val)). bind x (within tab c.before.before.before.before.before.before.before.before.before.before.before.before.before.before.before.before.before.before.args.row)) (plain-list tab s c.before.before.before.before.before.before.before.before.before.before.before.before.before.before.before.before.before.before.args.row c.before.before.before.before.before.before.before.before.before.before.before.before.before.before.before.before.before.before.args.place c.before.before.before.before.before.before.before.before.before.before.before.before.before.before.before.before.before.before.args.depth c.before.before.before.before.before.before.before.before.before.before.before.if2.false (token-array (token_at s c.before.before.before.before.before.before.before.before.before.before.before.before.before.before.before.before.before.before.args.place) (sym c.before.before.before.before.before.before.before.before.before.before.before.before.before.before.before.before.before.before.requires.1.1 ∙ c.before.before.before.before.before.before.before.before.before.if3.true)) (sym (kind-of _ c.before.before.before.before.before.before.before.before.before.before.before.before.before.before.before.before.before.before.args.row (c.before.before.before.before.before.before.before.before.before.before.at.ensures names)) ∙ c.before.before.before.before.before.before.before.if4.true))) c.before.before.before.before.list.ensures
 
 plain-is-array-requires : (t : ℕ) → plain-lts.Need-is-array-requires (plain-calls t) (plain_at t) plain.Post
 plain-is-array-requires t c κs = search rules
@@ -993,7 +993,7 @@ plain-returns-4 t c =
     let names = c.before.before.before.before.before.before.before.before.before.before.before.before.before.before.before.before.before.before.before.before.args.names.now in
     let tab = table c.before.before.before.before.before.before.before.before.before.before.before.before.before.before.before.before.before.before.before.before.args.types.now names in
     let s = c.before.before.before.before.before.before.before.before.before.before.before.before.before.before.before.before.before.before.before.before.args.s.now in
-    along (ap (λ (x : Res (Got Val)). bind x (within tab c.before.before.before.before.before.before.before.before.before.before.before.before.before.before.before.before.before.before.before.before.args.row)) (plain-array tab s c.before.before.before.before.before.before.before.before.before.before.before.before.before.before.before.before.before.before.before.before.args.row c.before.before.before.before.before.before.before.before.before.before.before.before.before.before.before.before.before.before.before.before.args.place c.before.before.before.before.before.before.before.before.before.before.before.before.before.before.before.before.before.before.before.before.args.depth c.before.before.before.before.before.before.before.before.before.before.before.before.before.if2.false (token-array (tokenAt s c.before.before.before.before.before.before.before.before.before.before.before.before.before.before.before.before.before.before.before.before.args.place) (sym c.before.before.before.before.before.before.before.before.before.before.before.before.before.before.before.before.before.before.before.before.requires.1.1 ∙ c.before.before.before.before.before.before.before.before.before.before.before.if3.true)) (λ h. c.before.before.before.before.before.before.before.before.before.if4.false (sym (sym (kind-of _ c.before.before.before.before.before.before.before.before.before.before.before.before.before.before.before.before.before.before.before.before.args.row (c.before.before.before.before.before.before.before.before.before.before.before.before.at.ensures names))) ∙ h)) (sym (c.before.before.before.before.before.before.before.before.is-array.ensures _ _ (c.before.before.before.before.before.before.before.before.before.before.before.before.at.ensures names)) ∙ c.before.before.before.before.before.before.before.if5.true))) c.before.before.before.before.array.ensures
+    along (ap (λ (x : Res (Got Val)). bind x (within tab c.before.before.before.before.before.before.before.before.before.before.before.before.before.before.before.before.before.before.before.before.args.row)) (plain-array tab s c.before.before.before.before.before.before.before.before.before.before.before.before.before.before.before.before.before.before.before.before.args.row c.before.before.before.before.before.before.before.before.before.before.before.before.before.before.before.before.before.before.before.before.args.place c.before.before.before.before.before.before.before.before.before.before.before.before.before.before.before.before.before.before.before.before.args.depth c.before.before.before.before.before.before.before.before.before.before.before.before.before.if2.false (token-array (token_at s c.before.before.before.before.before.before.before.before.before.before.before.before.before.before.before.before.before.before.before.before.args.place) (sym c.before.before.before.before.before.before.before.before.before.before.before.before.before.before.before.before.before.before.before.before.requires.1.1 ∙ c.before.before.before.before.before.before.before.before.before.before.before.if3.true)) (λ h. c.before.before.before.before.before.before.before.before.before.if4.false (sym (sym (kind-of _ c.before.before.before.before.before.before.before.before.before.before.before.before.before.before.before.before.before.before.before.before.args.row (c.before.before.before.before.before.before.before.before.before.before.before.before.at.ensures names))) ∙ h)) (sym (c.before.before.before.before.before.before.before.before.is-array.ensures _ _ (c.before.before.before.before.before.before.before.before.before.before.before.before.at.ensures names)) ∙ c.before.before.before.before.before.before.before.if5.true))) c.before.before.before.before.array.ensures
 
 plain-refused-requires-2 : (t : ℕ) → plain-lts.Need-refused-requires-2 (plain-calls t) (plain_at t) plain.Post
 plain-refused-requires-2 t c κs = search rules
@@ -1003,7 +1003,7 @@ plain-returns-5 t c =
     let names = c.before.before.before.before.before.before.before.before.before.before.before.before.before.before.args.names.now in
     let tab = table c.before.before.before.before.before.before.before.before.before.before.before.before.before.before.args.types.now names in
     let s = c.before.before.before.before.before.before.before.before.before.before.before.before.before.before.args.s.now in
-    rw c.refused2.ensures (reads-no (over_no tab c.before.before.before.before.before.before.before.before.before.before.before.before.before.before.args.row (plain-no-array tab s c.before.before.before.before.before.before.before.before.before.before.before.before.before.before.args.row c.before.before.before.before.before.before.before.before.before.before.before.before.before.before.args.place c.before.before.before.before.before.before.before.before.before.before.before.before.before.before.args.depth c.before.before.before.before.before.before.before.if2.false (token-array (tokenAt s c.before.before.before.before.before.before.before.before.before.before.before.before.before.before.args.place) (sym c.before.before.before.before.before.before.before.before.before.before.before.before.before.before.requires.1.1 ∙ c.before.before.before.before.before.if3.true)) (λ h. c.before.before.before.if4.false (sym (sym (kind-of _ c.before.before.before.before.before.before.before.before.before.before.before.before.before.before.args.row (c.before.before.before.before.before.before.at.ensures names))) ∙ h)) (sym (c.before.before.is-array.ensures _ _ (c.before.before.before.before.before.before.at.ensures names)) ∙ c.before.if5.false))))
+    rw c.refused2.ensures (reads-no (over_no tab c.before.before.before.before.before.before.before.before.before.before.before.before.before.before.args.row (plain-no-array tab s c.before.before.before.before.before.before.before.before.before.before.before.before.before.before.args.row c.before.before.before.before.before.before.before.before.before.before.before.before.before.before.args.place c.before.before.before.before.before.before.before.before.before.before.before.before.before.before.args.depth c.before.before.before.before.before.before.before.if2.false (token-array (token_at s c.before.before.before.before.before.before.before.before.before.before.before.before.before.before.args.place) (sym c.before.before.before.before.before.before.before.before.before.before.before.before.before.before.requires.1.1 ∙ c.before.before.before.before.before.if3.true)) (λ h. c.before.before.before.if4.false (sym (sym (kind-of _ c.before.before.before.before.before.before.before.before.before.before.before.before.before.before.args.row (c.before.before.before.before.before.before.at.ensures names))) ∙ h)) (sym (c.before.before.is-array.ensures _ _ (c.before.before.before.before.before.before.at.ensures names)) ∙ c.before.if5.false))))
 
 plain-choice-requires : (t : ℕ) → plain-lts.Need-choice-requires (plain-calls t) (plain_at t) plain.Post
 plain-choice-requires t c κs =
@@ -1022,7 +1022,7 @@ plain-returns-6 t c =
     let tab = table c.before.before.before.before.before.before.before.before.before.before.before.before.before.before.before.before.before.before.args.types.now names in
     let s = c.before.before.before.before.before.before.before.before.before.before.before.before.before.before.before.before.before.before.args.s.now in
     let pre = c.before.before.before.before.before.before.before.before.before.before.before.before.before.before.before.before.before.before.requires.1.1 in
-    along (ap (λ (x : Res (Got Val)). bind x (within tab c.before.before.before.before.before.before.before.before.before.before.before.before.before.before.before.before.before.before.args.row)) (plain-choice tab s c.before.before.before.before.before.before.before.before.before.before.before.before.before.before.before.before.before.before.args.row c.before.before.before.before.before.before.before.before.before.before.before.before.before.before.before.before.before.before.args.place c.before.before.before.before.before.before.before.before.before.before.before.before.before.before.before.before.before.before.args.depth c.before.before.before.before.before.before.before.before.before.before.before.if2.false (token-object (tokenAt s c.before.before.before.before.before.before.before.before.before.before.before.before.before.before.before.before.before.before.args.place) (rw (← pre) c.before.before.before.before.before.before.before.before.before.before.before.before.if1.false) (λ h. c.before.before.before.before.before.before.before.before.before.if3.false (pre ∙ h))) (sym (kind-of _ c.before.before.before.before.before.before.before.before.before.before.before.before.before.before.before.before.before.before.args.row (c.before.before.before.before.before.before.before.before.before.before.at.ensures names)) ∙ c.before.before.before.before.before.before.before.if6.true))) c.before.before.before.before.choice.ensures
+    along (ap (λ (x : Res (Got Val)). bind x (within tab c.before.before.before.before.before.before.before.before.before.before.before.before.before.before.before.before.before.before.args.row)) (plain-choice tab s c.before.before.before.before.before.before.before.before.before.before.before.before.before.before.before.before.before.before.args.row c.before.before.before.before.before.before.before.before.before.before.before.before.before.before.before.before.before.before.args.place c.before.before.before.before.before.before.before.before.before.before.before.before.before.before.before.before.before.before.args.depth c.before.before.before.before.before.before.before.before.before.before.before.if2.false (token-object (token_at s c.before.before.before.before.before.before.before.before.before.before.before.before.before.before.before.before.before.before.args.place) (rw (← pre) c.before.before.before.before.before.before.before.before.before.before.before.before.if1.false) (λ h. c.before.before.before.before.before.before.before.before.before.if3.false (pre ∙ h))) (sym (kind-of _ c.before.before.before.before.before.before.before.before.before.before.before.before.before.before.before.before.before.before.args.row (c.before.before.before.before.before.before.before.before.before.before.at.ensures names)) ∙ c.before.before.before.before.before.before.before.if6.true))) c.before.before.before.before.choice.ensures
 
 plain-is-array-requires-2 : (t : ℕ) → plain-lts.Need-is-array-requires-2 (plain-calls t) (plain_at t) plain.Post
 plain-is-array-requires-2 t c κs = search rules
@@ -1046,7 +1046,7 @@ plain-returns-7 t c =
     let tab = table c.before.before.before.before.before.before.before.before.before.before.before.before.before.before.before.before.before.before.before.before.before.args.types.now names in
     let s = c.before.before.before.before.before.before.before.before.before.before.before.before.before.before.before.before.before.before.before.before.before.args.s.now in
     let pre = c.before.before.before.before.before.before.before.before.before.before.before.before.before.before.before.before.before.before.before.before.before.requires.1.1 in
-    along (ap (λ (x : Res (Got Val)). bind x (within tab c.before.before.before.before.before.before.before.before.before.before.before.before.before.before.before.before.before.before.before.before.before.args.row)) (plain-object tab s c.before.before.before.before.before.before.before.before.before.before.before.before.before.before.before.before.before.before.before.before.before.args.row c.before.before.before.before.before.before.before.before.before.before.before.before.before.before.before.before.before.before.before.before.before.args.place c.before.before.before.before.before.before.before.before.before.before.before.before.before.before.before.before.before.before.before.before.before.args.depth c.before.before.before.before.before.before.before.before.before.before.before.before.before.before.if2.false (token-object (tokenAt s c.before.before.before.before.before.before.before.before.before.before.before.before.before.before.before.before.before.before.before.before.before.args.place) (rw (← pre) c.before.before.before.before.before.before.before.before.before.before.before.before.before.before.before.if1.false) (λ h. c.before.before.before.before.before.before.before.before.before.before.before.before.if3.false (pre ∙ h))) (λ h. c.before.before.before.before.before.before.before.before.before.before.if6.false (sym (sym (kind-of _ c.before.before.before.before.before.before.before.before.before.before.before.before.before.before.before.before.before.before.before.before.before.args.row (c.before.before.before.before.before.before.before.before.before.before.before.before.before.at.ensures names))) ∙ h)) (sequence-is tab c.before.before.before.before.before.before.before.before.before.before.before.before.before.before.before.before.before.before.before.before.before.args.row (c.before.before.before.before.before.before.before.before.before.before.before.before.before.at.ensures names) (c.before.before.before.before.before.before.before.before.is-array2.ensures _ _ (c.before.before.before.before.before.before.before.before.before.before.before.before.before.at.ensures names)) ∙ c.before.before.before.before.before.before.before.if7.true))) c.before.before.before.before.object.ensures
+    along (ap (λ (x : Res (Got Val)). bind x (within tab c.before.before.before.before.before.before.before.before.before.before.before.before.before.before.before.before.before.before.before.before.before.args.row)) (plain-object tab s c.before.before.before.before.before.before.before.before.before.before.before.before.before.before.before.before.before.before.before.before.before.args.row c.before.before.before.before.before.before.before.before.before.before.before.before.before.before.before.before.before.before.before.before.before.args.place c.before.before.before.before.before.before.before.before.before.before.before.before.before.before.before.before.before.before.before.before.before.args.depth c.before.before.before.before.before.before.before.before.before.before.before.before.before.before.if2.false (token-object (token_at s c.before.before.before.before.before.before.before.before.before.before.before.before.before.before.before.before.before.before.before.before.before.args.place) (rw (← pre) c.before.before.before.before.before.before.before.before.before.before.before.before.before.before.before.if1.false) (λ h. c.before.before.before.before.before.before.before.before.before.before.before.before.if3.false (pre ∙ h))) (λ h. c.before.before.before.before.before.before.before.before.before.before.if6.false (sym (sym (kind-of _ c.before.before.before.before.before.before.before.before.before.before.before.before.before.before.before.before.before.before.before.before.before.args.row (c.before.before.before.before.before.before.before.before.before.before.before.before.before.at.ensures names))) ∙ h)) (sequence-is tab c.before.before.before.before.before.before.before.before.before.before.before.before.before.before.before.before.before.before.before.before.before.args.row (c.before.before.before.before.before.before.before.before.before.before.before.before.before.at.ensures names) (c.before.before.before.before.before.before.before.before.is-array2.ensures _ _ (c.before.before.before.before.before.before.before.before.before.before.before.before.before.at.ensures names)) ∙ c.before.before.before.before.before.before.before.if7.true))) c.before.before.before.before.object.ensures
 
 plain-refused-requires-3 : (t : ℕ) → plain-lts.Need-refused-requires-3 (plain-calls t) (plain_at t) plain.Post
 plain-refused-requires-3 t c κs = search rules
@@ -1057,7 +1057,7 @@ plain-returns-8 t c =
     let tab = table c.before.before.before.before.before.before.before.before.before.before.before.before.before.before.before.args.types.now names in
     let s = c.before.before.before.before.before.before.before.before.before.before.before.before.before.before.before.args.s.now in
     let pre = c.before.before.before.before.before.before.before.before.before.before.before.before.before.before.before.requires.1.1 in
-    rw c.refused3.ensures (reads-no (over_no tab c.before.before.before.before.before.before.before.before.before.before.before.before.before.before.before.args.row (plain-no-object tab s c.before.before.before.before.before.before.before.before.before.before.before.before.before.before.before.args.row c.before.before.before.before.before.before.before.before.before.before.before.before.before.before.before.args.place c.before.before.before.before.before.before.before.before.before.before.before.before.before.before.before.args.depth c.before.before.before.before.before.before.before.before.if2.false (token-object (tokenAt s c.before.before.before.before.before.before.before.before.before.before.before.before.before.before.before.args.place) (rw (← pre) c.before.before.before.before.before.before.before.before.before.if1.false) (λ h. c.before.before.before.before.before.before.if3.false (pre ∙ h))) (λ h. c.before.before.before.before.if6.false (sym (sym (kind-of _ c.before.before.before.before.before.before.before.before.before.before.before.before.before.before.before.args.row (c.before.before.before.before.before.before.before.at.ensures names))) ∙ h)) (sequence-is tab c.before.before.before.before.before.before.before.before.before.before.before.before.before.before.before.args.row (c.before.before.before.before.before.before.before.at.ensures names) (c.before.before.is-array2.ensures _ _ (c.before.before.before.before.before.before.before.at.ensures names)) ∙ c.before.if7.false))))
+    rw c.refused3.ensures (reads-no (over_no tab c.before.before.before.before.before.before.before.before.before.before.before.before.before.before.before.args.row (plain-no-object tab s c.before.before.before.before.before.before.before.before.before.before.before.before.before.before.before.args.row c.before.before.before.before.before.before.before.before.before.before.before.before.before.before.before.args.place c.before.before.before.before.before.before.before.before.before.before.before.before.before.before.before.args.depth c.before.before.before.before.before.before.before.before.if2.false (token-object (token_at s c.before.before.before.before.before.before.before.before.before.before.before.before.before.before.before.args.place) (rw (← pre) c.before.before.before.before.before.before.before.before.before.if1.false) (λ h. c.before.before.before.before.before.before.if3.false (pre ∙ h))) (λ h. c.before.before.before.before.if6.false (sym (sym (kind-of _ c.before.before.before.before.before.before.before.before.before.before.before.before.before.before.before.args.row (c.before.before.before.before.before.before.before.at.ensures names))) ∙ h)) (sequence-is tab c.before.before.before.before.before.before.before.before.before.before.before.before.before.before.before.args.row (c.before.before.before.before.before.before.before.at.ensures names) (c.before.before.is-array2.ensures _ _ (c.before.before.before.before.before.before.before.at.ensures names)) ∙ c.before.if7.false))))
 
 value-token-at-requires : (t : ℕ) → value-lts.Need-token-at-requires (value-calls t) (value-at t) value.Post
 value-token-at-requires t c κs = search rules
@@ -1105,7 +1105,7 @@ value-plain-requires-2 t c κs =
     let names = c.before.before.before.before.before.before.before.before.before.before.before.before.before.before.before.before.args.names.now in
     let k = c.before.before.before.before.k in
     let entry = c.before.before.before.before.before.before.before.before.before.before.before.before.before.before.before.before in
-    let tokenAt' = tokenAt c.before.before.before.before.before.before.before.before.before.before.before.before.before.before.before.before.args.s.now c.before.before.before.before.before.before.before.before.before.before.before.before.before.before.before.before.args.place in
+    let tokenAt' = token_at c.before.before.before.before.before.before.before.before.before.before.before.before.before.before.before.before.args.s.now c.before.before.before.before.before.before.before.before.before.before.before.before.before.before.before.before.args.place in
     let token-at-said = c.before.before.before.before.before.before.before.before.before.before.token-at.ensures in
     (omega arith, (given-type c.before.before.before.before.before.before.before.before.before.before.before.before.before.before.before.before.requires.1 (rw (c.before.before.type-at.ensures names) (c.before.before.before.before.before.before.before.before.before.before.before.before.before.before.before.before.requires.1.sane.member c.before.before.before.before.before.before.before.before.before.before.before.before.before.before.before.before.args.row k.given.0.0 c.before.before.before.before.before.before.before.before.before.before.before.before.before.before.before.before.requires.1.typed (alternative-found (table c.before.before.before.before.before.before.before.before.before.before.before.before.before.before.before.before.args.types.now names) c.before.before.before.before.before.before.before.before.before.before.before.before.before.before.before.before.args.row tokenAt' k.given.0.0 (found_some _ (sym k.given.1 ∙ c.before.before.before.before.before.before.alternative.ensures names tokenAt' c.before.before.before.before.before.before.before.before.before.before.token-at.ensures))))), token-at-said))
 
@@ -1118,7 +1118,7 @@ value-enum-known-next t c = search rules
 value-close-requires : (t : ℕ) → value-lts.Need-close-requires (value-calls t) (value-at t) value.Post
 value-close-requires t c κs =
     let c₂₅ = c.before.before.before.before.before.before.before.before.before.before.before.before.before.before.before.before.before.before.before.before.before.before.before.before.before in
-    (omega (arith, c.before.before.before.before.before.before.before.before.before.before.before.before.before.before.before.before.before.before.before.before.before.before.before.before.before.requires.1.rowRoom), omega (arith, (passed c.before.before.before.before.before.before.before.before.plain2.ensures c.before.before.next.given.1).fewRows))
+    (omega (arith, c.before.before.before.before.before.before.before.before.before.before.before.before.before.before.before.before.before.before.before.before.before.before.before.before.before.requires.1.row_room), omega (arith, (passed c.before.before.before.before.before.before.before.before.plain2.ensures c.before.before.next.given.1).few_rows))
 
 value-returns-2 : (t : ℕ) → value-lts.Need-returns-2 (value-calls t) (value-at t) value.Post
 value-returns-2 t c =
@@ -1137,8 +1137,8 @@ value-returns-3 t c =
     let names = c.before.before.before.before.before.before.before.before.before.before.before.before.before.before.before.before.before.before.before.before.before.before.before.before.args.names.now in
     let tab = table c.before.before.before.before.before.before.before.before.before.before.before.before.before.before.before.before.before.before.before.before.before.before.before.before.args.types.now names in
     let s = c.before.before.before.before.before.before.before.before.before.before.before.before.before.before.before.before.before.before.before.before.before.before.before.before.args.s.now in
-    let tokenAt' = tokenAt s c.before.before.before.before.before.before.before.before.before.before.before.before.before.before.before.before.before.before.before.before.before.before.before.before.args.place in
-    reads-no (value-refused c.before.before.before.before.before.before.before.before.before.before.before.before.before.before.before.before.before.before.before.before.before.before.before.before.args.depth tab s c.before.before.before.before.before.before.before.before.before.before.before.before.before.before.before.before.before.before.before.before.before.before.before.before.args.row c.before.before.before.before.before.before.before.before.before.before.before.before.before.before.before.before.before.before.before.before.before.before.before.before.args.place (sym (c.before.before.before.before.before.before.before.before.before.before.before.before.before.before.before.before.is-unwrapped.ensures _ _ (c.before.before.before.before.before.before.before.before.before.before.before.before.before.before.before.before.before.at.ensures names)) ∙ not-false _ c.before.before.before.before.before.before.before.before.before.before.before.before.before.before.before.if1.false) (found_some _ (sym c.before.before.before.before.before.before.before.before.before.before.before.before.k.given.1 ∙ c.before.before.before.before.before.before.before.before.before.before.before.before.before.before.alternative.ensures names tokenAt' c.before.before.before.before.before.before.before.before.before.before.before.before.before.before.before.before.before.before.token-at.ensures)) (failed (at_row (λ r u. bind (plainAt c.before.before.before.before.before.before.before.before.before.before.before.before.before.before.before.before.before.before.before.before.before.before.before.before.args.depth tab s tokenAt' r u) (within tab r)) c.before.before.before.before.before.before.before.before.before.before.before.before.before.before.before.before.before.before.before.before.before.before.before.before.args.place (c.before.before.before.before.before.before.before.before.before.before.type-at.ensures names) c.before.before.before.before.before.before.before.plain2.ensures) c.before.e.given.1))
+    let tokenAt' = token_at s c.before.before.before.before.before.before.before.before.before.before.before.before.before.before.before.before.before.before.before.before.before.before.before.before.args.place in
+    reads-no (value-refused c.before.before.before.before.before.before.before.before.before.before.before.before.before.before.before.before.before.before.before.before.before.before.before.before.args.depth tab s c.before.before.before.before.before.before.before.before.before.before.before.before.before.before.before.before.before.before.before.before.before.before.before.before.args.row c.before.before.before.before.before.before.before.before.before.before.before.before.before.before.before.before.before.before.before.before.before.before.before.before.args.place (sym (c.before.before.before.before.before.before.before.before.before.before.before.before.before.before.before.before.is-unwrapped.ensures _ _ (c.before.before.before.before.before.before.before.before.before.before.before.before.before.before.before.before.before.at.ensures names)) ∙ not-false _ c.before.before.before.before.before.before.before.before.before.before.before.before.before.before.before.if1.false) (found_some _ (sym c.before.before.before.before.before.before.before.before.before.before.before.before.k.given.1 ∙ c.before.before.before.before.before.before.before.before.before.before.before.before.before.before.alternative.ensures names tokenAt' c.before.before.before.before.before.before.before.before.before.before.before.before.before.before.before.before.before.before.token-at.ensures)) (failed (at_row (λ r u. bind (plain_at c.before.before.before.before.before.before.before.before.before.before.before.before.before.before.before.before.before.before.before.before.before.before.before.before.args.depth tab s tokenAt' r u) (within tab r)) c.before.before.before.before.before.before.before.before.before.before.before.before.before.before.before.before.before.before.before.before.before.before.before.before.args.place (c.before.before.before.before.before.before.before.before.before.before.type-at.ensures names) c.before.before.before.before.before.before.before.plain2.ensures) c.before.e.given.1))
 
 value-same-length-5 : (t : ℕ) → value-lts.Need-same-length-5 (value-calls t) (value-at t) value.Post
 value-same-length-5 t c = search rules
@@ -1152,10 +1152,10 @@ value-returns-4 t c =
     let tab = table c.before.before.before.before.before.before.before.before.before.before.before.before.before.before.before.before.before.before.before.before.before.before.before.before.before.before.before.before.args.types.now names in
     let s = c.before.before.before.before.before.before.before.before.before.before.before.before.before.before.before.before.before.before.before.before.before.before.before.before.before.before.before.before.args.s.now in
     let next = c.before.before.before.before.before.next.given.1 in
-    let tokenAt' = tokenAt s c.before.before.before.before.before.before.before.before.before.before.before.before.before.before.before.before.before.before.before.before.before.before.before.before.before.before.before.before.args.place in
+    let tokenAt' = token_at s c.before.before.before.before.before.before.before.before.before.before.before.before.before.before.before.before.before.before.before.before.before.before.before.before.before.before.before.before.args.place in
     let entry = c.before.before.before.before.before.before.before.before.before.before.before.before.before.before.before.before.before.before.before.before.before.before.before.before.before.before.before.before in
     let back = sym (c.before.before.before.before.before.before.before.before.before.before.before.before.before.before.before.before.before.before.before.before.is-unwrapped.ensures _ _ (c.before.before.before.before.before.before.before.before.before.before.before.before.before.before.before.before.before.before.before.before.before.at.ensures names)) ∙ not-false _ c.before.before.before.before.before.before.before.before.before.before.before.before.before.before.before.before.before.before.before.if1.false in
-    let there = at_row (λ r u. bind (plainAt c.before.before.before.before.before.before.before.before.before.before.before.before.before.before.before.before.before.before.before.before.before.before.before.before.before.before.before.before.args.depth tab s tokenAt' r u) (within tab r)) c.before.before.before.before.before.before.before.before.before.before.before.before.before.before.before.before.before.before.before.before.before.before.before.before.before.before.before.before.args.place (c.before.before.before.before.before.before.before.before.before.before.before.before.before.before.type-at.ensures names) c.before.before.before.before.before.before.before.before.before.before.before.plain2.ensures in
+    let there = at_row (λ r u. bind (plain_at c.before.before.before.before.before.before.before.before.before.before.before.before.before.before.before.before.before.before.before.before.before.before.before.before.before.before.before.before.args.depth tab s tokenAt' r u) (within tab r)) c.before.before.before.before.before.before.before.before.before.before.before.before.before.before.before.before.before.before.before.before.before.before.before.before.before.before.before.before.args.place (c.before.before.before.before.before.before.before.before.before.before.before.before.before.before.type-at.ensures names) c.before.before.before.before.before.before.before.before.before.before.before.plain2.ensures in
     along (value-picked c.before.before.before.before.before.before.before.before.before.before.before.before.before.before.before.before.before.before.before.before.before.before.before.before.before.before.before.before.args.depth tab s c.before.before.before.before.before.before.before.before.before.before.before.before.before.before.before.before.before.before.before.before.before.before.before.before.before.before.before.before.args.row c.before.before.before.before.before.before.before.before.before.before.before.before.before.before.before.before.before.before.before.before.before.before.before.before.before.before.before.before.args.place back (found_some _ (sym c.before.before.before.before.before.before.before.before.before.before.before.before.before.before.before.before.k.given.1 ∙ c.before.before.before.before.before.before.before.before.before.before.before.before.before.before.before.before.before.before.alternative.ensures names tokenAt' c.before.before.before.before.before.before.before.before.before.before.before.before.before.before.before.before.before.before.before.before.before.before.token-at.ensures)) (passed there next).took.is) (closed (whole-choice (passed there next).took there.stepped (unwrapped-kind tab c.before.before.before.before.before.before.before.before.before.before.before.before.before.before.before.before.before.before.before.before.before.before.before.before.before.before.before.before.args.row back)) (omega (arith, (passed there next).near, (passed there next).took.next)) (rw (passed there next).took.next c.before.before.close.ensures.0) c.before.before.close.ensures.1)
 
 pub +array-choice-each-member-list-object-plain-value-spec : {M : Type 1} → statement M

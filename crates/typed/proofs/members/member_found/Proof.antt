@@ -10,10 +10,10 @@ may-miss-requires : tie.Need-may-miss-requires
 may-miss-requires c κs = search rules
 
 returns : tie.Need-returns
-returns c = λ ns. member-absent (table c.before.before.before.before.before.args.types.now ns) c.before.before.before.before.before.args.s.now c.before.before.before.before.before.args.row c.before.before.before.before.before.args.k c.before.before.before.before.before.args.q (not-true _ c.before.before.if1.true) (c.before.may-miss.ensures ns) c.if2.true
+returns c = λ ns. member-absent (table c.before.before.before.before.before.args.types.now ns) c.before.before.before.before.before.args.s.now c.before.before.before.before.before.args.row c.before.before.before.before.before.args.k c.before.before.before.before.before.args.q (not-true _ c.before.before.if1.true) (c.before.may_miss_lem.ensures ns) c.if2.true
 
 returns-2 : tie.Need-returns-2
-returns-2 c = λ ns. member-missing (table c.before.before.before.before.before.args.types.now ns) c.before.before.before.before.before.args.s.now c.before.before.before.before.before.args.row c.before.before.before.before.before.args.k c.before.before.before.before.before.args.q (not-true _ c.before.before.if1.true) (c.before.may-miss.ensures ns) c.if2.false
+returns-2 c = λ ns. member-missing (table c.before.before.before.before.before.args.types.now ns) c.before.before.before.before.before.args.s.now c.before.before.before.before.before.args.row c.before.before.before.before.before.args.k c.before.before.before.before.before.args.q (not-true _ c.before.before.if1.true) (c.before.may_miss_lem.ensures ns) c.if2.false
 
 null-at-requires : tie.Need-null-at-requires
 null-at-requires c κs = search rules

@@ -1,5 +1,5 @@
 -- Made by tools/answers.py from answers/alone/block.ans: edit that. 08eb27523ad88105
-use Rattle.types.proofs.AloneLaws.{good-block}
+use Rattle.types.proofs.AloneLaws.{good_block_lem}
 use borrow.Author.Rules.{rules}
 use Rattle.types.proofs.alone.block.Statement.{statement}
 use Rattle.types.proofs.alone.block.Tie as tie
@@ -17,7 +17,7 @@ extensible-requires : tie.Need-extensible-requires
 extensible-requires c κs = search rules
 
 returns : tie.Need-returns
-returns c = λ t r e n. good-block t r c.before.before.before.before.before.before.before.before.args.least e c.before.before.before.before.before.wide.ensures.0 c.before.before.before.before.wide2.ensures.0 n (c.before.extensible.ensures t r e)
+returns c = λ t r e n. good_block_lem t r c.before.before.before.before.before.before.before.before.args.least e c.before.before.before.before.before.wide.ensures.0 c.before.before.before.before.wide2.ensures.0 n (c.before.extensible.ensures t r e)
 
 pub block_spec : {M : Type 1} → statement M
 block_spec =

@@ -1,7 +1,7 @@
 -- Made by tools/answers.py from answers/alone/good_alone.ans: edit that. decbc20c993b6600
 use Rattle.jer.specs.Table.{table}
 use Rattle.types.proofs.RowLaws.{marks-told, layout-told}
-use Rattle.types.proofs.AloneLaws.{alone-marked, alone-bare, alone-holds, alone-lists, alone-names, alone-unknown}
+use Rattle.types.proofs.AloneLaws.{alone-marked, alone-bare, alone-holds, alone_lists, alone-names, alone-unknown}
 use borrow.Author.Rules.{rules}
 use Rattle.types.proofs.alone.good_alone.Statement.{statement}
 use Rattle.types.proofs.alone.good_alone.Tie as tie
@@ -87,7 +87,7 @@ returns-4 c =
     let ns = a.names.now in
     let t = table a.rows.now ns in
     let e = c.before.before.before.before.before.before.before.before.row_in.ensures ns in
-    alone-lists t a.r (c.before.before.before.before.before.before.good-marks.ensures t a.r e (marks-told t a.r e c.before.before.before.before.before.before.before.carries.ensures)) c.before.before.before.before.before.if1.false (layout-told t a.r e c.before.before.before.before.before.before.before.carries.ensures) e c.before.before.enum-told2.given.1 (c.before.unused3.ensures ns) c.wide.ensures.0 (c.before.before.before.before.row_count.ensures ns)
+    alone_lists t a.r (c.before.before.before.before.before.before.good-marks.ensures t a.r e (marks-told t a.r e c.before.before.before.before.before.before.before.carries.ensures)) c.before.before.before.before.before.if1.false (layout-told t a.r e c.before.before.before.before.before.before.before.carries.ensures) e c.before.before.enum-told2.given.1 (c.before.unused3.ensures ns) c.wide.ensures.0 (c.before.before.before.before.row_count.ensures ns)
 
 returns-5 : tie.Need-returns-5
 returns-5 c =

@@ -4,14 +4,14 @@ use mathlib.Core.Path.{◌≡◌, refl, ◌∙◌}
 use Prim.Native.Nat.{◌-◌}
 use lib.ListN.{length, drop}
 use native.Mathlib.Omega.{arith}
-use Rattle.jer.specs.Table.{sameBytes}
-use Rattle.types.proofs.ByteLaws.{same-lengths, same_next, same-fails, same_ends}
+use Rattle.jer.specs.Table.{same_bytes}
+use Rattle.types.proofs.ByteLaws.{same_lengths, same_next, same-fails, same_ends}
 use borrow.Author.Rules.{rules}
 use Rattle.types.proofs.bytes.same_bytes.Statement.{statement}
 use Rattle.types.proofs.bytes.same_bytes.Tie as tie
 
 abbrev invariant-loop : tie.invariant-loop
-invariant-loop a b i₀ i = (sameBytes (drop i a) (drop i b) ≡ sameBytes a b) × (length a ≡ length b)
+invariant-loop a b i₀ i = (same_bytes (drop i a) (drop i b) ≡ same_bytes a b) × (length a ≡ length b)
 
 abbrev decreases-loop : tie.decreases-loop
 decreases-loop a b i₀ i = length a - i
@@ -19,7 +19,7 @@ decreases-loop a b i₀ i = length a - i
 returns : tie.Need-returns invariant-loop decreases-loop
 returns c =
     let a = c.before.args in
-    same-lengths a.a.now a.b.now c.if1.true
+    same_lengths a.a.now a.b.now c.if1.true
 
 loop-holds : tie.Need-loop-init invariant-loop decreases-loop
 loop-holds c = (refl, c.if1.false)

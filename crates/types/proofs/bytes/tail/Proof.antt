@@ -1,19 +1,19 @@
 -- Made by tools/answers.py from answers/bytes/tail.ans: edit that. 1ec2780a5a7c5645
-use Rattle.types.specs.Bytes.{dueOf}
+use Rattle.types.specs.Bytes.{due_of}
 use Rattle.types.proofs.ByteLaws.{tail_none, tail_more}
 use borrow.Author.Rules.{rules}
 use Rattle.types.proofs.bytes.tail.Statement.{statement}
 use Rattle.types.proofs.bytes.tail.Tie as tie
 
 returns : tie.Need-returns
-unfolding dueOf
+unfolding due_of
 returns c = tail_none c.before.args.n c.if1.true
 
 sub-t3 : tie.Need-overflow-sub-t3
 sub-t3 c = search rules
 
 returns-2 : tie.Need-returns-2
-unfolding dueOf
+unfolding due_of
 returns-2 c = tail_more c.before.args.n c.if1.false
 
 pub tail-spec : {M : Type 1} → statement M

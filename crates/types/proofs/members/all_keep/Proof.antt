@@ -4,7 +4,7 @@ use mathlib.Core.Path.{◌≡◌}
 use Prim.Native.Nat.{◌-◌}
 use native.Mathlib.Omega.{arith}
 use borrow.Author.Tests.{not-true, not-false}
-use Rattle.jer.specs.Table.{countOf, table}
+use Rattle.jer.specs.Table.{count_of, table}
 use Rattle.jer.specs.Valid.{every}
 use Rattle.types.specs.Check.{keeps}
 use Rattle.types.proofs.LoopLaws.{every-next, every-fails, every-ends}
@@ -14,7 +14,7 @@ use Rattle.types.proofs.members.all_keep.Statement.{statement}
 use Rattle.types.proofs.members.all_keep.Tie as tie
 
 abbrev invariant-loop : tie.invariant-loop
-invariant-loop rows names rule r count i₀ i = every (keeps rule (table rows names) r) i (count - i) ≡ every (keeps rule (table rows names) r) 0 (countOf (table rows names) r)
+invariant-loop rows names rule r count i₀ i = every (keeps rule (table rows names) r) i (count - i) ≡ every (keeps rule (table rows names) r) 0 (count_of (table rows names) r)
 
 abbrev decreases-loop : tie.decreases-loop
 decreases-loop rows names rule r count i₀ i = count - i

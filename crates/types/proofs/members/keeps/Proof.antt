@@ -77,7 +77,7 @@ returns-4 : tie.Need-returns-4
 returns-4 c =
     let a = c.before.before.before.before.before.before.before.args in
     keeps-null-free (table a.rows.now a.names.now) a.r a.i c.before.before.before.enum-told4.given.1
-    (c.before.before.may-miss.ensures a.names.now) (c.before.type-at2.ensures a.names.now) (c.null-taken.ensures a.names.now)
+    (c.before.before.may_miss_lem.ensures a.names.now) (c.before.type-at2.ensures a.names.now) (c.null-taken.ensures a.names.now)
 
 returns-5 : tie.Need-returns-5
 returns-5 c =

@@ -3,17 +3,17 @@
 use mathlib.Core.Path.{◌≡◌}
 use Prim.Native.Nat.{◌-◌}
 use native.Mathlib.Omega.{arith}
-use Rattle.jer.specs.Table.{firstWhere, table}
+use Rattle.jer.specs.Table.{first_where, table}
 use Rattle.jer.specs.Valid.{pass}
-use Rattle.types.specs.Check.{goodIn}
+use Rattle.types.specs.Check.{good_in}
 use Rattle.types.proofs.LoopLaws.{first_next, first_found, first_ends}
-use Rattle.types.proofs.CheckLaws.{badIn, bad-told, pass-starts, pass-found, pass-ends}
+use Rattle.types.proofs.CheckLaws.{bad_in, bad-told, pass-starts, pass-found, pass-ends}
 use borrow.Author.Rules.{rules}
 use Rattle.types.proofs.passes.passed.Statement.{statement}
 use Rattle.types.proofs.passes.passed.Tie as tie
 
 abbrev invariant-loop : tie.invariant-loop
-invariant-loop rows names p count r₀ r = firstWhere (badIn p (table rows names)) r (count - r) ≡ pass (table rows names) (goodIn p (table rows names))
+invariant-loop rows names p count r₀ r = first_where (bad_in p (table rows names)) r (count - r) ≡ pass (table rows names) (good_in p (table rows names))
 
 abbrev decreases-loop : tie.decreases-loop
 decreases-loop rows names p count r₀ r = count - r
@@ -34,7 +34,7 @@ returns c =
     let a = c.before.before.before.before.before.before.before.args in
     let t = table a.rows.now a.names.now in
     pass-found _
-    (first_found (badIn a.p t) c.before.before.before.loop.r c.before.before.before.before.row_count.result c.before.before.loop-test.true (bad-told a.p t c.before.before.before.loop.r c.before.good-in.ensures) c.if1.true c.before.before.before.loop.invariant)
+    (first_found (bad_in a.p t) c.before.before.before.loop.r c.before.before.before.before.row_count.result c.before.before.loop-test.true (bad-told a.p t c.before.before.before.loop.r c.before.good-in.ensures) c.if1.true c.before.before.before.loop.invariant)
 
 add_r : tie.Need-overflow-add-r invariant-loop decreases-loop
 add_r c = search rules
@@ -46,7 +46,7 @@ loop-again : tie.Need-loop-preserved invariant-loop decreases-loop
 loop-again c =
     let a = c.before.before.before.before.before.before.before.args in
     let t = table a.rows.now a.names.now in
-    first_next (badIn a.p t) c.before.before.before.loop.r c.before.before.before.before.row_count.result
+    first_next (bad_in a.p t) c.before.before.before.loop.r c.before.before.before.before.row_count.result
     c.before.before.loop-test.true (bad-told a.p t c.before.before.before.loop.r c.before.good-in.ensures) c.if1.false
     c.before.before.before.loop.invariant
 
@@ -54,7 +54,7 @@ returns-2 : tie.Need-returns-2 invariant-loop decreases-loop
 returns-2 c =
     let a = c.before.before.before.before.before.args in
     let t = table a.rows.now a.names.now in
-    pass-ends _ (first_ends (badIn a.p t) c.before.loop.r c.before.before.row_count.result c.loop-test.false c.before.loop.invariant)
+    pass-ends _ (first_ends (bad_in a.p t) c.before.loop.r c.before.before.row_count.result c.loop-test.false c.before.loop.invariant)
 
 pub passed-spec : {M : Type 1} → statement M
 passed-spec =

@@ -1,5 +1,5 @@
 -- Made by tools/answers.py from answers/row/name_in.ans: edit that. 924032804e830bde
-use Rattle.types.proofs.RowLaws.{name_in}
+use Rattle.types.proofs.RowLaws.{name_in_lem}
 use borrow.Author.Rules.{rules}
 use Rattle.types.proofs.row.name_in.Statement.{statement}
 use Rattle.types.proofs.row.name_in.Tie as tie
@@ -17,7 +17,7 @@ returns : tie.Need-returns
 returns c =
     let a = c.before.before.before.before.before.args in
     let ns = a.names.now in
-    name_in a.rows.now ns a.m (c.before.before.name-start.ensures.0 ns) (c.before.name-length.ensures.0 ns) c.part.ensures
+    name_in_lem a.rows.now ns a.m (c.before.before.name-start.ensures.0 ns) (c.before.name-length.ensures.0 ns) c.part.ensures
 
 pub name-in-spec : {M : Type 1} → statement M
 name-in-spec = tie.close (tie.spec name-start-requires name-length-requires part-requires returns)

@@ -1,5 +1,5 @@
 -- Made by tools/answers.py from answers/row/root_of.ans: edit that. 07c08ff39dfe6deb
-use Rattle.jer.specs.Table.{rootOf}
+use Rattle.jer.specs.Table.{root_of}
 use borrow.Author.Rules.{rules}
 use Rattle.types.proofs.row.root_of.Statement.{statement}
 use Rattle.types.proofs.row.root_of.Tie as tie
@@ -8,7 +8,7 @@ field-requires : tie.Need-field-requires
 field-requires c κs = search rules
 
 returns : tie.Need-returns
-unfolding rootOf
+unfolding root_of
 returns c = c.field.ensures
 
 pub root-of-spec : {M : Type 1} → statement M

@@ -1,7 +1,7 @@
 -- Made by tools/answers.py from answers/row/type_at.ans: edit that. 77063a790023a9b4
 use mathlib.Core.Path.{ap, ◌∙◌}
 use Prim.Native.Nat.{ℕ}
-use Rattle.jer.specs.Table.{typeIn, type_at, table}
+use Rattle.jer.specs.Table.{type_in, type_at, table}
 use borrow.Author.Rules.{rules}
 use Rattle.types.proofs.row.type_at.Statement.{statement}
 use Rattle.types.proofs.row.type_at.Tie as tie
@@ -14,7 +14,7 @@ type-in-requires c κs = search rules
 
 returns : tie.Need-returns
 unfolding type_at
-returns c = λ ns. c.type-in.ensures ns ∙ ap (λ (m : ℕ). typeIn (table c.before.before.before.args.rows.now ns) m) (c.before.member-row.ensures ns)
+returns c = λ ns. c.type-in.ensures ns ∙ ap (λ (m : ℕ). type_in (table c.before.before.before.args.rows.now ns) m) (c.before.member-row.ensures ns)
 
 pub type-at-spec : {M : Type 1} → statement M
 type-at-spec = tie.close (tie.spec member-row-requires type-in-requires returns)

@@ -1,5 +1,5 @@
 -- Made by tools/answers.py from answers/rules/good_unwrapped.ans: edit that. ad69bd23297b91af
-use Rattle.jer.specs.Valid.{allDiffer, goodUnwrapped}
+use Rattle.jer.specs.Valid.{all_differ, good_unwrapped}
 use Rattle.types.specs.Check.{alike, keeps}
 use borrow.Author.Rules.{rules}
 use Rattle.types.proofs.rules.good_unwrapped.Statement.{statement}
@@ -12,7 +12,7 @@ all-keep-requires-2 : tie.Need-all-keep-requires-2
 all-keep-requires-2 c κs = search rules
 
 returns : tie.Need-returns
-unfolding goodUnwrapped allDiffer keeps alike
+unfolding good_unwrapped all_differ keeps alike
 returns c = rw (c.before.all_keep.ensures, c.all-keep2.ensures)
 
 pub good-unwrapped-spec : {M : Type 1} → statement M

@@ -1,7 +1,7 @@
 -- Made by tools/answers.py from answers/sure/sure_links.ans: edit that. b55ed48b5ac6b7b8
 use Rattle.jer.specs.Table.{table}
 use Rattle.types.proofs.RowLaws.{layout-told}
-use Rattle.types.proofs.SureLaws.{lists-room, names-room}
+use Rattle.types.proofs.SureLaws.{lists_room, names-room}
 use Rattle.types.proofs.SureMembers.{links-bare, links-element, links-member, links-unknown}
 use borrow.Author.Rules.{rules}
 use Rattle.types.proofs.sure.sure_links.Statement.{statement}
@@ -35,7 +35,7 @@ holds-type-requires c κs =
     let t = table a.rows.now ns in
     let e = c.before.before.before.before.row_in.ensures ns in
     let l = layout-told t a.r e c.before.before.before.carries.ensures in
-    lists-room t a.r e (c.before.before.before.before.before.before.before.requires.1 a.r c.before.before.before.before.before.before.before.requires.0) l c.before.enum-told3.given.1 c.wide.ensures.0
+    lists_room t a.r e (c.before.before.before.before.before.before.before.requires.1 a.r c.before.before.before.before.before.before.before.requires.0) l c.before.enum-told3.given.1 c.wide.ensures.0
 
 enum-told-4 : tie.Need-enum-told-4
 enum-told-4 c = search rules

@@ -5,7 +5,7 @@ use native.Mathlib.Omega.{arith}
 use borrow.Author.Tests.{not-false}
 use Rattle.jer.specs.Table.{table}
 use Rattle.types.proofs.SureLaws.{no_true, alone-name}
-use Rattle.types.proofs.SureMembers.{name-length, SoFar, so-far-starts, so-far-next, members-room, members-told}
+use Rattle.types.proofs.SureMembers.{name-length, SoFar, so_far_starts, so_far_next, members-room, members-told}
 use borrow.Author.Rules.{rules}
 use Rattle.types.proofs.sure.sure_members.Statement.{statement}
 use Rattle.types.proofs.sure.sure_members.Tie as tie
@@ -29,7 +29,7 @@ loop-holds : tie.Need-loop-init invariant-loop decreases-loop
 loop-holds c =
     let a = c.before.before.before.before.before.args in
     let t = table a.rows.now a.names.now in
-    so-far-starts t c.before.wide.result a.marks a.types
+    so_far_starts t c.before.wide.result a.marks a.types
 
 add-m : tie.Need-overflow-add-m invariant-loop decreases-loop
 add-m c = omega (arith, c.before.before.before.wide.ensures.0, c.before.before.before.wide.ensures.1, c.before.before.wide2.ensures.0, c.before.before.wide2.ensures.1, c.loop-test.true)
@@ -86,7 +86,7 @@ loop-again : tie.Need-loop-preserved invariant-loop decreases-loop
 loop-again c =
     let a = c.before.before.before.before.before.before.before.before.before.before.before.before.before.args in
     let t = table a.rows.now a.names.now in
-    so-far-next t c.before.before.before.before.before.before.before.before.before.wide.result a.marks a.types c.before.before.before.before.before.before.before.loop.seen c.before.before.before.before.before.before.before.loop.j c.before.before.sign.result _ c.before.before.before.before.before.before.before.loop.invariant c.before.before.before.name-inside.ensures c.before.before.sign.ensures.0 (c.before.before.before.before.before.fits2.ensures a.names.now (not-false _ c.before.before.before.before.if1.false)) c.before.before.sign.ensures.1 (c.before.fresh.ensures (not-false _ c.if2.false))
+    so_far_next t c.before.before.before.before.before.before.before.before.before.wide.result a.marks a.types c.before.before.before.before.before.before.before.loop.seen c.before.before.before.before.before.before.before.loop.j c.before.before.sign.result _ c.before.before.before.before.before.before.before.loop.invariant c.before.before.before.name-inside.ensures c.before.before.sign.ensures.0 (c.before.before.before.before.before.fits2.ensures a.names.now (not-false _ c.before.before.before.before.if1.false)) c.before.before.sign.ensures.1 (c.before.fresh.ensures (not-false _ c.if2.false))
 
 returns-3 : tie.Need-returns-3 invariant-loop decreases-loop
 returns-3 c =

@@ -4,16 +4,16 @@ use mathlib.Core.Path.{◌≡◌, refl, ap}
 use mathlib.Core.List.{List}
 use Prim.Native.Nat.{ℕ, ◌-◌}
 use native.Mathlib.Omega.{arith}
-use Rattle.jer.specs.Table.{Token, tokenCode, firstWhere, alternative, table}
-use Rattle.types.specs.Rows.{foundOf}
+use Rattle.jer.specs.Table.{Token, token_code, first_where, alternative, table}
+use Rattle.types.specs.Rows.{found_of}
 use Rattle.types.proofs.LoopLaws.{first_next, first_found, first_ends}
-use Rattle.types.proofs.TokenLaws.{picks, picks-yes, picks-no, alternative-starts}
+use Rattle.types.proofs.TokenLaws.{picks, picks_yes, picks-no, alternative-starts}
 use borrow.Author.Rules.{rules}
 use Rattle.types.proofs.token.alternative.Statement.{statement}
 use Rattle.types.proofs.token.alternative.Tie as tie
 
 abbrev invariant-loop : tie.invariant-loop
-invariant-loop rows r token count i₀ i = (ns : List ℕ) (k : Token) → token ≡ tokenCode k → firstWhere (picks (table rows ns) r k) i (count - i) ≡ alternative (table rows ns) r k
+invariant-loop rows r token count i₀ i = (ns : List ℕ) (k : Token) → token ≡ token_code k → first_where (picks (table rows ns) r k) i (count - i) ≡ alternative (table rows ns) r k
 
 abbrev decreases-loop : tie.decreases-loop
 decreases-loop rows r token count i₀ i = count - i
@@ -33,13 +33,13 @@ token-of-requires : tie.Need-token-of-requires invariant-loop decreases-loop
 token-of-requires c κs = search rules
 
 returns : tie.Need-returns invariant-loop decreases-loop
-unfolding foundOf
+unfolding found_of
 returns c =
     let a = c.before.before.before.before.before.before.before.args in
     λ ns k e. let t = table a.rows.now ns in
-    ap foundOf
+    ap found_of
     (first_found (picks t a.r k) c.before.before.before.before.loop.i c.before.before.before.before.before.count_of.result c.before.before.before.loop-test.true refl
-    (picks-yes t a.r k c.before.before.before.before.loop.i (c.before.before.type-at.ensures ns) (c.before.token-of.ensures ns) e c.if1.true)
+    (picks_yes t a.r k c.before.before.before.before.loop.i (c.before.before.type-at.ensures ns) (c.before.token-of.ensures ns) e c.if1.true)
     (c.before.before.before.before.loop.invariant ns k e))
 
 add-i : tie.Need-overflow-add-i invariant-loop decreases-loop
@@ -58,10 +58,10 @@ loop-again c =
     (c.before.before.before.before.loop.invariant ns k e)
 
 returns-2 : tie.Need-returns-2 invariant-loop decreases-loop
-unfolding foundOf
+unfolding found_of
 returns-2 c =
     let a = c.before.before.before.before.args in
-    λ ns k e. ap foundOf
+    λ ns k e. ap found_of
     (first_ends (picks (table a.rows.now ns) a.r k) c.before.loop.i c.before.before.count_of.result c.loop-test.false (c.before.loop.invariant ns k e))
 
 pub alternative-spec : {M : Type 1} → statement M

@@ -1,5 +1,5 @@
 -- Made by tools/answers.py from answers/token/null_taken.ans: edit that. 921180ee74c8f9e6
-use Rattle.jer.specs.Table.{nullTaken}
+use Rattle.jer.specs.Table.{null_taken}
 use borrow.Author.Rules.{rules}
 use Rattle.types.proofs.token.null_taken.Statement.{statement}
 use Rattle.types.proofs.token.null_taken.Tie as tie
@@ -11,7 +11,7 @@ open-unwrapped-requires : tie.Need-open-unwrapped-requires
 open-unwrapped-requires c κs = search rules
 
 returns : tie.Need-returns
-unfolding nullTaken
+unfolding null_taken
 returns c = λ ns. rw (c.before.can-be-null.ensures ns, c.open-unwrapped.ensures ns)
 
 pub null-taken-spec : {M : Type 1} → statement M

@@ -1,5 +1,5 @@
 -- Made by tools/answers.py from answers/token/open_unwrapped.ans: edit that. 28f8692dadf17f7b
-use Rattle.jer.specs.Table.{openUnwrapped}
+use Rattle.jer.specs.Table.{open_unwrapped}
 use borrow.Author.Rules.{rules}
 use Rattle.types.proofs.token.open_unwrapped.Statement.{statement}
 use Rattle.types.proofs.token.open_unwrapped.Tie as tie
@@ -14,7 +14,7 @@ extensible-requires : tie.Need-extensible-requires
 extensible-requires c κs = search rules
 
 returns : tie.Need-returns
-unfolding openUnwrapped
+unfolding open_unwrapped
 returns c =
     λ ns. rw
     (c.before.is-unwrapped.ensures _ _ (c.before.before.at.ensures ns), c.extensible.ensures _ _ (c.before.before.at.ensures ns))

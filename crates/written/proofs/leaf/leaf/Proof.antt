@@ -1,6 +1,6 @@
 -- Made by tools/answers.py from answers/leaf/leaf.ans: edit that. 3be5014c1c24cab7
 use Rattle.jer.specs.Table.{table}
-use Rattle.written.proofs.LeafLaws.{bool-ends, int-ends, enum-ends, null-ends}
+use Rattle.written.proofs.LeafLaws.{bool_ends, int-ends, enum_ends, null-ends}
 use borrow.Author.Rules.{rules}
 use Rattle.written.proofs.leaf.leaf.Statement.{statement}
 use Rattle.written.proofs.leaf.leaf.Tie as tie
@@ -63,7 +63,7 @@ returns : tie.Need-returns
 returns c =
     let a = c.before.before.before.before.before.before.before.before.before.before.before.before.before.args in
     let w = a.w in
-    λ i ws. bool-ends i (table a.types.now a.names.now) a.pool.now a.row w.a w.b w.size ws a.slot a.offset c.before.before.before.before.before.before.before.before.before.before.before.before.before.requires.0 c.before.before.before.before.before.before.before.before.match.keys1 c.before.before.before.before.before.put-bool.ensures c.ended.ensures
+    λ i ws. bool_ends i (table a.types.now a.names.now) a.pool.now a.row w.a w.b w.size ws a.slot a.offset c.before.before.before.before.before.before.before.before.before.before.before.before.before.requires.0 c.before.before.before.before.before.before.before.before.match.keys1 c.before.before.before.before.before.put-bool.ensures c.ended.ensures
 
 same-length-2 : tie.Need-same-length-2
 same-length-2 c = search rules
@@ -81,7 +81,7 @@ returns-3 : tie.Need-returns-3
 returns-3 c =
     let a = c.before.before.before.before.before.before.before.before.before.before.before.before.before.before.before.args in
     let w = a.w in
-    λ i ws. enum-ends i (table a.types.now a.names.now) a.pool.now a.row w.a w.b w.size ws a.slot a.offset c.before.before.before.before.before.before.before.before.before.before.before.before.before.before.before.requires.0 c.before.before.before.before.before.before.before.before.before.before.match.keys3 (c.before.before.before.count_of.ensures a.names.now) (c.before.before.before.before.before.before.before.before.before.member-row.ensures a.names.now) c.before.before.before.before.before.before.before.before.name_in.ensures c.before.before.before.before.before.before.put-chars.ensures.0 c.ended3.ensures
+    λ i ws. enum_ends i (table a.types.now a.names.now) a.pool.now a.row w.a w.b w.size ws a.slot a.offset c.before.before.before.before.before.before.before.before.before.before.before.before.before.before.before.requires.0 c.before.before.before.before.before.before.before.before.before.before.match.keys3 (c.before.before.before.count_of.ensures a.names.now) (c.before.before.before.before.before.before.before.before.before.member-row.ensures a.names.now) c.before.before.before.before.before.before.before.before.name_in.ensures c.before.before.before.before.before.before.put-chars.ensures.0 c.ended3.ensures
 
 same-length-4 : tie.Need-same-length-4
 same-length-4 c = search rules

@@ -1,5 +1,5 @@
 -- Made by tools/answers.py from answers/put/put_bool.ans: edit that. 1e1cc66e22a77508
-use Rattle.jer.specs.Write.{boolText}
+use Rattle.jer.specs.Write.{bool_text}
 use borrow.Author.Rules.{rules}
 use Rattle.written.proofs.put.put_bool.Statement.{statement}
 use Rattle.written.proofs.put.put_bool.Tie as tie
@@ -14,7 +14,7 @@ same_length : tie.Need-same-length
 same_length c = search rules
 
 returns : tie.Need-returns
-unfolding boolText
+unfolding bool_text
 returns c = rw c.before.before.before.before.before.if1.true c.before.before.put-bytes.ensures
 
 slice-aggregate-put-bytes-2 : tie.Need-slice-aggregate-put-bytes-2
@@ -27,7 +27,7 @@ same-length-2 : tie.Need-same-length-2
 same-length-2 c = search rules
 
 returns-2 : tie.Need-returns-2
-unfolding boolText
+unfolding bool_text
 returns-2 c = rw c.before.before.before.before.before.if1.false c.before.before.put-bytes2.ensures
 
 pub put-bool-spec : {M : Type 1} → statement M

@@ -1,7 +1,7 @@
 -- Made by tools/answers.py from answers/put/put_integer.ans: edit that. 97c19df9a6919b87
 use Prim.Native.Nat.{◌+◌, ◌*◌, ◌^◌}
 use native.Mathlib.Omega.{arith}
-use Rattle.jer.specs.Write.{intText}
+use Rattle.jer.specs.Write.{int_text}
 use Rattle.written.proofs.PutLaws.{counted, puts-stored, puts-past}
 use borrow.Author.Rules.{rules}
 use Rattle.written.proofs.put.put_integer.Statement.{statement}
@@ -19,7 +19,7 @@ same_length c = search rules
 returns : tie.Need-returns
 returns c =
     let a = c.before.before.before.before.before.before.before.args in
-    puts-stored (counted (intText (a.high * 2 ^ 32 + a.low)) a.k c.before.before.before.put-integer.ensures.0 c.add.ensures) c.before.before.before.put-integer.ensures.1
+    puts-stored (counted (int_text (a.high * 2 ^ 32 + a.low)) a.k c.before.before.before.put-integer.ensures.0 c.add.ensures) c.before.before.before.put-integer.ensures.1
 
 integer-len-requires : tie.Need-integer-len-requires
 integer-len-requires c κs = search rules
@@ -30,7 +30,7 @@ add-requires-2 c κs = search rules
 returns-2 : tie.Need-returns-2
 returns-2 c =
     let a = c.before.before.before.before.args in
-    puts-past (counted (intText (a.high * 2 ^ 32 + a.low)) a.k c.before.integer-len.ensures c.add2.ensures) (omega (arith, c.before.before.if1.false))
+    puts-past (counted (int_text (a.high * 2 ^ 32 + a.low)) a.k c.before.integer-len.ensures c.add2.ensures) (omega (arith, c.before.before.if1.false))
 
 pub put-integer-spec : {M : Type 1} → statement M
 put-integer-spec =

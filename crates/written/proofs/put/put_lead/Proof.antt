@@ -1,5 +1,5 @@
 -- Made by tools/answers.py from answers/put/put_lead.ans: edit that. 536a35218b1cb667
-use Rattle.jer.specs.Table.{table, memberRow}
+use Rattle.jer.specs.Table.{table, member_row}
 use mathlib.Core.Path.{refl}
 use Rattle.written.proofs.RowLaws.{member-name}
 use Rattle.written.proofs.PutLaws.{leads-array, leads-object}

@@ -1,5 +1,5 @@
 -- Made by tools/answers.py from answers/put/put_null.ans: edit that. 093df88632de9844
-use Rattle.jer.specs.Write.{nullText}
+use Rattle.jer.specs.Write.{null_text}
 use borrow.Author.Rules.{rules}
 use Rattle.written.proofs.put.put_null.Statement.{statement}
 use Rattle.written.proofs.put.put_null.Tie as tie
@@ -14,7 +14,7 @@ same_length : tie.Need-same-length
 same_length c = search rules
 
 returns : tie.Need-returns
-unfolding nullText
+unfolding null_text
 returns c = c.before.before.put-bytes.ensures
 
 pub put-null-spec : {M : Type 1} → statement M

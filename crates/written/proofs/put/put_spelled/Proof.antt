@@ -1,7 +1,7 @@
 -- Made by tools/answers.py from answers/put/put_spelled.ans: edit that. aa6f57dd704ac122
 use native.Mathlib.Omega.{arith}
 use Rattle.written.specs.Text.{spelled}
-use Rattle.written.proofs.PutLaws.{counted, puts-stored, puts-nowhere, puts-past, spelled-few}
+use Rattle.written.proofs.PutLaws.{counted, puts-stored, puts_nowhere, puts-past, spelled-few}
 use borrow.Author.Rules.{rules}
 use Rattle.written.proofs.put.put_spelled.Statement.{statement}
 use Rattle.written.proofs.put.put_spelled.Tie as tie
@@ -10,7 +10,7 @@ end-of-requires : tie.Need-end-of-requires
 end-of-requires c κs = search rules
 
 returns : tie.Need-returns
-returns c = puts-nowhere c.end_of.ensures c.before.if1.true
+returns c = puts_nowhere c.end_of.ensures c.before.if1.true
 
 end-of-requires-2 : tie.Need-end-of-requires-2
 end-of-requires-2 c κs = search rules

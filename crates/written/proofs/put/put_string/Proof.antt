@@ -2,7 +2,7 @@
 use native.Mathlib.Omega.{arith}
 use Rattle.jer.specs.Write.{quotes}
 use Rattle.written.proofs.LiteralLaws.{whole-over}
-use Rattle.written.proofs.PutLaws.{puts-append}
+use Rattle.written.proofs.PutLaws.{puts_append}
 use borrow.Author.Rules.{rules}
 use Rattle.written.proofs.put.put_string.Statement.{statement}
 use Rattle.written.proofs.put.put_string.Tie as tie
@@ -36,7 +36,7 @@ same-length-2 c = search rules
 
 returns-2 : tie.Need-returns-2
 unfolding quotes
-returns-2 c = whole-over c.before.before.before.before.before.before.before.before.before.before.before.before.before.before.before.put_whole.ensures c.before.before.before.before.before.before.before.before.before.before.before.before.if1.false (puts-append c.before.before.before.before.before.before.before.before.before.before.put_byte.ensures (puts-append c.before.before.before.before.before.before.put-spelled.ensures c.before.before.put-byte2.ensures))
+returns-2 c = whole-over c.before.before.before.before.before.before.before.before.before.before.before.before.before.before.before.put_whole.ensures c.before.before.before.before.before.before.before.before.before.before.before.before.if1.false (puts_append c.before.before.before.before.before.before.before.before.before.before.put_byte.ensures (puts_append c.before.before.before.before.before.before.put-spelled.ensures c.before.before.put-byte2.ensures))
 
 pub put-string-spec : {M : Type 1} → statement M
 put-string-spec =

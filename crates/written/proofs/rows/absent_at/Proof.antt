@@ -30,7 +30,7 @@ returns-2 : tie.Need-returns-2
 returns-2 c =
     let a = c.before.before.before.before.before.before.before.before.before.before.args in
     let found = rw c.before.before.before.before.before.w.given.1 at c.before.before.before.before.before.before.before.row_at.ensures in
-    ((λ ns. absent-row (table a.types.now ns) a.r a.i found.0 (c.before.may-be-absent.ensures ns) c.is-absent.ensures), λ _. found.2)
+    ((λ ns. absent-row (table a.types.now ns) a.r a.i found.0 (c.before.may_be_absent_lem.ensures ns) c.is-absent.ensures), λ _. found.2)
 
 returns-3 : tie.Need-returns-3
 returns-3 c =

@@ -3,10 +3,10 @@ use mathlib.Core.Path.{refl, sym, ap, ◌∙◌}
 use native.Mathlib.Omega.{arith}
 use borrow.Author.Tests.{not-true, not-false}
 use Rattle.jer.specs.Table.{table, kind_of}
-use Rattle.jer.specs.Judge.{rowsIn}
+use Rattle.jer.specs.Judge.{rows_in}
 use Rattle.types.proofs.RowLaws.{kind-of}
 use Rattle.types.specs.declared.row.Row.{Row}
-use Rattle.written.specs.Rows.{valueRow}
+use Rattle.written.specs.Rows.{value_row}
 use Rattle.written.specs.Start.{own, chosen, none}
 use Rattle.written.proofs.ValueLaws.{right_is, text-none, unwrapped-bad}
 use borrow.Author.Rules.{rules}
@@ -41,11 +41,11 @@ returns-2 c =
 returns-3 : tie.Need-returns-3
 returns-3 c =
     let a = c.before.before.before.before.before.before.before.before.before.before.before.before.before.before.args in
-    let rows = rowsIn a.values.now in
+    let rows = rows_in a.values.now in
     let found = rw c.before.before.before.before.before.before.w.given.1 at c.before.before.before.before.before.before.before.before.row_at.ensures in
     let w = c.before.before.before.before.before.before.w.given.0.0 in
     λ ns. let t = table a.types.now ns in
-    none refl (λ d pool o. unwrapped-bad d t pool rows a.row a.slot o (valueRow w) (sym (c.before.before.before.before.before.before.before.before.before.before.is-unwrapped.ensures t a.row (c.before.before.before.before.before.before.before.before.before.before.before.type_row.ensures ns)) ∙ not-false _ c.before.before.before.before.before.before.before.before.before.if1.false) found.0
+    none refl (λ d pool o. unwrapped-bad d t pool rows a.row a.slot o (value_row w) (sym (c.before.before.before.before.before.before.before.before.before.before.is-unwrapped.ensures t a.row (c.before.before.before.before.before.before.before.before.before.before.before.type_row.ensures ns)) ∙ not-false _ c.before.before.before.before.before.before.before.before.before.if1.false) found.0
     (right_is w.kind w.a w.b (ap (λ (v : Row). v.members) (c.before.before.before.before.before.before.before.before.before.before.before.type_row.ensures ns)) (not-true _ c.if2.true)))
 
 type-at-requires : tie.Need-type-at-requires
@@ -65,7 +65,7 @@ returns-4 c =
     let found = rw c.before.before.before.before.before.before.before.before.w.given.1 at c.before.before.before.before.before.before.before.before.before.before.row_at.ensures in
     let w = c.before.before.before.before.before.before.before.before.w.given.0.0 in
     λ ns. let t = table a.types.now ns in
-    chosen (valueRow w) (sym (c.before.before.before.before.before.before.before.before.before.before.before.before.is-unwrapped.ensures t a.row (c.before.before.before.before.before.before.before.before.before.before.before.before.before.type_row.ensures ns)) ∙ not-false _ c.before.before.before.before.before.before.before.before.before.before.before.if1.false) found.0
+    chosen (value_row w) (sym (c.before.before.before.before.before.before.before.before.before.before.before.before.is-unwrapped.ensures t a.row (c.before.before.before.before.before.before.before.before.before.before.before.before.before.type_row.ensures ns)) ∙ not-false _ c.before.before.before.before.before.before.before.before.before.before.before.if1.false) found.0
     (right_is w.kind w.a w.b (ap (λ (v : Row). v.members) (c.before.before.before.before.before.before.before.before.before.before.before.before.before.type_row.ensures ns)) (not-false _ c.before.before.if2.false))
     refl (c.before.type-at.ensures ns) (c.kind-of.ensures ns) refl refl
 

@@ -4,17 +4,17 @@ use mathlib.Core.Path.{◌≡◌, refl, sym, ap, ◌∙◌}
 use native.Mathlib.Omega.{arith}
 use lib.ListN.{length, drop}
 use borrow.Author.Tests.{not-true, not-false}
-use Rattle.jer.specs.Table.{elementOf, countOf, first_of, table}
+use Rattle.jer.specs.Table.{element_of, count_of, first_of, table}
 use Rattle.types.specs.declared.row.Row.{Row}
 use Rattle.written.proofs.RowLaws.{member_is, member-type}
 use Rattle.types.proofs.RowLaws.{kind-of}
 use Rattle.written.proofs.StartLaws.{leaf-plain, start-wrong, start_plain, start-fails, start-ends}
-use Rattle.jer.specs.Judge.{rowsIn}
-use Rattle.written.specs.Rows.{valueRow}
+use Rattle.jer.specs.Judge.{rows_in}
+use Rattle.written.specs.Rows.{value_row}
 use Rattle.written.proofs.TextLaws.{gives-wrong, writes-is, writes_as, writes-none, value-got, value-wrong}
 use Rattle.written.proofs.ListLaws.{Items, items-start, items-next, items-wrong, items-end}
-use Rattle.written.proofs.SequenceLaws.{Members, null_is, members-start, members-absent, members-null, members-part, members-wrong, members-end}
-use Rattle.written.proofs.ValueLaws.{text-none, row-text, plain_other, plain-deep, plain-b, plain-kind, plain-position, plain-seq, plain-list, plain-choice, choice-ends, choice-wrong}
+use Rattle.written.proofs.SequenceLaws.{Members, null_is, members-start, members-absent, members-null, members_part, members-wrong, members-end}
+use Rattle.written.proofs.ValueLaws.{text-none, row-text, plain_other, plain-deep, plain-b, plain-kind, plain-position, plain_seq, plain-list, plain-choice, choice-ends, choice-wrong}
 use borrow.Author.Rules.{rules}
 use borrow.Fn.Kinds.{In}
 use borrow.Fn.PlainCycle.{Measures, is, falls, and}
@@ -198,7 +198,7 @@ bracket-returns-3 t c =
     let t = table a.types.now a.names.now in
     let w = a.w in
     let found = c.before.before.before.before.before.before.before.before.before.before.before.before.before.requires.1.1 in
-    writes_as (plain-seq a.depth t a.pool.now a.row w.kind w.a w.b w.size a.slot a.offset found.4 found.0 c.before.before.before.before.before.before.before.if1.false found.2 c.before.before.before.before.before.if2.false c.before.before.before.before.if3.true) c.before.before.sequence.ensures
+    writes_as (plain_seq a.depth t a.pool.now a.row w.kind w.a w.b w.size a.slot a.offset found.4 found.0 c.before.before.before.before.before.before.before.if1.false found.2 c.before.before.before.before.before.if2.false c.before.before.before.before.if3.true) c.before.before.sequence.ensures
 
 bracket-sub-list : (t : ℕ) → bracket-lts.Need-overflow-sub-list (bracket-calls t) (bracket-at t) bracket.Post
 bracket-sub-list t c = search rules
@@ -300,8 +300,8 @@ choice-same-length t c = search rules
 choice-returns : (t : ℕ) → choice-lts.Need-returns (choice-calls t) (choice-at t) choice.Post
 choice-returns t c =
     let a = c.before.before.before.before.before.before.before.before.before.before.before.before.before.before.before.before.before.before.before.before.before.before.before.args in
-    let rows = rowsIn a.values.now in
-    gives-wrong (choice-wrong _ _ _ rows _ a.slot _ (valueRow a.w) (value-wrong rows (c.before.before.before.before.before.before.before.type-at.ensures a.names.now) (a.slot + 1) c.before.before.before.before.before.value.ensures c.before.b.given.1))
+    let rows = rows_in a.values.now in
+    gives-wrong (choice-wrong _ _ _ rows _ a.slot _ (value_row a.w) (value-wrong rows (c.before.before.before.before.before.before.before.type-at.ensures a.names.now) (a.slot + 1) c.before.before.before.before.before.value.ensures c.before.b.given.1))
 
 choice-same-length-2 : (t : ℕ) → choice-lts.Need-same-length-2 (choice-calls t) (choice-at t) choice.Post
 choice-same-length-2 t c = omega (arith, c.before.before.before.put-byte2.auto.0, c.before.before.before.before.before.before.before.before.before.before.value.auto.1.1.1.1.1.0, c.before.before.before.before.before.before.before.before.before.before.before.before.before.before.before.put-name.auto.1.0, c.before.before.before.before.before.before.before.before.before.before.before.before.before.before.before.before.before.before.before.before.before.put_byte.auto.0)
@@ -309,9 +309,9 @@ choice-same-length-2 t c = omega (arith, c.before.before.before.put-byte2.auto.0
 choice-returns-2 : (t : ℕ) → choice-lts.Need-returns-2 (choice-calls t) (choice-at t) choice.Post
 choice-returns-2 t c =
     let a = c.before.before.before.before.before.before.before.before.before.before.before.before.before.before.before.before.before.before.before.before.before.before.before.before.before.before.before.before.args in
-    let rows = rowsIn a.values.now in
+    let rows = rows_in a.values.now in
     let v = value-got rows (c.before.before.before.before.before.before.before.before.before.before.before.before.type-at.ensures a.names.now) (a.slot + 1) c.before.before.before.before.before.before.before.before.before.before.value.ensures c.before.before.before.before.before.before.next.given.1 in
-    writes-is c.ended.ensures (choice-ends _ _ _ rows _ a.slot _ (valueRow a.w) c.before.before.before.before.before.before.before.before.before.before.before.before.before.before.before.before.before.before.before.before.before.before.before.before.before.before.before.before.requires.1.2 c.before.before.before.before.before.before.before.before.before.before.before.before.before.before.before.before.before.before.before.before.before.put_byte.ensures (c.before.before.before.before.before.before.before.before.before.before.before.before.before.before.before.before.before.member-row.ensures a.names.now) c.before.before.before.before.before.before.before.before.before.before.before.before.before.before.before.before.name_in.ensures c.before.before.before.before.before.before.before.before.before.before.before.before.before.before.before.put-name.ensures v c.before.before.before.put-byte2.ensures)
+    writes-is c.ended.ensures (choice-ends _ _ _ rows _ a.slot _ (value_row a.w) c.before.before.before.before.before.before.before.before.before.before.before.before.before.before.before.before.before.before.before.before.before.before.before.before.before.before.before.before.requires.1.2 c.before.before.before.before.before.before.before.before.before.before.before.before.before.before.before.before.before.before.before.before.before.put_byte.ensures (c.before.before.before.before.before.before.before.before.before.before.before.before.before.before.before.before.before.member-row.ensures a.names.now) c.before.before.before.before.before.before.before.before.before.before.before.before.before.before.before.before.name_in.ensures c.before.before.before.before.before.before.before.before.before.before.before.before.before.before.before.put-name.ensures v c.before.before.before.put-byte2.ensures)
 
 judged-slice-aggregate-value : (t : ℕ) → judged-lts.Need-slice-aggregate-value (judged-calls t) (judged-at t) judged.Post
 judged-slice-aggregate-value t c = search rules
@@ -378,7 +378,7 @@ leaf-or-value-returns-4 t c =
     writes_as (row-text a.depth t a.pool.now a.row w.kind w.a w.b w.size a.slot a.offset (leaf-plain t a.row kind c.before.before.before.before.before.before.before.before.before.before.if1.false) found.0) (c.before.before.leaf.ensures _ _)
 
 abbrev list-Inv-loop : list-lts.invariant-loop
-list-Inv-loop literal types names values pool text₀ w row slot offset place depth e i₀ next₀ used₀ p₀ text i next used p = (e ≡ elementOf (table types names) row) × (length text ≡ length text₀) × Items depth (table types names) pool (rowsIn values) (valueRow w) row slot offset p₀ text₀ text i next used p
+list-Inv-loop literal types names values pool text₀ w row slot offset place depth e i₀ next₀ used₀ p₀ text i next used p = (e ≡ element_of (table types names) row) × (length text ≡ length text₀) × Items depth (table types names) pool (rows_in values) (value_row w) row slot offset p₀ text₀ text i next used p
 
 abbrev list-μ-loop : list-lts.decreases-loop
 list-μ-loop literal types names values pool text₀ w row slot offset place depth e i₀ next₀ used₀ p₀ text i next used p = w.a - i
@@ -413,7 +413,7 @@ list-returns : (t : ℕ) → list-lts.Need-returns (list-calls t) (list_at t) li
 list-returns t c =
     let a = c.before.before.before.before.before.before.before.before.before.before.before.before.before.before.before.before.before.before.before.before.before.before.before.before.args in
     let inv = c.before.before.before.before.before.before.before.before.before.before.before.before.before.loop.invariant in
-    gives-wrong (items-wrong inv.2 c.before.before.before.before.before.before.before.before.before.before.before.if1.true (value-wrong (rowsIn a.values.now) inv.0 c.before.before.before.before.before.before.before.before.before.before.before.before.before.loop.next c.before.before.before.before.before.value.ensures c.before.b.given.1))
+    gives-wrong (items-wrong inv.2 c.before.before.before.before.before.before.before.before.before.before.before.if1.true (value-wrong (rows_in a.values.now) inv.0 c.before.before.before.before.before.before.before.before.before.before.before.before.before.loop.next c.before.before.before.before.before.value.ensures c.before.b.given.1))
 
 list-enum-known-n : (t : ℕ) → list-lts.Need-enum-known-n (list-calls t) (list_at t) list.Post list-Inv-loop list-μ-loop
 list-enum-known-n t c = search rules
@@ -428,7 +428,7 @@ list-loop-again : (t : ℕ) → list-lts.Need-loop-preserved (list-calls t) (lis
 list-loop-again t c =
     let a = c.before.before.before.before.before.before.before.before.before.before.before.before.before.before.before.before.before.before.before.before.before.before.before.before.args in
     let inv = c.before.before.before.before.before.before.before.before.before.before.before.before.before.loop.invariant in
-    let v = value-got (rowsIn a.values.now) inv.0 c.before.before.before.before.before.before.before.before.before.before.before.before.before.loop.next c.before.before.before.before.before.value.ensures c.before.n.given.1 in
+    let v = value-got (rows_in a.values.now) inv.0 c.before.before.before.before.before.before.before.before.before.before.before.before.before.loop.next c.before.before.before.before.before.value.ensures c.before.n.given.1 in
     (inv.0, search rules, items-next inv.2 c.before.before.before.before.before.before.before.before.before.before.before.if1.true c.before.before.before.before.before.before.before.before.before.put-comma.ensures v)
 
 list-put-byte-requires-2 : (t : ℕ) → list-lts.Need-put-byte-requires-2 (list-calls t) (list_at t) list.Post list-Inv-loop list-μ-loop
@@ -499,7 +499,7 @@ plain-returns-4 : (t : ℕ) → plain-lts.Need-returns-4 (plain-calls t) (plain_
 plain-returns-4 t c = c.before.before.bracket.ensures
 
 abbrev sequence-Inv-loop : sequence-lts.invariant-loop
-sequence-Inv-loop literal types names values pool text₀ w row slot offset place depth array count first i₀ present₀ kept₀ next₀ used₀ p₀ text i present kept next used p = (first ≡ first_of (table types names) row) × (count ≡ countOf (table types names) row) × (count < 4294967296) × (length text ≡ length text₀) × Members depth (table types names) pool (rowsIn values) (valueRow w) row slot offset p₀ array text₀ text i present kept next used p
+sequence-Inv-loop literal types names values pool text₀ w row slot offset place depth array count first i₀ present₀ kept₀ next₀ used₀ p₀ text i present kept next used p = (first ≡ first_of (table types names) row) × (count ≡ count_of (table types names) row) × (count < 4294967296) × (length text ≡ length text₀) × Members depth (table types names) pool (rows_in values) (value_row w) row slot offset p₀ array text₀ text i present kept next used p
 
 abbrev sequence-μ-loop : sequence-lts.decreases-loop
 sequence-μ-loop literal types names values pool text₀ w row slot offset place depth array count first i₀ present₀ kept₀ next₀ used₀ p₀ text i present kept next used p = count - i
@@ -576,7 +576,7 @@ sequence-returns : (t : ℕ) → sequence-lts.Need-returns (sequence-calls t) (s
 sequence-returns t c =
     let a = c.before.before.before.before.before.before.before.before.before.before.before.before.before.before.before.before.before.before.before.before.before.before.before.before.args in
     let t = table a.types.now a.names.now in
-    let rows = rowsIn a.values.now in
+    let rows = rows_in a.values.now in
     let inv = c.before.before.before.before.before.before.before.before.before.before.before.loop.invariant in
     let member = member_is t a.row c.before.before.before.before.before.before.before.before.before.before.before.loop.i (c.before.before.before.before.before.before.before.before.type-row2.ensures a.names.now) inv.0 c.before.before.before.before.before.before.before.before.before.wide2.ensures.0 in
     let type = member-type t a.row c.before.before.before.before.before.before.before.before.before.before.before.loop.i member c.before.before.before.before.before.before.before.wide3.ensures.0 in
@@ -597,7 +597,7 @@ sequence-loop-again-2 : (t : ℕ) → sequence-lts.Need-loop-preserved-2 (sequen
 sequence-loop-again-2 t c =
     let a = c.before.before.before.before.before.before.before.before.before.before.before.before.before.before.before.before.before.before.before.before.before.before.before.before.before.args in
     let t = table a.types.now a.names.now in
-    let rows = rowsIn a.values.now in
+    let rows = rows_in a.values.now in
     let inv = c.before.before.before.before.before.before.before.before.before.before.before.before.loop.invariant in
     let member = member_is t a.row c.before.before.before.before.before.before.before.before.before.before.before.before.loop.i (c.before.before.before.before.before.before.before.before.before.type-row2.ensures a.names.now) inv.0 c.before.before.before.before.before.before.before.before.before.before.wide2.ensures.0 in
     let type = member-type t a.row c.before.before.before.before.before.before.before.before.before.before.before.before.loop.i member c.before.before.before.before.before.before.before.before.wide3.ensures.0 in
@@ -628,7 +628,7 @@ sequence-returns-2 : (t : ℕ) → sequence-lts.Need-returns-2 (sequence-calls t
 sequence-returns-2 t c =
     let a = c.before.before.before.before.before.before.before.before.before.before.before.before.before.before.before.before.before.before.before.before.before.before.before.before.before.before.before.before.before.before.before.args in
     let t = table a.types.now a.names.now in
-    let rows = rowsIn a.values.now in
+    let rows = rows_in a.values.now in
     let inv = c.before.before.before.before.before.before.before.before.before.before.before.before.before.before.before.before.before.before.loop.invariant in
     let member = member_is t a.row c.before.before.before.before.before.before.before.before.before.before.before.before.before.before.before.before.before.before.loop.i (c.before.before.before.before.before.before.before.before.before.before.before.before.before.before.before.type-row2.ensures a.names.now) inv.0 c.before.before.before.before.before.before.before.before.before.before.before.before.before.before.before.before.wide2.ensures.0 in
     let type = member-type t a.row c.before.before.before.before.before.before.before.before.before.before.before.before.before.before.before.before.before.before.loop.i member c.before.before.before.before.before.before.before.before.before.before.before.before.before.before.wide3.ensures.0 in
@@ -652,7 +652,7 @@ sequence-loop-again-3 : (t : ℕ) → sequence-lts.Need-loop-preserved-3 (sequen
 sequence-loop-again-3 t c =
     let a = c.before.before.before.before.before.before.before.before.before.before.before.before.before.before.before.before.before.before.before.before.before.before.before.before.before.before.before.before.before.before.before.before.before.args in
     let t = table a.types.now a.names.now in
-    let rows = rowsIn a.values.now in
+    let rows = rows_in a.values.now in
     let inv = c.before.before.before.before.before.before.before.before.before.before.before.before.before.before.before.before.before.before.before.before.loop.invariant in
     let member = member_is t a.row c.before.before.before.before.before.before.before.before.before.before.before.before.before.before.before.before.before.before.before.before.loop.i (c.before.before.before.before.before.before.before.before.before.before.before.before.before.before.before.before.before.type-row2.ensures a.names.now) inv.0 c.before.before.before.before.before.before.before.before.before.before.before.before.before.before.before.before.before.before.wide2.ensures.0 in
     let type = member-type t a.row c.before.before.before.before.before.before.before.before.before.before.before.before.before.before.before.before.before.before.before.before.loop.i member c.before.before.before.before.before.before.before.before.before.before.before.before.before.before.before.before.wide3.ensures.0 in
@@ -660,7 +660,7 @@ sequence-loop-again-3 t c =
     let inside = rw inv.1 at c.before.before.before.before.before.before.before.before.before.before.before.before.before.before.before.before.before.before.before.loop-test.true in
     let null = null_is t (drop c.before.before.before.before.before.before.before.before.before.before.before.before.before.before.before.before.before.before.before.before.loop.next rows) c.before.before.before.before.before.before.before.before.before.before.before.before.before.before.before.before.before.before.before.before.before.before.before.before.before.before.is-array.result type (c.before.before.before.before.before.before.before.before.before.before.before.before.before.null-in.ensures a.names.now) c.before.before.before.before.before.before.before.before.before.before.before.before.if2.false in
     let v = value-got rows type c.before.before.before.before.before.before.before.before.before.before.before.before.before.before.before.before.before.before.before.before.loop.next c.before.before.before.before.before.before.leaf-or-value.ensures c.before.before.t2.given.1 in
-    (inv.0, inv.1, inv.2, c.before.before.before.before.before.before.leaf-or-value.auto.1.1.1.1.1.0 ∙ c.before.before.before.before.before.before.before.before.before.before.put-lead.auto.1.1.0 ∙ inv.3, rw c.kept-after.ensures (members-part inv.4 inside absent c.before.before.before.before.before.before.before.before.before.before.before.before.before.before.before.before.before.before.before.before.before.before.before.before.before.before.before.before.before.before.before.before.before.requires.1.0.wrapped v null (c.before.before.before.before.before.before.before.before.before.before.put-lead.ensures a.types.now a.row member)))
+    (inv.0, inv.1, inv.2, c.before.before.before.before.before.before.leaf-or-value.auto.1.1.1.1.1.0 ∙ c.before.before.before.before.before.before.before.before.before.before.put-lead.auto.1.1.0 ∙ inv.3, rw c.kept-after.ensures (members_part inv.4 inside absent c.before.before.before.before.before.before.before.before.before.before.before.before.before.before.before.before.before.before.before.before.before.before.before.before.before.before.before.before.before.before.before.before.before.requires.1.0.wrapped v null (c.before.before.before.before.before.before.before.before.before.before.put-lead.ensures a.types.now a.row member)))
 
 sequence-put-closing-requires : (t : ℕ) → sequence-lts.Need-put-closing-requires (sequence-calls t) (sequence-at t) sequence.Post sequence-Inv-loop sequence-μ-loop
 sequence-put-closing-requires t c κs = search rules
@@ -683,14 +683,14 @@ value-returns : (t : ℕ) → value-lts.Need-returns (value-calls t) (value-at t
 value-returns t c =
     let a = c.before.before.before.before.before.before.before.before.args in
     let t = table a.types.now a.names.now in
-    let rows = rowsIn a.values.now in
+    let rows = rows_in a.values.now in
     gives-wrong (start-wrong a.depth t a.pool.now rows a.row a.slot a.offset (c.before.before.start_of_lem.ensures a.names.now) (not-true _ c.if1.true))
 
 value-plain-requires : (t : ℕ) → value-lts.Need-plain-requires (value-calls t) (value-at t) value.Post
 value-plain-requires t c κs =
     let a = c.before.before.before.before.before.before.before.before.before.args in
     let t = table a.types.now a.names.now in
-    let rows = rowsIn a.values.now in
+    let rows = rows_in a.values.now in
     (omega (arith, c.before.before.before.before.before.before.before.before.before.requires.0), (c.before.before.before.before.before.before.before.before.before.requires.1, start_plain a.depth t a.pool.now rows a.row a.slot a.offset (c.before.before.before.start_of_lem.ensures a.names.now) c.before.before.before.before.before.before.before.before.before.requires.1.wrapped (not-false _ c.before.if1.false)))
 
 value-enum-known-b : (t : ℕ) → value-lts.Need-enum-known-b (value-calls t) (value-at t) value.Post
@@ -709,7 +709,7 @@ value-returns-2 : (t : ℕ) → value-lts.Need-returns-2 (value-calls t) (value-
 value-returns-2 t c =
     let a = c.before.before.before.before.before.before.before.before.before.before.before.before.before.before.before.args in
     let t = table a.types.now a.names.now in
-    let rows = rowsIn a.values.now in
+    let rows = rows_in a.values.now in
     gives-wrong (start-fails a.depth t a.pool.now rows a.row a.slot a.offset (c.before.before.before.before.before.before.before.before.before.start_of_lem.ensures a.names.now) c.before.before.before.before.before.before.before.before.before.before.before.before.before.before.before.requires.1.wrapped (not-false _ c.before.before.before.before.before.before.before.if1.false)
     (value-wrong rows refl c.before.before.before.before.before.before.before.before.before.start_of_lem.result.slot c.before.before.before.before.before.plain.ensures c.before.b.given.1))
 
@@ -720,7 +720,7 @@ value-returns-3 : (t : ℕ) → value-lts.Need-returns-3 (value-calls t) (value-
 value-returns-3 t c =
     let a = c.before.before.before.before.before.before.before.before.before.before.before.before.before.before.before.before.args in
     let t = table a.types.now a.names.now in
-    let rows = rowsIn a.values.now in
+    let rows = rows_in a.values.now in
     start-ends a.depth t a.pool.now rows a.row a.slot a.offset (c.before.before.before.before.before.before.before.before.before.before.start_of_lem.ensures a.names.now) c.before.before.before.before.before.before.before.before.before.before.before.before.before.before.before.before.requires.1.wrapped (not-false _ c.before.before.before.before.before.before.before.before.if1.false)
     (value-got rows refl c.before.before.before.before.before.before.before.before.before.before.start_of_lem.result.slot c.before.before.before.before.before.before.plain.ensures c.before.before.next.given.1) c.closed.ensures
 

@@ -1,5 +1,5 @@
 -- Made by tools/answers.py from answers/cursor/Cursor/skip_space.ans: edit that. dba2325d0c9e87a0
-use Rattle.tokens.specs.Places.{pastSpace}
+use Rattle.tokens.specs.Places.{past_space}
 use borrow.Author.Rules.{rules}
 use Rattle.tokens.proofs.cursor.Cursor.skip_space.Statement.{statement}
 use Rattle.tokens.proofs.cursor.Cursor.skip_space.Tie as tie
@@ -8,7 +8,7 @@ run-requires : tie.Need-run-requires
 run-requires c κs = search rules
 
 returns : tie.Need-returns
-unfolding pastSpace
+unfolding past_space
 returns c = c.run.ensures
 
 pub skip-space-spec : {M : Type 1} → statement M

@@ -1,7 +1,7 @@
 -- Made by tools/answers.py from answers/row/Row/carries.ans: edit that. 0534336e222a12de
 use mathlib.Core.Path.{◌∙◌}
-use Rattle.json.specs.Bytes.{pick}
-use Rattle.jer.specs.Table.{tokenCode, code_of, carries}
+use Rattle.json_text.specs.Bytes.{pick}
+use Rattle.jer.specs.Table.{token_code, code_of, carries}
 use Rattle.types.proofs.RowLaws.{carries-none}
 use borrow.Author.Rules.{rules}
 use Rattle.types.proofs.row.Row.carries.Statement.{statement}
@@ -47,43 +47,43 @@ line-requires-11 : tie.Need-line-requires-11
 line-requires-11 c κs = search rules
 
 returns : tie.Need-returns
-unfolding carries pick code_of tokenCode
+unfolding carries pick code_of token_code
 returns c = c.line.ensures ∙ rw c.before.match.keys1
 
 returns-2 : tie.Need-returns-2
-unfolding carries pick code_of tokenCode
+unfolding carries pick code_of token_code
 returns-2 c = c.line2.ensures ∙ rw c.before.match.keys2
 
 returns-3 : tie.Need-returns-3
-unfolding carries pick code_of tokenCode
+unfolding carries pick code_of token_code
 returns-3 c = c.line3.ensures ∙ rw c.before.match.keys3
 
 returns-4 : tie.Need-returns-4
-unfolding carries pick code_of tokenCode
+unfolding carries pick code_of token_code
 returns-4 c = c.line4.ensures ∙ rw c.before.match.keys4
 
 returns-5 : tie.Need-returns-5
-unfolding carries pick code_of tokenCode
+unfolding carries pick code_of token_code
 returns-5 c = c.line5.ensures ∙ rw c.before.match.keys5
 
 returns-6 : tie.Need-returns-6
-unfolding carries pick code_of tokenCode
+unfolding carries pick code_of token_code
 returns-6 c = c.line6.ensures ∙ rw c.before.match.keys6
 
 returns-7 : tie.Need-returns-7
-unfolding carries pick code_of tokenCode
+unfolding carries pick code_of token_code
 returns-7 c = c.line7.ensures ∙ rw c.before.match.keys7
 
 returns-8 : tie.Need-returns-8
-unfolding carries pick code_of tokenCode
+unfolding carries pick code_of token_code
 returns-8 c = c.line8.ensures ∙ rw c.before.match.keys8
 
 returns-9 : tie.Need-returns-9
-unfolding carries pick code_of tokenCode
+unfolding carries pick code_of token_code
 returns-9 c = c.line9.ensures ∙ rw c.before.match.keys9
 
 returns-10 : tie.Need-returns-10
-unfolding carries pick code_of tokenCode
+unfolding carries pick code_of token_code
 returns-10 c = c.line10.ensures ∙ rw c.before.match.keys10
 
 returns-11 : tie.Need-returns-11

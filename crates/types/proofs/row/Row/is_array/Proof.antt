@@ -1,5 +1,5 @@
 -- Made by tools/answers.py from answers/row/Row/is_array.ans: edit that. e61eba06d327dac5
-use Rattle.jer.specs.Table.{isArray}
+use Rattle.jer.specs.Table.{is_array}
 use Rattle.types.proofs.RowLaws.{kind-marked}
 use borrow.Author.Rules.{rules}
 use Rattle.types.proofs.row.Row.is_array.Statement.{statement}
@@ -9,7 +9,7 @@ marked-requires : tie.Need-marked-requires
 marked-requires c κs = search rules
 
 returns : tie.Need-returns
-unfolding isArray
+unfolding is_array
 returns c = λ t r e. kind-marked t r 6 1 e (c.marked.ensures t r e)
 
 pub is-array-spec : {M : Type 1} → statement M

@@ -2,7 +2,7 @@
 use mathlib.Core.Path.{ap, ◌∙◌}
 use mathlib.Core.Bool.{not}
 use lib.Dec.{eqb}
-use Rattle.jer.specs.Table.{carries, typeKind}
+use Rattle.jer.specs.Table.{carries, type_kind}
 use Rattle.types.specs.declared.row.Carried.{Carried}
 use Rattle.types.proofs.RowLaws.{some-told}
 use borrow.Author.Rules.{rules}
@@ -13,7 +13,7 @@ carries-requires : tie.Need-carries-requires
 carries-requires c κs = search rules
 
 returns : tie.Need-returns
-unfolding typeKind
+unfolding type_kind
 returns c = ap (λ (x : Carried). not (eqb x.token 6)) c.before.carries.ensures ∙ some-told (carries c.before.before.args.kind).token
 
 pub type-kind-spec : {M : Type 1} → statement M

@@ -5,19 +5,19 @@ use mathlib.Core.List.{List, [], ◌∷◌, ◌++◌}
 use mathlib.Core.Option.{Option, none, some}
 use native.Mathlib.Omega.{arith}
 use lib.ListN.{length, take}
-use Rattle.json.specs.Tree.{Json}
-use Rattle.json.specs.Machine.{Stack, base, ◌▹◌, State, s_val, sElem, sAfter, sName0, sName, sColon, sStr, sNum, sLit, Fault, notJson, tooDeep, Step, go, bad, step, numTree, Parsed, tree, refused, ended, finish, run}
-use Rattle.json.proofs.Alive.{Alive, alive-later, alive, Ok}
-use Rattle.json.proofs.AliveSteps.{OkStep, step_ok}
-use Rattle.json.proofs.Rebase.{raised, Goes, Keeps, step_keeps}
+use Rattle.json_text.specs.Tree.{Json}
+use Rattle.json_text.specs.Machine.{Stack, base, ◌▹◌, State, s_val, s_elem, s_after, s_name0, s_name, s_colon, s_str, s_num, s_lit, Fault, not_json, too_deep, Step, go, bad, step, num_tree, Parsed, tree, refused, ended, finish, run}
+use Rattle.json_text.proofs.Alive.{Alive, alive-later, alive, Ok}
+use Rattle.json_text.proofs.AliveSteps.{OkStep, step_ok}
+use Rattle.json_text.proofs.Rebase.{raised, Goes, Keeps, step_keeps}
 
 -- ---- a refusal, read from the place p in the state st
 
 -- the end of the text is refused at the end, and never as too deep
 abbrev Ends : ℕ → Parsed → Type 0
 Ends p (tree j) = Unit {0}
-Ends p (refused notJson q) = q ≡ p
-Ends p (refused tooDeep q) = ⊥
+Ends p (refused not_json q) = q ≡ p
+Ends p (refused too_deep q) = ⊥
 
 ended-ends : (j : Option Json) (k : Stack) (p : ℕ) → Ends p (ended j k p)
 unfolding ended
@@ -28,14 +28,14 @@ ended-ends (some j) (f ▹ k) p = refl
 finish-ends : (st : State) (p : ℕ) → Ends p (finish st p)
 unfolding finish
 finish-ends (s_val k) p = refl
-finish-ends (sElem o k) p = refl
-finish-ends (sAfter j k) p = ended-ends (some j) k p
-finish-ends (sName0 o k) p = refl
-finish-ends (sName o ms k) p = refl
-finish-ends (sColon o ms q s k) p = refl
-finish-ends (sStr m r q s k) p = refl
-finish-ends (sNum n q k) p = ended-ends (numTree n q) k p
-finish-ends (sLit c cs j k) p = refl
+finish-ends (s_elem o k) p = refl
+finish-ends (s_after j k) p = ended-ends (some j) k p
+finish-ends (s_name0 o k) p = refl
+finish-ends (s_name o ms k) p = refl
+finish-ends (s_colon o ms q s k) p = refl
+finish-ends (s_str m r q s k) p = refl
+finish-ends (s_num n q k) p = ended-ends (num_tree n q) k p
+finish-ends (s_lit c cs j k) p = refl
 
 -- the refusal f at the place q, after n bytes of bs
 pub record Refusal (p : ℕ) (st : State) (bs : List ℕ) (f : Fault) (q n : ℕ) : Type 0 where
@@ -46,10 +46,10 @@ pub record Refusal (p : ℕ) (st : State) (bs : List ℕ) (f : Fault) (q n : ℕ
   -- whatever follows the byte at the place is refused there too
   pub stuck : n < length bs → (zs : List ℕ) → run p st (take (suc n) bs ++ zs) ≡ refused f q
   -- with one bracket more the byte at the place can be completed too
-  pub deeper : f ≡ tooDeep → (n < length bs) × Alive p (raised 1 st) (take (suc n) bs)
+  pub deeper : f ≡ too_deep → (n < length bs) × Alive p (raised 1 st) (take (suc n) bs)
 
 refusal-end : (p : ℕ) (st : State) (f : Fault) (q : ℕ) → Ok st → Ends p (refused f q) → Refusal p st [] f q 0
-refusal-end p st notJson q h e =
+refusal-end p st not_json q h e =
     record {
       place = omega arith;
       inside = omega arith;
@@ -57,12 +57,12 @@ refusal-end p st notJson q h e =
       stuck = λ l zs. absurd (omega arith);
       deeper = λ z. absurd (let y : ◌≡◌ {A = ℕ} 0 1 = cc in omega arith);
     }
-refusal-end p st tooDeep q h e = absurd e
+refusal-end p st too_deep q h e = absurd e
 
 -- what was one bracket too many goes on with one more
-opens : (p : ℕ) (st : State) (b : ℕ) (f : Fault) → Keeps 1 (bad f) (step p (raised 1 st) b) → f ≡ tooDeep → Alive p (raised 1 st) (b ∷ [])
-opens p st b notJson k z = absurd (let y : ◌≡◌ {A = ℕ} 0 1 = cc in omega arith)
-opens p st b tooDeep k z = let g : Goes (step p (raised 1 st) b) = k (omega arith) in alive-later g.goes (alive g.to (suc p) g.ok)
+opens : (p : ℕ) (st : State) (b : ℕ) (f : Fault) → Keeps 1 (bad f) (step p (raised 1 st) b) → f ≡ too_deep → Alive p (raised 1 st) (b ∷ [])
+opens p st b not_json k z = absurd (let y : ◌≡◌ {A = ℕ} 0 1 = cc in omega arith)
+opens p st b too_deep k z = let g : Goes (step p (raised 1 st) b) = k (omega arith) in alive-later g.goes (alive g.to (suc p) g.ok)
 
 refusal-here : (p : ℕ) (st : State) (b : ℕ) (bs : List ℕ) (f : Fault) → Ok st → step p st b ≡ bad f → Keeps 1 (bad f) (step p (raised 1 st) b) → Refusal p st (b ∷ bs) f p 0
 unfolding run

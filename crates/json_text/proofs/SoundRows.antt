@@ -6,8 +6,8 @@ use mathlib.Core.Bool.{Bool, true, false, ◌&&◌}
 use native.Mathlib.Omega.{arith}
 use lib.Dec.{leb}
 use borrow.Author.Tests.{leb-true}
-use Rattle.json.specs.Bytes.{In, Row, on, pick, past}
-use Rattle.json.proofs.Feed.{in-true}
+use Rattle.json_text.specs.Bytes.{In, Row, on, pick, past}
+use Rattle.json_text.proofs.Feed.{in-true}
 
 in-tested : (lo hi b : ℕ) → (leb lo b && leb b hi) ≡ true → In lo hi b
 in-tested lo hi b e = go (leb lo b) refl e
@@ -44,10 +44,10 @@ pick-within Q b (on lo hi f ∷ rs) d h e = pick_first Q b lo hi f rs d h.0 (λ 
 pub only : {b c : ℕ} → In c c b → b ≡ c
 only i = omega arith
 
-pub past-append : (p : ℕ) (xs ys : List ℕ) → past p (xs ++ ys) ≡ past (past p xs) ys
+pub past_append : (p : ℕ) (xs ys : List ℕ) → past p (xs ++ ys) ≡ past (past p xs) ys
 unfolding past
-past-append p [] ys = refl
-past-append p (x ∷ xs) ys = past-append (suc p) xs ys
+past_append p [] ys = refl
+past_append p (x ∷ xs) ys = past_append (suc p) xs ys
 
 -- equal bytes are equal behind one byte
 pub behind : {b : ℕ} {xs ys : List ℕ} → xs ≡ ys → ◌≡◌ {A = List ℕ} (b ∷ xs) (b ∷ ys)

@@ -7,12 +7,12 @@ use mathlib.Core.Option.{Option, none, some}
 use native.Mathlib.Omega.{arith}
 use lib.Dec.{leb, eqb}
 use borrow.Author.Tests.{eqb-false, ne_eqb}
-use Rattle.json.specs.Bytes.{Row, on, pick}
-use Rattle.json.specs.Tree.{Json, inil}
-use Rattle.json.specs.Machine.{Act, still, close, never, charStep, Num, numStep, numTree, in_arr, inObj, Stack, base, ◌▹◌, room, Role, asName, asValue, State, s_val, sElem, sAfter, sName0, sName, sColon, sStr, sNum, sLit, notJson, tooDeep, Step, go, bad, spaces, opened, starts, after, closed, strStep, numEnd, numGo, litNext, step, Parsed, tree, refused, ended, finish, run}
-use Rattle.json.proofs.Alive.{Held, Ok}
-use Rattle.json.proofs.Feed.{room-base, room-frame}
-use Rattle.json.proofs.AliveSteps.{OkStep, step_ok, held_below}
+use Rattle.json_text.specs.Bytes.{Row, on, pick}
+use Rattle.json_text.specs.Tree.{Json, inil}
+use Rattle.json_text.specs.Machine.{Act, still, close, never, char_step, Num, num_step, num_tree, in_arr, in_obj, Stack, base, ◌▹◌, room, Role, as_name, as_value, State, s_val, s_elem, s_after, s_name0, s_name, s_colon, s_str, s_num, s_lit, not_json, too_deep, Step, go, bad, spaces, opened, starts, after, closed, str_step, num_end, num_go, lit_next, step, Parsed, tree, refused, ended, finish, run}
+use Rattle.json_text.proofs.Alive.{Held, Ok}
+use Rattle.json_text.proofs.Feed.{room-base, room_frame}
+use Rattle.json_text.proofs.AliveSteps.{OkStep, step_ok, held_below}
 
 -- e brackets more may be open
 abbrev pub raise : ℕ → Stack → Stack
@@ -21,19 +21,19 @@ raise e (f ▹ k) = f ▹ raise e k
 
 abbrev pub raised : ℕ → State → State
 raised e (s_val k) = s_val (raise e k)
-raised e (sElem o k) = sElem o (raise e k)
-raised e (sAfter j k) = sAfter j (raise e k)
-raised e (sName0 o k) = sName0 o (raise e k)
-raised e (sName o ms k) = sName o ms (raise e k)
-raised e (sColon o ms q s k) = sColon o ms q s (raise e k)
-raised e (sStr m r q s k) = sStr m r q s (raise e k)
-raised e (sNum n q k) = sNum n q (raise e k)
-raised e (sLit c cs j k) = sLit c cs j (raise e k)
+raised e (s_elem o k) = s_elem o (raise e k)
+raised e (s_after j k) = s_after j (raise e k)
+raised e (s_name0 o k) = s_name0 o (raise e k)
+raised e (s_name o ms k) = s_name o ms (raise e k)
+raised e (s_colon o ms q s k) = s_colon o ms q s (raise e k)
+raised e (s_str m r q s k) = s_str m r q s (raise e k)
+raised e (s_num n q k) = s_num n q (raise e k)
+raised e (s_lit c cs j k) = s_lit c cs j (raise e k)
 
 -- e brackets more at the bottom are e more at the top
 pub room-raise : (e : ℕ) (k : Stack) → Held k → room (raise e k) ≡ e + room k
 room-raise e (base d) h = omega (arith, room-base d, room-base (e + d))
-room-raise e (f ▹ k) h = omega (arith, room-frame f k, room-frame f (raise e k), room-raise e k (held_below k h))
+room-raise e (f ▹ k) h = omega (arith, room_frame f k, room_frame f (raise e k), room-raise e k (held_below k h))
 
 -- the step goes on, to a state that can be completed
 pub record Goes (x : Step) : Type 0 where
@@ -44,8 +44,8 @@ pub record Goes (x : Step) : Type 0 where
 -- the step x, and y with e brackets more: it goes on alike, or is as little JSON, or was too deep and now goes on
 abbrev pub Keeps : ℕ → Step → Step → Type 0
 Keeps e (go st) y = y ≡ go (raised e st)
-Keeps e (bad notJson) y = y ≡ bad notJson
-Keeps e (bad tooDeep) y = 1 ≤ e → Goes y
+Keeps e (bad not_json) y = y ≡ bad not_json
+Keeps e (bad too_deep) y = 1 ≤ e → Goes y
 
 -- two tables of the same bytes, with Q between what they say of b
 infixr 67 ◌&◌
@@ -75,47 +75,47 @@ opened-keeps e k st h o = go' (eqb (room k) 0) refl
 
 starts-keep : (e b p : ℕ) (k : Stack) → Held k → Pairs (Keeps e) b (starts p k) (starts p (raise e k))
 unfolding starts
-starts-keep e b p k h = refl & refl & refl & refl & opened-keeps e k (sElem p k) h (λ l. l) & refl & refl & refl & opened-keeps e k (sName0 p k) h (λ l. l) & end
+starts-keep e b p k h = refl & refl & refl & refl & opened-keeps e k (s_elem p k) h (λ l. l) & refl & refl & refl & opened-keeps e k (s_name0 p k) h (λ l. l) & end
 
-after-keeps : (e b : ℕ) (j : Json) (k : Stack) → Keeps e (pick b (after j k) (bad notJson)) (pick b (after j (raise e k)) (bad notJson))
+after-keeps : (e b : ℕ) (j : Json) (k : Stack) → Keeps e (pick b (after j k) (bad not_json)) (pick b (after j (raise e k)) (bad not_json))
 unfolding after spaces
 after-keeps e b j (base d) = pick-pairs {Q = Keeps e} (refl & refl & refl & end) refl
 after-keeps e b j (in_arr o is ▹ k) = pick-pairs {Q = Keeps e} (refl & refl & refl & refl & refl & end) refl
-after-keeps e b j (inObj o ms q s ▹ k) = pick-pairs {Q = Keeps e} (refl & refl & refl & refl & refl & end) refl
+after-keeps e b j (in_obj o ms q s ▹ k) = pick-pairs {Q = Keeps e} (refl & refl & refl & refl & refl & end) refl
 
-str-keeps : (e : ℕ) (a : Act) (r : Role) (q : ℕ) (s : List ℕ) (k : Stack) → Keeps e (strStep a r q s k) (strStep a r q s (raise e k))
-unfolding strStep closed
-str-keeps e (still m xs) r q s k = refl
-str-keeps e close (asName o ms) q s k = refl
-str-keeps e close asValue q s k = refl
-str-keeps e never r q s k = refl
+str_keeps : (e : ℕ) (a : Act) (r : Role) (q : ℕ) (s : List ℕ) (k : Stack) → Keeps e (str_step a r q s k) (str_step a r q s (raise e k))
+unfolding str_step closed
+str_keeps e (still m xs) r q s k = refl
+str_keeps e close (as_name o ms) q s k = refl
+str_keeps e close as_value q s k = refl
+str_keeps e never r q s k = refl
 
-num-end-keeps : (e : ℕ) (j : Option Json) (k : Stack) (b : ℕ) → Keeps e (numEnd j k b) (numEnd j (raise e k) b)
-unfolding numEnd
-num-end-keeps e none k b = refl
-num-end-keeps e (some j) k b = after-keeps e b j k
+num_end-keeps : (e : ℕ) (j : Option Json) (k : Stack) (b : ℕ) → Keeps e (num_end j k b) (num_end j (raise e k) b)
+unfolding num_end
+num_end-keeps e none k b = refl
+num_end-keeps e (some j) k b = after-keeps e b j k
 
-num-keeps : (e : ℕ) (m : Option Num) (n : Num) (q : ℕ) (k : Stack) (b : ℕ) → Keeps e (numGo m n q k b) (numGo m n q (raise e k) b)
-unfolding numGo
-num-keeps e (some m) n q k b = refl
-num-keeps e none n q k b = num-end-keeps e (numTree n q) k b
+num_keeps : (e : ℕ) (m : Option Num) (n : Num) (q : ℕ) (k : Stack) (b : ℕ) → Keeps e (num_go m n q k b) (num_go m n q (raise e k) b)
+unfolding num_go
+num_keeps e (some m) n q k b = refl
+num_keeps e none n q k b = num_end-keeps e (num_tree n q) k b
 
-lit-keeps : (e : ℕ) (cs : List ℕ) (j : Json) (k : Stack) → Keeps e (go (litNext cs j k)) (go (litNext cs j (raise e k)))
-unfolding litNext
-lit-keeps e [] j k = refl
-lit-keeps e (c ∷ cs) j k = refl
+lit_keeps : (e : ℕ) (cs : List ℕ) (j : Json) (k : Stack) → Keeps e (go (lit_next cs j k)) (go (lit_next cs j (raise e k)))
+unfolding lit_next
+lit_keeps e [] j k = refl
+lit_keeps e (c ∷ cs) j k = refl
 
 pub step_keeps : (e p : ℕ) (st : State) (b : ℕ) → Ok st → Keeps e (step p st b) (step p (raised e st) b)
 unfolding step spaces
 step_keeps e p (s_val k) b h = pick-pairs {Q = Keeps e} (refl & refl & refl & starts-keep e b p k h) refl
-step_keeps e p (sElem o k) b h = pick-pairs {Q = Keeps e} (refl & refl & refl & refl & starts-keep e b p (in_arr o inil ▹ k) h) refl
-step_keeps e p (sAfter j k) b h = after-keeps e b j k
-step_keeps e p (sName0 o k) b h = pick-pairs {Q = Keeps e} (refl & refl & refl & refl & refl & end) refl
-step_keeps e p (sName o ms k) b h = pick-pairs {Q = Keeps e} (refl & refl & refl & refl & end) refl
-step_keeps e p (sColon o ms q s k) b h = pick-pairs {Q = Keeps e} (refl & refl & refl & refl & end) refl
-step_keeps e p (sStr m r q s k) b h = str-keeps e (charStep m b) r q s k
-step_keeps e p (sNum n q k) b h = num-keeps e (numStep n b) n q k b
-step_keeps e p (sLit c cs j k) b h = pick-pairs {Q = Keeps e} (lit-keeps e cs j k & end) refl
+step_keeps e p (s_elem o k) b h = pick-pairs {Q = Keeps e} (refl & refl & refl & refl & starts-keep e b p (in_arr o inil ▹ k) h) refl
+step_keeps e p (s_after j k) b h = after-keeps e b j k
+step_keeps e p (s_name0 o k) b h = pick-pairs {Q = Keeps e} (refl & refl & refl & refl & refl & end) refl
+step_keeps e p (s_name o ms k) b h = pick-pairs {Q = Keeps e} (refl & refl & refl & refl & end) refl
+step_keeps e p (s_colon o ms q s k) b h = pick-pairs {Q = Keeps e} (refl & refl & refl & refl & end) refl
+step_keeps e p (s_str m r q s k) b h = str_keeps e (char_step m b) r q s k
+step_keeps e p (s_num n q k) b h = num_keeps e (num_step n b) n q k b
+step_keeps e p (s_lit c cs j k) b h = pick-pairs {Q = Keeps e} (lit_keeps e cs j k & end) refl
 
 ended-raise : (e : ℕ) (j : Option Json) (k : Stack) (p : ℕ) → ended j (raise e k) p ≡ ended j k p
 unfolding ended
@@ -126,25 +126,25 @@ ended-raise e (some j) (f ▹ k) p = refl
 finish-raise : (e : ℕ) (st : State) (p : ℕ) → finish (raised e st) p ≡ finish st p
 unfolding finish
 finish-raise e (s_val k) p = refl
-finish-raise e (sElem o k) p = refl
-finish-raise e (sAfter j k) p = ended-raise e (some j) k p
-finish-raise e (sName0 o k) p = refl
-finish-raise e (sName o ms k) p = refl
-finish-raise e (sColon o ms q s k) p = refl
-finish-raise e (sStr m r q s k) p = refl
-finish-raise e (sNum n q k) p = ended-raise e (numTree n q) k p
-finish-raise e (sLit c cs j k) p = refl
+finish-raise e (s_elem o k) p = refl
+finish-raise e (s_after j k) p = ended-raise e (some j) k p
+finish-raise e (s_name0 o k) p = refl
+finish-raise e (s_name o ms k) p = refl
+finish-raise e (s_colon o ms q s k) p = refl
+finish-raise e (s_str m r q s k) p = refl
+finish-raise e (s_num n q k) p = ended-raise e (num_tree n q) k p
+finish-raise e (s_lit c cs j k) p = refl
 
 -- the answer x, and y with more brackets: the same, but where there were too many
 abbrev pub Stays : Parsed → Parsed → Type 0
 Stays (tree j) y = y ≡ tree j
-Stays (refused notJson q) y = y ≡ refused notJson q
-Stays (refused tooDeep q) y = Unit {0}
+Stays (refused not_json q) y = y ≡ refused not_json q
+Stays (refused too_deep q) y = Unit {0}
 
 same-stays : (x : Parsed) → Stays x x
 same-stays (tree j) = refl
-same-stays (refused notJson q) = refl
-same-stays (refused tooDeep q) = tt
+same-stays (refused not_json q) = refl
+same-stays (refused too_deep q) = tt
 
 pub run-stays : (e : ℕ) (bs : List ℕ) (p : ℕ) (st : State) → Ok st → Stays (run p st bs) (run p (raised e st) bs)
 unfolding run
@@ -154,5 +154,5 @@ run-stays e (b ∷ bs) p st h = go' (step p st b) refl (step_ok p st b h) (step_
     go' : (x : Step) → step p st b ≡ x → OkStep x → Keeps e x (step p (raised e st) b) → ((u : State) → Ok u → Stays (run (suc p) u bs) (run (suc p) (raised e u) bs))
         → Stays (run p st (b ∷ bs)) (run p (raised e st) (b ∷ bs))
     go' (go u) w o k ih = rw (w, k, run) (ih u o)
-    go' (bad notJson) w o k ih = rw (w, k, run) refl
-    go' (bad tooDeep) w o k ih = rw (w, run) tt
+    go' (bad not_json) w o k ih = rw (w, k, run) refl
+    go' (bad too_deep) w o k ih = rw (w, run) tt

@@ -1,13 +1,13 @@
 -- The grammar of JSON (ECMA-404), with the tree and the places that a text has.
 -- Each relation ends in the bytes that it speaks of; an equation `bs ≡ ..` says how they are put together.
 use Rattle.std.specs.Prelude.{ℕ, suc, ◌+◌, ◌-◌, ◌*◌, ◌≤◌, ◌<◌, ◌≡◌, List, [], ◌∷◌, ◌++◌, Bool, true, false, length, take}
-use Rattle.json.specs.Bytes.{In, past}
-use Rattle.json.specs.Tree.{Json, jnull, jbool, jint, jreal, jstr, jarr, jobj, Items, inil, icons, Members, mnil, mcons}
-use Rattle.json.specs.Utf8.{Wide, encode}
+use Rattle.json_text.specs.Bytes.{In, past}
+use Rattle.json_text.specs.Tree.{Json, jnull, jbool, jint, jreal, jstr, jarr, jobj, Items, inil, icons, Members, mnil, mcons}
+use Rattle.json_text.specs.Utf8.{Wide, encode}
 
 -- ECMA-404 section 4: white space is U+0009, U+000A, U+000D and U+0020.
 pub data Space : List ℕ → Type 0 where
-  noSpace : Space []
+  no_space : Space []
   tab : {bs : List ℕ} → Space bs → Space (0x09 ∷ bs)
   feed : {bs : List ℕ} → Space bs → Space (0x0A ∷ bs)
   return : {bs : List ℕ} → Space bs → Space (0x0D ∷ bs)
@@ -31,9 +31,9 @@ pub data Escape : ℕ → ℕ → Type 0 where
   backslash : Escape 0x5C 0x5C
   slash : Escape 0x2F 0x2F
   backspace : Escape 0x08 0x62
-  formFeed : Escape 0x0C 0x66
-  lineFeed : Escape 0x0A 0x6E
-  carriageReturn : Escape 0x0D 0x72
+  form_feed : Escape 0x0C 0x66
+  line_feed : Escape 0x0A 0x6E
+  carriage_return : Escape 0x0D 0x72
   tabulation : Escape 0x09 0x74
 
 -- the character of a surrogate pair
@@ -51,7 +51,7 @@ pub data Char : List ℕ → List ℕ → Type 0 where
       → {c : List ℕ} → c ≡ encode (paired h l) → ds ≡ bs ++ (0x5C ∷ 0x75 ∷ cs) → Char c (0x5C ∷ 0x75 ∷ ds)
 
 pub data Chars : List ℕ → List ℕ → Type 0 where
-  noChar : Chars [] []
+  no_char : Chars [] []
   char : {c s u bs cs ds : List ℕ} → Char c bs → Chars s cs → u ≡ c ++ s → ds ≡ bs ++ cs → Chars u ds
 
 -- a string with its quotation marks
@@ -62,8 +62,8 @@ pub data Quoted : List ℕ → List ℕ → Type 0 where
 
 -- one digit or more
 pub data Digits : List ℕ → Type 0 where
-  lastDigit : {b : ℕ} → In 0x30 0x39 b → Digits (b ∷ [])
-  moreDigits : {b : ℕ} {bs : List ℕ} → In 0x30 0x39 b → Digits bs → Digits (b ∷ bs)
+  last_digit : {b : ℕ} → In 0x30 0x39 b → Digits (b ∷ [])
+  more_digits : {b : ℕ} {bs : List ℕ} → In 0x30 0x39 b → Digits bs → Digits (b ∷ bs)
 
 -- digits after a number m give the number n
 pub data Onward : ℕ → ℕ → List ℕ → Type 0 where
@@ -83,11 +83,11 @@ pub data Signed : Bool → ℕ → List ℕ → Type 0 where
 -- an exponent
 pub data Power : List ℕ → Type 0 where
   small : {bs : List ℕ} → Digits bs → Power (0x65 ∷ bs)
-  smallPlus : {bs : List ℕ} → Digits bs → Power (0x65 ∷ 0x2B ∷ bs)
-  smallMinus : {bs : List ℕ} → Digits bs → Power (0x65 ∷ 0x2D ∷ bs)
+  small_plus : {bs : List ℕ} → Digits bs → Power (0x65 ∷ 0x2B ∷ bs)
+  small_minus : {bs : List ℕ} → Digits bs → Power (0x65 ∷ 0x2D ∷ bs)
   large : {bs : List ℕ} → Digits bs → Power (0x45 ∷ bs)
-  largePlus : {bs : List ℕ} → Digits bs → Power (0x45 ∷ 0x2B ∷ bs)
-  largeMinus : {bs : List ℕ} → Digits bs → Power (0x45 ∷ 0x2D ∷ bs)
+  large_plus : {bs : List ℕ} → Digits bs → Power (0x45 ∷ 0x2B ∷ bs)
+  large_minus : {bs : List ℕ} → Digits bs → Power (0x45 ∷ 0x2D ∷ bs)
 
 -- a fraction, an exponent, or both
 pub data Broken : List ℕ → Type 0 where
@@ -100,15 +100,15 @@ pub data Broken : List ℕ → Type 0 where
 -- A value at the place p with at most d brackets open at one time, and its tree.
 mutual
   pub data Value : ℕ → ℕ → Json → List ℕ → Type 0 where
-    literalNull : {d p : ℕ} → Value d p (jnull p) (0x6E ∷ 0x75 ∷ 0x6C ∷ 0x6C ∷ [])
-    literalTrue : {d p : ℕ} → Value d p (jbool p true) (0x74 ∷ 0x72 ∷ 0x75 ∷ 0x65 ∷ [])
-    literalFalse : {d p : ℕ} → Value d p (jbool p false) (0x66 ∷ 0x61 ∷ 0x6C ∷ 0x73 ∷ 0x65 ∷ [])
+    literal_null : {d p : ℕ} → Value d p (jnull p) (0x6E ∷ 0x75 ∷ 0x6C ∷ 0x6C ∷ [])
+    literal_true : {d p : ℕ} → Value d p (jbool p true) (0x74 ∷ 0x72 ∷ 0x75 ∷ 0x65 ∷ [])
+    literal_false : {d p : ℕ} → Value d p (jbool p false) (0x66 ∷ 0x61 ∷ 0x6C ∷ 0x73 ∷ 0x65 ∷ [])
     whole : {d p n : ℕ} {m : Bool} {bs : List ℕ} → Signed m n bs → Value d p (jint p m n) bs
     real : {d p n : ℕ} {m : Bool} {bs cs ds : List ℕ} → Signed m n bs → Broken cs → ds ≡ bs ++ cs → Value d p (jreal p) ds
     string : {d p : ℕ} {s bs : List ℕ} → Quoted s bs → Value d p (jstr p s) bs
-    noElements : {d p : ℕ} {xs bs : List ℕ} → Space xs → bs ≡ xs ++ (0x5D ∷ []) → Value (suc d) p (jarr p inil) (0x5B ∷ bs)
+    no_elements : {d p : ℕ} {xs bs : List ℕ} → Space xs → bs ≡ xs ++ (0x5D ∷ []) → Value (suc d) p (jarr p inil) (0x5B ∷ bs)
     elements : {d p : ℕ} {is : Items} {bs : List ℕ} → Elements d (suc p) is bs → Value (suc d) p (jarr p is) (0x5B ∷ bs)
-    noMembers : {d p : ℕ} {xs bs : List ℕ} → Space xs → bs ≡ xs ++ (0x7D ∷ []) → Value (suc d) p (jobj p mnil) (0x7B ∷ bs)
+    no_members : {d p : ℕ} {xs bs : List ℕ} → Space xs → bs ≡ xs ++ (0x7D ∷ []) → Value (suc d) p (jobj p mnil) (0x7B ∷ bs)
     members : {d p : ℕ} {ms : Members} {bs : List ℕ} → Named d (suc p) ms bs → Value (suc d) p (jobj p ms) (0x7B ∷ bs)
 
   -- a value with white space around it
@@ -117,13 +117,13 @@ mutual
 
   -- elements with commas between them, and the closing bracket
   pub data Elements : ℕ → ℕ → Items → List ℕ → Type 0 where
-    lastElement : {d p : ℕ} {j : Json} {xs bs : List ℕ} → Padded d p j xs → bs ≡ xs ++ (0x5D ∷ []) → Elements d p (icons j inil) bs
-    moreElements : {d p q : ℕ} {j : Json} {is : Items} {xs ys bs : List ℕ} → Padded d p j xs → q ≡ suc (past p xs) → Elements d q is ys → bs ≡ xs ++ (0x2C ∷ ys) → Elements d p (icons j is) bs
+    last_element : {d p : ℕ} {j : Json} {xs bs : List ℕ} → Padded d p j xs → bs ≡ xs ++ (0x5D ∷ []) → Elements d p (icons j inil) bs
+    more_elements : {d p q : ℕ} {j : Json} {is : Items} {xs ys bs : List ℕ} → Padded d p j xs → q ≡ suc (past p xs) → Elements d q is ys → bs ≡ xs ++ (0x2C ∷ ys) → Elements d p (icons j is) bs
 
   -- members with commas between them, and the closing bracket
   pub data Named : ℕ → ℕ → Members → List ℕ → Type 0 where
-    lastMember : {d p q r : ℕ} {s : List ℕ} {j : Json} {xs ys bs : List ℕ} → Name p q r s xs → Padded d r j ys → bs ≡ xs ++ (ys ++ (0x7D ∷ [])) → Named d p (mcons q s j mnil) bs
-    moreMembers : {d p q r o : ℕ} {s : List ℕ} {j : Json} {ms : Members} {xs ys zs bs : List ℕ} → Name p q r s xs → Padded d r j ys → o ≡ suc (past r ys) → Named d o ms zs
+    last_member : {d p q r : ℕ} {s : List ℕ} {j : Json} {xs ys bs : List ℕ} → Name p q r s xs → Padded d r j ys → bs ≡ xs ++ (ys ++ (0x7D ∷ [])) → Named d p (mcons q s j mnil) bs
+    more_members : {d p q r o : ℕ} {s : List ℕ} {j : Json} {ms : Members} {xs ys zs bs : List ℕ} → Name p q r s xs → Padded d r j ys → o ≡ suc (past r ys) → Named d o ms zs
         → bs ≡ xs ++ (ys ++ (0x2C ∷ zs)) → Named d p (mcons q s j ms) bs
 
   -- a name at q with white space around it and its colon, from p up to r

@@ -1,6 +1,6 @@
 -- UTF-8, RFC 3629.
 use Rattle.std.specs.Prelude.{ℕ, zero, suc, ◌+◌, ◌/◌, ◌%◌, ◌≡◌, List, [], ◌∷◌, ◌++◌, Bool, true, false, ltb}
-use Rattle.json.specs.Bytes.{In, Row, on, pick}
+use Rattle.json_text.specs.Bytes.{In, Row, on, pick}
 
 -- RFC 3629 section 4: a character of more than one byte
 --   UTF8-2 = %xC2-DF UTF8-tail
@@ -9,17 +9,17 @@ use Rattle.json.specs.Bytes.{In, Row, on, pick}
 --   UTF8-tail = %x80-BF
 pub data Wide : List ℕ → Type 0 where
   two : {a b : ℕ} → In 0xC2 0xDF a → In 0x80 0xBF b → Wide (a ∷ b ∷ [])
-  threeE0 : {b c : ℕ} → In 0xA0 0xBF b → In 0x80 0xBF c → Wide (0xE0 ∷ b ∷ c ∷ [])
-  threeE1 : {a b c : ℕ} → In 0xE1 0xEC a → In 0x80 0xBF b → In 0x80 0xBF c → Wide (a ∷ b ∷ c ∷ [])
-  threeED : {b c : ℕ} → In 0x80 0x9F b → In 0x80 0xBF c → Wide (0xED ∷ b ∷ c ∷ [])
-  threeEE : {a b c : ℕ} → In 0xEE 0xEF a → In 0x80 0xBF b → In 0x80 0xBF c → Wide (a ∷ b ∷ c ∷ [])
-  fourF0 : {b c d : ℕ} → In 0x90 0xBF b → In 0x80 0xBF c → In 0x80 0xBF d → Wide (0xF0 ∷ b ∷ c ∷ d ∷ [])
-  fourF1 : {a b c d : ℕ} → In 0xF1 0xF3 a → In 0x80 0xBF b → In 0x80 0xBF c → In 0x80 0xBF d → Wide (a ∷ b ∷ c ∷ d ∷ [])
-  fourF4 : {b c d : ℕ} → In 0x80 0x8F b → In 0x80 0xBF c → In 0x80 0xBF d → Wide (0xF4 ∷ b ∷ c ∷ d ∷ [])
+  three_e0 : {b c : ℕ} → In 0xA0 0xBF b → In 0x80 0xBF c → Wide (0xE0 ∷ b ∷ c ∷ [])
+  three_e1 : {a b c : ℕ} → In 0xE1 0xEC a → In 0x80 0xBF b → In 0x80 0xBF c → Wide (a ∷ b ∷ c ∷ [])
+  three_eD : {b c : ℕ} → In 0x80 0x9F b → In 0x80 0xBF c → Wide (0xED ∷ b ∷ c ∷ [])
+  three_eE : {a b c : ℕ} → In 0xEE 0xEF a → In 0x80 0xBF b → In 0x80 0xBF c → Wide (a ∷ b ∷ c ∷ [])
+  four_f0 : {b c d : ℕ} → In 0x90 0xBF b → In 0x80 0xBF c → In 0x80 0xBF d → Wide (0xF0 ∷ b ∷ c ∷ d ∷ [])
+  four_f1 : {a b c d : ℕ} → In 0xF1 0xF3 a → In 0x80 0xBF b → In 0x80 0xBF c → In 0x80 0xBF d → Wide (a ∷ b ∷ c ∷ d ∷ [])
+  four_f4 : {b c d : ℕ} → In 0x80 0x8F b → In 0x80 0xBF c → In 0x80 0xBF d → Wide (0xF4 ∷ b ∷ c ∷ d ∷ [])
 
 -- RFC 3629 section 4: UTF8-octets = *( UTF8-char ), UTF8-char = UTF8-1 / UTF8-2 / UTF8-3 / UTF8-4, UTF8-1 = %x00-7F
 pub data Utf8 : List ℕ → Type 0 where
-  noChar : Utf8 []
+  no_char : Utf8 []
   one : {b : ℕ} {bs : List ℕ} → In 0x00 0x7F b → Utf8 bs → Utf8 (b ∷ bs)
   more : {c bs ds : List ℕ} → Wide c → Utf8 bs → ds ≡ c ++ bs → Utf8 ds
 
@@ -38,8 +38,8 @@ encode x =
     ]
 
 -- the same grammar by first bytes: after the byte b one from lo to hi is due, and then n from 80 to BF
-unfoldable pub wideRows : {A : Type 0} → (ℕ → ℕ → ℕ → ℕ → A) → List (Row A)
-wideRows f =
+unfoldable pub wide_rows : {A : Type 0} → (ℕ → ℕ → ℕ → ℕ → A) → List (Row A)
+wide_rows f =
     on 0xC2 0xDF (λ b. f b 0x80 0xBF 0)
     ∷ on 0xE0 0xE0 (λ b. f b 0xA0 0xBF 1)
     ∷ on 0xE1 0xEC (λ b. f b 0x80 0xBF 1)
@@ -56,24 +56,24 @@ pub data Due : Type 0 where
   due : ℕ → ℕ → ℕ → Due
   never : Due
 
-unfoldable pub dueNext : ℕ → Due
-dueNext zero = start
-dueNext (suc n) = due 0x80 0xBF n
+unfoldable pub due_next : ℕ → Due
+due_next zero = start
+due_next (suc n) = due 0x80 0xBF n
 
-unfoldable pub dueStep : Due → ℕ → Due
-dueStep start b = pick b (on 0x00 0x7F (λ b. start) ∷ wideRows (λ b lo hi n. due lo hi n)) never
-dueStep (due lo hi n) b = pick b (on lo hi (λ b. dueNext n) ∷ []) never
-dueStep never b = never
+unfoldable pub due_step : Due → ℕ → Due
+due_step start b = pick b (on 0x00 0x7F (λ b. start) ∷ wide_rows (λ b lo hi n. due lo hi n)) never
+due_step (due lo hi n) b = pick b (on lo hi (λ b. due_next n) ∷ []) never
+due_step never b = never
 
-unfoldable pub dueEnd : Due → Bool
-dueEnd start = true
-dueEnd (due lo hi n) = false
-dueEnd never = false
+unfoldable pub due_end : Due → Bool
+due_end start = true
+due_end (due lo hi n) = false
+due_end never = false
 
-unfoldable pub utf8From : Due → List ℕ → Bool
-utf8From d [] = dueEnd d
-utf8From d (b ∷ bs) = utf8From (dueStep d b) bs
+unfoldable pub utf8_from : Due → List ℕ → Bool
+utf8_from d [] = due_end d
+utf8_from d (b ∷ bs) = utf8_from (due_step d b) bs
 
 -- are these bytes UTF-8? Exactly those of `Utf8` are (`utf8-exactly`).
 unfoldable pub utf8 : List ℕ → Bool
-utf8 bs = utf8From start bs
+utf8 bs = utf8_from start bs

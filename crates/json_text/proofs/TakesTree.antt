@@ -2,16 +2,16 @@
 use Prim.Native.Nat.{ℕ}
 use mathlib.Core.Path.{◌≡◌, refl, ap}
 use mathlib.Core.List.{List}
-use Rattle.json.specs.Tree.{Json, Items, inil, icons, isnoc, Members, mnil, mcons, msnoc}
+use Rattle.json_text.specs.Tree.{Json, Items, inil, icons, isnoc, Members, mnil, mcons, msnoc}
 
 unfoldable pub iapp : Items → Items → Items
 iapp inil js = js
 iapp (icons i is) js = icons i (iapp is js)
 
-pub iapp-snoc : (is : Items) (j : Json) (js : Items) → iapp (isnoc is j) js ≡ iapp is (icons j js)
+pub iapp_snoc : (is : Items) (j : Json) (js : Items) → iapp (isnoc is j) js ≡ iapp is (icons j js)
 unfolding iapp isnoc
-iapp-snoc inil j js = refl
-iapp-snoc (icons i is) j js = ap (icons i) (iapp-snoc is j js)
+iapp_snoc inil j js = refl
+iapp_snoc (icons i is) j js = ap (icons i) (iapp_snoc is j js)
 
 pub iapp-last : (is : Items) (j : Json) → isnoc is j ≡ iapp is (icons j inil)
 unfolding iapp isnoc
@@ -22,10 +22,10 @@ unfoldable pub mapp : Members → Members → Members
 mapp mnil ns = ns
 mapp (mcons q s j ms) ns = mcons q s j (mapp ms ns)
 
-pub mapp-snoc : (ms : Members) (q : ℕ) (s : List ℕ) (j : Json) (ns : Members) → mapp (msnoc ms q s j) ns ≡ mapp ms (mcons q s j ns)
+pub mapp_snoc : (ms : Members) (q : ℕ) (s : List ℕ) (j : Json) (ns : Members) → mapp (msnoc ms q s j) ns ≡ mapp ms (mcons q s j ns)
 unfolding mapp msnoc
-mapp-snoc mnil q s j ns = refl
-mapp-snoc (mcons p u i ms) q s j ns = ap (mcons p u i) (mapp-snoc ms q s j ns)
+mapp_snoc mnil q s j ns = refl
+mapp_snoc (mcons p u i ms) q s j ns = ap (mcons p u i) (mapp_snoc ms q s j ns)
 
 pub mapp-last : (ms : Members) (q : ℕ) (s : List ℕ) (j : Json) → msnoc ms q s j ≡ mapp ms (mcons q s j mnil)
 unfolding mapp msnoc

@@ -5,9 +5,9 @@ use mathlib.Core.List.{List, [], ◌∷◌, ◌++◌}
 use mathlib.Core.Bool.{Bool, true, false, ◌&&◌}
 use borrow.Author.Tests.{le-leb, leb-true}
 use lib.Dec.{leb}
-use Rattle.json.specs.Bytes.{In, Row, on, pick, past}
-use Rattle.json.specs.Grammar.{Space, noSpace, tab, feed, return, blank}
-use Rattle.json.specs.Machine.{Frame, Stack, base, ◌▹◌, room, State, Step, go, spaces, step, run}
+use Rattle.json_text.specs.Bytes.{In, Row, on, pick, past}
+use Rattle.json_text.specs.Grammar.{Space, no_space, tab, feed, return, blank}
+use Rattle.json_text.specs.Machine.{Frame, Stack, base, ◌▹◌, room, State, Step, go, spaces, step, run}
 
 -- ---- rows
 
@@ -23,10 +23,10 @@ RowHas zero b (on lo hi f ∷ rs) = In lo hi b
 RowHas (suc n) b (on lo hi f ∷ rs) = (In lo hi b → ⊥) × RowHas n b rs
 
 -- what the row n says
-abbrev pub rowSays : {A : Type 0} → ℕ → ℕ → List (Row A) → A → A
-rowSays n b [] d = d
-rowSays zero b (on lo hi f ∷ rs) d = f b
-rowSays (suc n) b (on lo hi f ∷ rs) d = rowSays n b rs d
+abbrev pub row_says : {A : Type 0} → ℕ → ℕ → List (Row A) → A → A
+row_says n b [] d = d
+row_says zero b (on lo hi f ∷ rs) d = f b
+row_says (suc n) b (on lo hi f ∷ rs) d = row_says n b rs d
 
 pub in-true : (lo hi b : ℕ) → In lo hi b → (leb lo b && leb b hi) ≡ true
 in-true lo hi b h = rw (le-leb lo b h.0, le-leb b hi h.1)
@@ -46,18 +46,18 @@ pub pick-miss : {A : Type 0} (b lo hi : ℕ) (f : ℕ → A) (rs : List (Row A))
 unfolding pick
 pick-miss b lo hi f rs d h = rw (in-false lo hi b h, pick)
 
-pub pick-hit : {A : Type 0} (b lo hi : ℕ) (f : ℕ → A) (rs : List (Row A)) (d : A) → In lo hi b → pick b (on lo hi f ∷ rs) d ≡ f b
+pub pick_hit : {A : Type 0} (b lo hi : ℕ) (f : ℕ → A) (rs : List (Row A)) (d : A) → In lo hi b → pick b (on lo hi f ∷ rs) d ≡ f b
 unfolding pick
-pick-hit b lo hi f rs d h = rw (in-true lo hi b h, pick)
+pick_hit b lo hi f rs d h = rw (in-true lo hi b h, pick)
 
 pub pick-none : {A : Type 0} (b : ℕ) (rs : List (Row A)) (d : A) → NoRow b rs → pick b rs d ≡ d
 unfolding pick
 pick-none b [] d h = refl
 pick-none b (on lo hi f ∷ rs) d h = pick-miss b lo hi f rs d h.0 ∙ pick-none b rs d h.1
 
-pub pick-row : {A : Type 0} (n b : ℕ) (rs : List (Row A)) (d : A) → RowHas n b rs → pick b rs d ≡ rowSays n b rs d
+pub pick-row : {A : Type 0} (n b : ℕ) (rs : List (Row A)) (d : A) → RowHas n b rs → pick b rs d ≡ row_says n b rs d
 pick-row n b [] d h = absurd h
-pick-row zero b (on lo hi f ∷ rs) d h = pick-hit b lo hi f rs d h
+pick-row zero b (on lo hi f ∷ rs) d h = pick_hit b lo hi f rs d h
 pick-row (suc n) b (on lo hi f ∷ rs) d h = pick-miss b lo hi f rs d h.0 ∙ pick-row n b rs d h.1
 
 -- ---- stretches of bytes
@@ -67,10 +67,10 @@ pub data Feeds : ℕ → State → List ℕ → State → Type 0 where
   stop : {p : ℕ} {s : State} → Feeds p s [] s
   more : {p b : ℕ} {bs : List ℕ} {s u w : State} → step p s b ≡ go u → Feeds (suc p) u bs w → Feeds p s (b ∷ bs) w
 
-pub feeds-append : {p : ℕ} {xs ys : List ℕ} {s u w : State} → Feeds p s xs u → Feeds (past p xs) u ys w → Feeds p s (xs ++ ys) w
+pub feeds_append : {p : ℕ} {xs ys : List ℕ} {s u w : State} → Feeds p s xs u → Feeds (past p xs) u ys w → Feeds p s (xs ++ ys) w
 unfolding past
-feeds-append stop g = g
-feeds-append (more e f) g = more e (feeds-append f g)
+feeds_append stop g = g
+feeds_append (more e f) g = more e (feeds_append f g)
 
 pub run-feeds : {p : ℕ} {xs : List ℕ} {s u : State} → Feeds p s xs u → (ys : List ℕ) → run p s (xs ++ ys) ≡ run (past p xs) u ys
 unfolding past run
@@ -81,10 +81,10 @@ run-feeds (more e f) ys = rw (e, run) (run-feeds f ys)
 
 -- a byte of white space
 pub data Blank : ℕ → Type 0 where
-  isTab : Blank 0x09
-  isFeed : Blank 0x0A
-  isReturn : Blank 0x0D
-  isBlank : Blank 0x20
+  is_tab : Blank 0x09
+  is_feed : Blank 0x0A
+  is_return : Blank 0x0D
+  is_blank : Blank 0x20
 
 -- white space leaves the state as it is
 abbrev pub Idle : State → Type 0
@@ -92,17 +92,17 @@ Idle s = (p b : ℕ) → Blank b → step p s b ≡ go s
 
 pub blank-row : {b : ℕ} (s : State) (rs : List (Row Step)) (d : Step) → Blank b → pick b (spaces s rs) d ≡ go s
 unfolding pick spaces
-blank-row s rs d isTab = refl
-blank-row s rs d isFeed = refl
-blank-row s rs d isReturn = refl
-blank-row s rs d isBlank = refl
+blank-row s rs d is_tab = refl
+blank-row s rs d is_feed = refl
+blank-row s rs d is_return = refl
+blank-row s rs d is_blank = refl
 
 pub feeds-space : {s : State} {xs : List ℕ} (p : ℕ) → Idle s → Space xs → Feeds p s xs s
-feeds-space p i noSpace = stop
-feeds-space p i (tab h) = more (i p _ isTab) (feeds-space (suc p) i h)
-feeds-space p i (feed h) = more (i p _ isFeed) (feeds-space (suc p) i h)
-feeds-space p i (return h) = more (i p _ isReturn) (feeds-space (suc p) i h)
-feeds-space p i (blank h) = more (i p _ isBlank) (feeds-space (suc p) i h)
+feeds-space p i no_space = stop
+feeds-space p i (tab h) = more (i p _ is_tab) (feeds-space (suc p) i h)
+feeds-space p i (feed h) = more (i p _ is_feed) (feeds-space (suc p) i h)
+feeds-space p i (return h) = more (i p _ is_return) (feeds-space (suc p) i h)
+feeds-space p i (blank h) = more (i p _ is_blank) (feeds-space (suc p) i h)
 
 -- ---- how many more brackets may be opened
 
@@ -110,6 +110,6 @@ pub room-base : (d : ℕ) → room (base d) ≡ d
 unfolding room
 room-base d = refl
 
-pub room-frame : (f : Frame) (k : Stack) → room (f ▹ k) ≡ pred (room k)
+pub room_frame : (f : Frame) (k : Stack) → room (f ▹ k) ≡ pred (room k)
 unfolding room
-room-frame f k = refl
+room_frame f k = refl
