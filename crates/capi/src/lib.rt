@@ -1,5 +1,7 @@
 // The calls for programs in C and other languages, as include/attrywind.h declares them: numbers and lent slices alone.
 // Contracts cite specs/Answers.antt: each is a call of the library (`jer`'s CallClauses.antt) whose answer is told in numbers.
+#![tactic(auto)]
+
 ghost use Rattle.std.specs.Prelude.{◌≡◌};
 ghost use Rattle.jer.specs.Answer.{values_of};
 ghost use Rattle.jer.specs.Table.{table};

@@ -1,5 +1,7 @@
 // Runs the stored cases through the calls and the programs. The input comes in parts: a line with the part's kind and its number of cases,
 // then the cases, each some lines of hexadecimal; second/README.md says which, and how each is answered.
+#![tactic(auto)]
+
 use jer::{Reading, Writing};
 use libc::STDOUT_FILENO;
 use lines::shown::{put_judged, put_reading, put_writing};

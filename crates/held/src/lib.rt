@@ -1,13 +1,15 @@
 // A reader that holds the lent text together with its place, for the outermost tokens. Each function over it is thin: it takes the
 // struct apart and calls a covered function on the slice and the number. `outermost`, whose parameter is a plain slice, stands above, and
 // serves `reading::read`.
+#![tactic(auto)]
+
 ghost use Rattle.std.specs.Prelude.{◌≡◌};
 ghost use Rattle.tokens.specs.Places.{past_space};
 
 use tokens::cursor::Cursor;
 
 // A lent text, and a place in it.
-#[derive(Drop)]
+#[derive(Clone, Copy)]
 pub struct Reader<'a> {
     pub src: &'a [u8],
     pub at: usize,

@@ -1,11 +1,13 @@
 // ASN.1 values in JSON (X.697) as document 01 lays them down: the answers of the calls, and in `specs/` what they mean.
 // Contracts of the crates above cite `specs/`; `specs/Answer.antt` gives document 01's number and values for each case.
+#![tactic(auto)]
+
 ghost use Rattle.std.specs.Prelude.{◌≡◌};
 ghost use Rattle.jer.specs.Answer.{cause_number, table_number, limit_number, values_of};
 ghost use Rattle.jer.specs.Reports.{reported_of};
 
 // Why a text is refused at one of its bytes.
-#[derive(Drop)]
+#[derive(Clone, Copy)]
 pub enum Cause {
     // The text is over 65,536 bytes.
     TooLong,
@@ -34,21 +36,21 @@ pub enum Cause {
 }
 
 // Which table is refused at one of its rows.
-#[derive(Drop)]
+#[derive(Clone, Copy)]
 pub enum Which {
     TypeTable,
     ValueTable,
 }
 
 // What is too large for its room: a written text for the house size, or an answer for the lent room.
-#[derive(Drop)]
+#[derive(Clone, Copy)]
 pub enum Limit {
     HouseSize,
     LentRoom,
 }
 
 // A refusal, by what it returns beside its number.
-#[derive(Drop)]
+#[derive(Clone, Copy)]
 pub enum Refusal {
     AtByte(Cause, usize),
     AtRow(Which, usize),
@@ -56,35 +58,35 @@ pub enum Refusal {
 }
 
 // What judging a type table or a text answers.
-#[derive(Drop)]
+#[derive(Clone, Copy)]
 pub enum Judged {
     Good,
     Refused(Refusal),
 }
 
 // What reading answers: how many rows and pool bytes were stored.
-#[derive(Drop)]
+#[derive(Clone, Copy)]
 pub enum Reading {
     Read { rows: usize, pool: usize },
     Refused(Refusal),
 }
 
 // What reading many texts answers: of how many it is told what came of them, or why the type table is refused.
-#[derive(Drop)]
+#[derive(Clone, Copy)]
 pub enum Readings {
     Answered(usize),
     Refused(Refusal),
 }
 
 // What writing answers: how many bytes of text were stored.
-#[derive(Drop)]
+#[derive(Clone, Copy)]
 pub enum Writing {
     Written(usize),
     Refused(Refusal),
 }
 
 // How a row of the type table uses its fields from 2 on.
-#[derive(Drop)]
+#[derive(Clone, Copy)]
 pub enum Layout {
     // Not at all.
     Bare,
@@ -99,7 +101,7 @@ pub enum Layout {
 }
 
 // Document 01's number of a refusal, with its first and second amount.
-#[derive(Drop)]
+#[derive(Clone, Copy)]
 pub struct Reported {
     pub number: u32,
     pub first: u64,

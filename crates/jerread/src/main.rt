@@ -1,4 +1,6 @@
 // `jerread`: three lines of hexadecimal on standard input, type table, names and text; prints the value rows and the pool, or the refusal.
+#![tactic(auto)]
+
 use libc::STDOUT_FILENO;
 use shell::reads::answer;
 use slices::part;

@@ -1,4 +1,6 @@
 // `jerwrite`: four lines of hexadecimal on standard input, type table, names, value rows and pool; prints the text, or the refusal.
+#![tactic(auto)]
+
 use libc::STDOUT_FILENO;
 use shell::writes::answer;
 use slices::part;

@@ -40,6 +40,9 @@ abbrev pub Grows : (ℕ → Json → List ℕ → Type 0) → ℕ → Option Num
 Grows T b (some n) = (q : ℕ) (j : Json) (bs : List ℕ) → NumFrom n q j bs → T q j (b ∷ bs)
 Grows T b none = Unit {0}
 
+naught-whole : {n : ℕ} {cs : List ℕ} → Naught n cs → Whole n (0x30 ∷ cs)
+naught-whole naught = nought
+
 numeral_cons : {q b : ℕ} {m : Bool} {W X : ℕ → List ℕ → Type 0} {j : Json} {bs : List ℕ} → ((n : ℕ) (cs : List ℕ) → W n cs → X n (b ∷ cs)) → Numeral q m W j bs → Numeral q m X j (b ∷ bs)
 numeral_cons h (is_whole {n = n} {bs = bs} w) = is_whole (h n bs w)
 numeral_cons h (is_real {n = n} {bs = bs} w k e) = is_real (h n bs w) k (behind e)
@@ -55,13 +58,14 @@ broken-within m W n b w =
 
 digit-before : {a : ℕ} {bs : List ℕ} → In 0x30 0x39 a → Broken (0x2E ∷ bs) → Broken (0x2E ∷ a ∷ bs)
 digit-before i (fraction d) = fraction (more_digits i d)
+digit-before {a = a} {bs = bs} i (power x) = elim x [ ]
 digit-before i (both d e g) = both (more_digits i d) e (behind g)
 
 pub num_grows : (n : Num) (b : ℕ) → Grows (NumFrom n) b (num_step n b)
 unfolding num_step power_rows
 num_grows n_minus b =
     pick-within (Grows (NumFrom n_minus) b) b _ _
-    ((λ i q j bs. rw (only i) (numeral_cons (λ n cs. elim [ naught ↦ nought ]))) ⨾ (λ i q j bs. numeral_cons (λ n cs o. from i o)) ⨾ tt)
+    ((λ i q j bs. rw (only i) (numeral_cons (λ n cs. naught-whole))) ⨾ (λ i q j bs. numeral_cons (λ n cs o. from i o)) ⨾ tt)
     tt
 num_grows (n_zero m) b = pick-within (Grows (NumFrom (n_zero m)) b) b _ _ (broken-within m _ 0 b naught) tt
 num_grows (n_int m n) b = pick-within (Grows (NumFrom (n_int m n)) b) b _ _ ((λ i q j bs. numeral_cons (λ k cs o. onward i o)) ⨾ broken-within m _ n b stop) tt
@@ -107,7 +111,7 @@ pub minus-value : {d q : ℕ} {j : Json} {bs : List ℕ} → NumFrom n_minus q j
 minus-value f = numeral_value (λ n cs w. minus w) f
 
 pub zero-value : {d q : ℕ} {j : Json} {bs : List ℕ} → NumFrom (n_zero false) q j bs → Value d q j (0x30 ∷ bs)
-zero-value f = numeral_value {m = false} {W = Naught} (λ n cs. elim [ naught ↦ bare nought ]) f
+zero-value f = numeral_value {m = false} {W = Naught} (λ n cs o. bare (naught-whole o)) f
 
 pub digit_value : {d q b : ℕ} {j : Json} {bs : List ℕ} → In 0x31 0x39 b → NumFrom (n_int false (b - 0x30)) q j bs → Value d q j (b ∷ bs)
 digit_value i f = numeral_value (λ n cs w. bare (from i w)) f

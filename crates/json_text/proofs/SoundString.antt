@@ -136,10 +136,13 @@ text-kept b =
     (λ s. pick_first (Kept m_text b) b 0x20 0x7F _ _ _ (λ i. begins (λ c bs n. rw (n.0, n.1) (plain i (λ e. q (omega arith)) (λ e. s (omega arith)))))
     (λ _. pick-within (Kept m_text b) b _ _ (wide-within b) fails)))
 
+wide_conts : {n : ℕ} {bs : List ℕ} → WideEnd 0x80 0xBF n bs → Conts (suc n) bs
+wide_conts (wide_end i r) = cont i r
+
 wide-next : (n : ℕ) (c bs : List ℕ) → Next (wide_next n) c bs → (c ≡ bs) × Conts n bs
 unfolding wide_next
 wide-next zero c bs h = (cc, rw h.1 no_cont)
-wide-next (suc n) c bs h = (h.0, elim h.1 [ wide_end i r ↦ cont i r ])
+wide-next (suc n) c bs h = (h.0, wide_conts h.1)
 
 wide-kept : (lo hi n b : ℕ) → Kept (m_wide lo hi n) b (char_step (m_wide lo hi n) b)
 unfolding char_step

@@ -1,5 +1,7 @@
 // Leaves of typed reading: a value with no parts, at a place of the text, stored in the lent rows and pool; and the value of a missing element.
 // Contracts cite `ByPlaces.antt` of `places`; `specs/Step.antt` says what a reading answers and what it stores, for every reading above.
+#![tactic(auto)]
+
 pub mod missing; // missing.rt: the value of a missing element of an ARRAY
 pub mod store; // store.rt: stores that past the end do nothing
 mod strings; // strings.rt: ENUMERATED, OCTET STRING and UTF8String
@@ -17,7 +19,7 @@ use types::token::{BOOLEAN, NULL, NUMBER, STRING};
 use words::{boolean, null, number};
 
 // What reading a value answers.
-#[derive(Drop)]
+#[derive(Clone, Copy)]
 pub enum Step {
     // The place after it, and how many rows and pool bytes it has.
     Read(usize, usize, usize),

@@ -6,7 +6,7 @@ ghost use Rattle.lines.specs.Taken.{octets_of, octet_at, number_at, is_hex, is_s
 
 use slices::{digit, part, put, put_number};
 
-#[derive(Drop)]
+#[derive(Clone, Copy)]
 pub enum Taken {
     // So many octets or numbers, and the place after the line.
     Line(usize, usize),

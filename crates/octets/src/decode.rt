@@ -8,7 +8,7 @@ use slices::{digit, put_all};
 use tokens::strings::{Piece, piece_at, same_as};
 
 // What a string of octets has.
-#[derive(Drop)]
+#[derive(Clone, Copy)]
 pub enum Found {
     // So many octets.
     Octets(usize),
@@ -17,7 +17,7 @@ pub enum Found {
 }
 
 // The next character of a string, or the next digit.
-#[derive(Drop)]
+#[derive(Clone, Copy)]
 pub enum Next {
     // The string's end.
     End,
@@ -28,7 +28,7 @@ pub enum Next {
 }
 
 // The next group of digits.
-#[derive(Drop)]
+#[derive(Clone, Copy)]
 pub enum Group {
     // The string's end.
     End,

@@ -1,10 +1,12 @@
 // Typed reading by places of the text, as definitions in the shape of the code, with the proof that on a JSON text they are the
 // meaning of its tree. Code stands in the crates above; its contracts cite `specs/ByPlaces.antt`, and public ones the meaning alone.
 // What the code and the definitions answer alike is declared here, once.
+#![tactic(auto)]
+
 use jer::Refusal;
 
 // What follows the opening bracket, or a part of a bracket.
-#[derive(Drop)]
+#[derive(Clone, Copy)]
 pub enum Follows {
     // The next part begins at this place.
     Part(usize),
@@ -13,7 +15,7 @@ pub enum Follows {
 }
 
 // How a bracket's end is found, before its values are read.
-#[derive(Drop)]
+#[derive(Clone, Copy)]
 pub enum Ended {
     // All before it is good; the place after the closing bracket.
     Closed(usize),
@@ -22,7 +24,7 @@ pub enum Ended {
 }
 
 // An object's names: the members met and, of each, where its value stands. An enum cannot hold an array: it stands beside.
-#[derive(Drop)]
+#[derive(Clone, Copy)]
 pub struct Scanned {
     pub end: Ended,
     pub met: u64,
@@ -30,7 +32,7 @@ pub struct Scanned {
 }
 
 // A member of an object.
-#[derive(Drop)]
+#[derive(Clone, Copy)]
 pub enum Member {
     Absent,
     Missing,
@@ -39,7 +41,7 @@ pub enum Member {
 }
 
 // A member of an array.
-#[derive(Drop)]
+#[derive(Clone, Copy)]
 pub enum Element {
     // What follows it.
     Absent(Follows),
@@ -50,7 +52,7 @@ pub enum Element {
 }
 
 // The name of the one member of an object.
-#[derive(Drop)]
+#[derive(Clone, Copy)]
 pub enum One {
     At(usize),
     NotOne,

@@ -16,7 +16,7 @@ use spelled::word::{literal_false, literal_null, literal_true};
 use types::row::{Row, count_of, kind_of};
 
 // The place after it, or 0; the two words of it; how many pool bytes.
-#[derive(Drop)]
+#[derive(Clone, Copy)]
 pub struct Words {
     pub next: usize,
     pub a: u32,

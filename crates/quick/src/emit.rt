@@ -10,7 +10,7 @@ use spelled::put::{put_base64, put_hex};
 use types::row::{Row, count_of, element_of, kind_of, type_at, wide};
 
 // Where a value ends on the tape, and how many rows it has.
-#[derive(Drop)]
+#[derive(Clone, Copy)]
 pub struct Node {
     pub end: usize,
     pub rows: usize,

@@ -1,5 +1,7 @@
 // A reading that only succeeds: one walk over the text notes the value on a tape, a second walk over the tape stores rows and pool.
 // What it does not take it answers by the place 0; the general calls read that. So its contracts say only what a success means.
+#![tactic(auto)]
+
 pub mod bare; // bare.rt: a value without parts
 pub mod coded; // coded.rt: octets with escapes
 pub mod emit; // emit.rt: the walk over the tape
@@ -13,7 +15,7 @@ pub mod take; // take.rt: a whole text
 pub mod walk; // walk.rt: the walk over the text
 
 // What a value gives: the place after it, or 0 for what is not taken here; the tape's end; how many rows and pool bytes.
-#[derive(Drop)]
+#[derive(Clone, Copy)]
 pub struct Got {
     pub next: usize,
     pub tape: usize,

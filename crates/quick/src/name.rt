@@ -14,7 +14,7 @@ use types::row::{count_of, first_of};
 use types::token::Found;
 
 // The place after the colon, or 0; the member's position, or how many there are for a name that none has.
-#[derive(Drop)]
+#[derive(Clone, Copy)]
 pub struct Name {
     pub next: usize,
     pub position: u32,

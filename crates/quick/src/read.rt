@@ -14,7 +14,7 @@ use jer::{Limit, Reading, Refusal};
 use spelled::plain;
 
 // The answer of the call, or none: the general way is to read the text then, and the buffers are as they were.
-#[derive(Drop)]
+#[derive(Clone, Copy)]
 pub enum Reply {
     Said(Reading),
     Other,

@@ -2,7 +2,7 @@
 ghost use Rattle.std.specs.Prelude.{◌≡◌};
 
 // The place after it, or 0; the tape's end; its rows and pool bytes; the members met, and those present, with it; and the position that is due next.
-#[derive(Drop)]
+#[derive(Clone, Copy)]
 pub struct Step {
     pub next: usize,
     pub tape: usize,

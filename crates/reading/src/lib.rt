@@ -1,4 +1,6 @@
 // The call that reads: a type table and a text judged, the value measured, and stored in the rows and the pool that are lent.
+#![tactic(auto)]
+
 pub mod each; // each.rt: many texts under one type table
 
 ghost use Rattle.std.specs.Prelude.{◌≡◌};

@@ -1,5 +1,7 @@
 // What stands inside a bracket, by places of the text: its parts, the names of members, and the scan of an object's names.
 // Contracts cite `ByPlaces.antt` of `places`.
+#![tactic(auto)]
+
 pub mod met; // met.rt: the members met, one bit for each
 pub mod names; // names.rt: the position of a name, and the value after it
 pub mod parts; // parts.rt: what stands at a place, and what follows a part of a bracket

@@ -1,4 +1,6 @@
 // Slices, said once for all crates: the byte at a place, a part of one, and stores that past the end do nothing; the value of a hexadecimal digit.
+#![tactic(auto)]
+
 ghost use Rattle.std.specs.Prelude.{◌≡◌, ◌+◌, ◌≤◌, length, get_or, take, drop, set};
 ghost use Rattle.std.proofs.lemmas.List.Edits.{sets};
 ghost use Rattle.slices.specs.Digit.{digit_of};

@@ -10,7 +10,7 @@ use crate::bytes::byte;
 use slices::byte_at;
 
 // The place after an escape, or 0; and how many bytes its character has.
-#[derive(Drop)]
+#[derive(Clone, Copy)]
 pub struct Escaped {
     pub next: usize,
     pub count: usize,

@@ -8,14 +8,14 @@ use crate::bytes::byte;
 use slices::byte_at;
 
 // The place after the digits, or 0; and the number.
-#[derive(Drop)]
+#[derive(Clone, Copy)]
 pub struct Number {
     pub next: usize,
     pub value: u64,
 }
 
 // The place after the number, or 0; and the halves of its two's complement.
-#[derive(Drop)]
+#[derive(Clone, Copy)]
 pub struct Halves {
     pub next: usize,
     pub low: u32,

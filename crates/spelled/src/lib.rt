@@ -1,5 +1,7 @@
 // What stands at a place of a text, by the grammar of JSON: each function answers a place after it, or 0 where it does not take it.
 // A reading that only succeeds is made of these. Contracts cite `specs/`, which cites the grammar.
+#![tactic(auto)]
+
 mod bytes; // bytes.rt: some bytes as one number
 mod character; // character.rt: characters that are escaped, or of more than one byte
 pub mod coded; // coded.rt: octets in hexadecimal or Base64

@@ -8,7 +8,7 @@ use crate::plain;
 use slices::byte_at;
 
 // A string: the place after it, or 0; how many bytes it denotes; whether any of its characters is escaped.
-#[derive(Drop)]
+#[derive(Clone, Copy)]
 pub struct Text {
     pub next: usize,
     pub count: usize,

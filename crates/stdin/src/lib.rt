@@ -1,6 +1,8 @@
 // Standard input for the programs: what stands there collected, or its lines of hexadecimal read as they come.
 // Of what comes from the operating system a contract can give bounds alone: that it is what stands there is tested and not proved.
 // What is made of it and printed, the crates `lines` and `shell`, is proved.
+#![tactic(auto)]
+
 ghost use Rattle.std.specs.Prelude.{◌≤◌, ◌≡◌, length};
 
 use libc::STDIN_FILENO;
@@ -8,21 +10,21 @@ use lines::taken::DIGITS;
 use slices::byte_at;
 
 // Where in its buffer the input stands.
-#[derive(Drop)]
+#[derive(Clone, Copy)]
 pub struct Input {
     pub at: usize,
     pub end: usize,
 }
 
 // The next byte, or 256 at the end of the input.
-#[derive(Drop)]
+#[derive(Clone, Copy)]
 struct Next {
     pub byte: u32,
     pub input: Input,
 }
 
 // A line's octets or numbers, counted; `over` if no byte was left where it would begin.
-#[derive(Drop)]
+#[derive(Clone, Copy)]
 pub struct Line {
     pub count: usize,
     pub over: bool,

@@ -1,5 +1,7 @@
 // Is a text JSON, within document 01's sizes? One pass, with the same work at every byte.
 // `specs/Class.antt` and `specs/Outline.antt` say which bytes may begin or continue what.
+#![tactic(auto)]
+
 ghost use Rattle.std.specs.Prelude.{◌≡◌};
 ghost use Rattle.jer.specs.declared.Judged.TheVariants.{Refused};
 ghost use Rattle.jer.specs.declared.Refusal.TheVariants.{AtByte};

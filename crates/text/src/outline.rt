@@ -6,7 +6,7 @@ ghost use Rattle.text.specs.Outline.{goes, opens, closes, comma, quoted, does, s
 use crate::acts::act;
 
 // Where the check of a text stands.
-#[derive(Drop)]
+#[derive(Clone, Copy)]
 pub struct Outline {
     // A row of the table in `acts.rt`.
     pub mode: u8,
@@ -17,7 +17,7 @@ pub struct Outline {
 }
 
 // What a byte leads to.
-#[derive(Drop)]
+#[derive(Clone, Copy)]
 pub enum Turn {
     On(Outline),
     // No JSON text has it there.

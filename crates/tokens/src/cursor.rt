@@ -6,7 +6,7 @@ ghost use Rattle.tokens.specs.Numbers.{is_digit};
 ghost use Rattle.tokens.specs.Enums.{passes};
 
 // The bytes that a run passes.
-#[derive(Drop)]
+#[derive(Clone, Copy)]
 pub enum Class {
     // White space.
     Space,
@@ -69,7 +69,7 @@ pub fn run(s: &[u8], p: usize, class: Class) -> usize
 }
 
 // A place in a text that is lent beside it.
-#[derive(Drop)]
+#[derive(Clone, Copy)]
 pub struct Cursor {
     pub at: usize,
 }

@@ -6,7 +6,7 @@ ghost use Rattle.tokens.specs.Enums.{within, integer_of};
 use crate::cursor::{Class, run};
 use slices::byte_at;
 
-#[derive(Drop)]
+#[derive(Clone, Copy)]
 pub enum Integer {
     // The halves of its 64-bit two's complement.
     Whole { low: u32, high: u32 },
@@ -15,7 +15,7 @@ pub enum Integer {
 }
 
 // A decimal number, as far as 2^63.
-#[derive(Drop)]
+#[derive(Clone, Copy)]
 enum Magnitude {
     Fits(u64),
     Over,

@@ -11,7 +11,7 @@ use crate::starts::starts;
 use slices::{byte_at, part, put, put_all};
 
 // One piece of a string.
-#[derive(Drop)]
+#[derive(Clone, Copy)]
 pub enum Piece {
     // The closing quotation mark or the text's end.
     Close,
@@ -85,7 +85,7 @@ fn pair(high: u32, low: u32) -> u32
 }
 
 // An escaped character, and the place after it.
-#[derive(Drop)]
+#[derive(Clone, Copy)]
 pub struct Unescaped {
     pub code: u32,
     pub next: usize,
@@ -144,7 +144,7 @@ pub fn piece_at(s: &[u8], p: usize) -> Piece
 }
 
 // The UTF-8 of a character: the first len of four bytes.
-#[derive(Drop)]
+#[derive(Clone, Copy)]
 pub struct Utf8 {
     pub bytes: [u8; 4],
     pub len: usize,
@@ -281,7 +281,7 @@ fn copy_rest(s: &[u8], p: usize, pool: &mut [u8], j: usize) -> usize
 }
 
 // A string that was copied: how many bytes it denotes, and a place from which its end is still to be sought.
-#[derive(Drop)]
+#[derive(Clone, Copy)]
 pub struct Copied {
     pub count: usize,
     pub from: usize,

@@ -21,7 +21,7 @@ pub fn same_bytes(a: &[u8], b: &[u8]) -> bool
 }
 
 // Where a check of UTF-8 stands.
-#[derive(Drop)]
+#[derive(Clone, Copy)]
 pub enum Due {
     // Between characters.
     Start,

@@ -1,6 +1,8 @@
 // The type table: its rows and names by name, and the check that each call from outside makes first.
 // Contracts here and above cite `jer`'s Table.antt and Valid.antt at `table rows names` (specs/Rows.antt); where the rows decide alone, for any names.
 // Tests that cost little are joined by `&` and `|`, not `&&` and `||`, so that what a function answers is one equation.
+#![tactic(auto)]
+
 pub mod bytes; // bytes.rt: parts of a slice, equal bytes, UTF-8
 pub mod row; // row.rt: a row, its kinds and marks, and the rows that it points to
 pub mod token; // token.rt: the JSON token of a type, and where null is taken

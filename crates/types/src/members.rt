@@ -9,14 +9,14 @@ use crate::row::{Row, count_of, may_miss, member_at, member_row, name_in, type_a
 use crate::token::{null_taken, token_of};
 
 // By what two members are compared.
-#[derive(Drop)]
+#[derive(Clone, Copy)]
 pub enum By {
     Name,
     // The JSON token of their types.
     Token,
 }
 
-#[derive(Drop)]
+#[derive(Clone, Copy)]
 pub enum Rule {
     // The row is a member's.
     IsMember,

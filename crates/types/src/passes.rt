@@ -16,7 +16,7 @@ const NUMBERS: usize = 32768;
 const NAMES: usize = 65536;
 
 // After each row by itself: by the kinds of the rows it points to; each type by its other rules.
-#[derive(Drop)]
+#[derive(Clone, Copy)]
 pub enum Pass {
     Pointers,
     Rules,

@@ -9,7 +9,7 @@ use jer::Layout;
 use slices::part;
 
 // Fields 0 to 4; the last three have another use in a member's row.
-#[derive(Drop)]
+#[derive(Clone, Copy)]
 pub struct Row {
     pub kind: u32,
     pub marks: u32,
@@ -22,7 +22,7 @@ pub struct Row {
 }
 
 // What a row of a kind carries.
-#[derive(Drop)]
+#[derive(Clone, Copy)]
 pub struct Carried {
     // The sum of the marks that it may have.
     pub marks: u32,

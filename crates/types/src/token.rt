@@ -22,7 +22,7 @@ pub const OBJECT: u32 = 5;
 pub const NONE: u32 = 6;
 
 // A position, if there is one.
-#[derive(Drop)]
+#[derive(Clone, Copy)]
 pub enum Found {
     At(u32),
     Nothing,

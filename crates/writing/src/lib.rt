@@ -1,4 +1,6 @@
 // The call that writes: type table and value table judged, the text measured, and stored in the text that is lent.
+#![tactic(auto)]
+
 ghost use Rattle.jer.specs.CallClauses.{WriteCall};
 ghost use Rattle.jer.specs.Table.{table};
 ghost use Rattle.writing.specs.Call.{GoodTable, WritesText};

@@ -125,7 +125,7 @@ pub fn put_integer(text: &mut [u8], k: usize, low: u32, high: u32) -> usize
 }
 
 // How the bytes of a string are spelled.
-#[derive(Drop)]
+#[derive(Clone, Copy)]
 pub enum Form {
     // As they are, escaped where they must be.
     Escaped,
@@ -238,7 +238,7 @@ pub fn put_string(literal: &[u8; 256], text: &mut [u8], k: usize, form: Form, s:
 }
 
 // Where a string of characters ends, and whether they are known to be ASCII.
-#[derive(Drop)]
+#[derive(Clone, Copy)]
 pub struct Chars {
     pub end: usize,
     pub ascii: bool,

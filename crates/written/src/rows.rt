@@ -7,7 +7,7 @@ ghost use Rattle.written.specs.Rows.{value_row, rows_from, Finds, absent_next, n
 
 use types::row::{Row, kind_of, may_be_absent, row_in, type_at};
 
-#[derive(Drop)]
+#[derive(Clone, Copy)]
 pub struct ValueRow {
     pub kind: u32,
     pub a: u32,
@@ -16,7 +16,7 @@ pub struct ValueRow {
 }
 
 // A row, if the table has a whole one there.
-#[derive(Drop)]
+#[derive(Clone, Copy)]
 pub enum Found {
     Row(ValueRow),
     End,

@@ -8,7 +8,7 @@ use crate::rows::{Found, row_at, type_row};
 use crate::taken::{Taken, ended};
 use types::row::{Row, kind_of, type_at};
 
-#[derive(Drop)]
+#[derive(Clone, Copy)]
 pub struct Start {
     // The type's row and kind, and the slot.
     pub row: usize,

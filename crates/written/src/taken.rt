@@ -4,7 +4,7 @@ ghost use Rattle.written.specs.Text.{ended_as};
 
 use types::row::wide;
 
-#[derive(Drop)]
+#[derive(Clone, Copy)]
 pub enum Taken {
     // The next slot, how far the pool is used, and where the text ends.
     Took {
