@@ -24,15 +24,15 @@ pub data Listed (d : ℕ) : ℕ → Items → List (List ℕ) → Type 0 where
   nothing : {p : ℕ} → Listed d p inil []
   then : {p : ℕ} {j : Json} {is : Items} {x : List ℕ} {xs : List (List ℕ)} → Value d p j x → Listed d (suc (past p x)) is xs → Listed d p (icons j is) (x ∷ xs)
 
-listed-elements : {d p : ℕ} {j : Json} {is : Items} {x : List ℕ} {xs : List (List ℕ)} → Value d p j x → Listed d (suc (past p x)) is xs → Elements d p (icons j is) (joined (x ∷ xs) ++ (0x5D ∷ []))
+listed-elements : {d p q : ℕ} {j : Json} {is : Items} {x : List ℕ} {xs : List (List ℕ)} → Value d p j x → q ≡ suc (past p x) → Listed d q is xs → Elements d p (icons j is) (joined (x ∷ xs) ++ (0x5D ∷ []))
 unfolding joined
-listed-elements v nothing = last_element (unpadded v) refl
-listed-elements {x = x} v (then {x = y} {xs = ys} w r) = more_elements (unpadded v) refl (listed-elements w r) (append_assoc x (0x2C ∷ joined (y ∷ ys)) (0x5D ∷ []))
+listed-elements v e nothing = last_element (unpadded v) refl
+listed-elements {x = x} v e (then {p = o} {x = y} {xs = ys} w r) = more_elements (unpadded v) e (listed-elements {p = o} w refl r) (append_assoc x (0x2C ∷ joined (y ∷ ys)) (0x5D ∷ []))
 
 pub array-spelled : {d p : ℕ} {is : Items} {xs : List (List ℕ)} → Listed d (suc p) is xs → Value (suc d) p (jarr p is) (brackets xs)
 unfolding brackets joined
 array-spelled nothing = no_elements no_space refl
-array-spelled (then v r) = elements (listed-elements v r)
+array-spelled (then v r) = elements (listed-elements v refl r)
 
 -- ---- objects
 
@@ -54,18 +54,18 @@ past-member : (p : ℕ) (s x : List ℕ) → past p (member_text s x) ≡ past (
 unfolding member_text
 past-member p s x = ap (past p) (sym (append_assoc (string_text s) (0x3A ∷ []) x)) ∙ past_append p (string_text s ++ (0x3A ∷ [])) x
 
-membered-named : {d p : ℕ} {s : List ℕ} {j : Json} {ms : Members} {x : List ℕ} {xs : List (List ℕ)} → Quoted s (string_text s) → Value d (past p (string_text s ++ (0x3A ∷ []))) j x
-    → Membered d (suc (past p (member_text s x))) ms xs → Named d p (mcons p s j ms) (joined (member_text s x ∷ xs) ++ (0x7D ∷ []))
+membered-named : {d p q : ℕ} {s : List ℕ} {j : Json} {ms : Members} {x : List ℕ} {xs : List (List ℕ)} → Quoted s (string_text s) → Value d (past p (string_text s ++ (0x3A ∷ []))) j x
+    → q ≡ suc (past p (member_text s x)) → Membered d q ms xs → Named d p (mcons p s j ms) (joined (member_text s x ∷ xs) ++ (0x7D ∷ []))
 unfolding joined
-membered-named {s = s} {x = x} q v no_more = last_member (named q) (unpadded v) (colon s x (0x7D ∷ []))
-membered-named {p = p} {s = s} {x = x} q v (and_then {s = u} {x = y} {xs = ys} r w m) =
-    more_members (named q) (unpadded v) (ap suc (past-member p s x)) (membered-named r w m)
+membered-named {s = s} {x = x} q v e no_more = last_member (named q) (unpadded v) (colon s x (0x7D ∷ []))
+membered-named {p = p} {s = s} {x = x} q v e (and_then {p = o} {s = u} {x = y} {xs = ys} r w m) =
+    more_members (named q) (unpadded v) (e ∙ ap suc (past-member p s x)) (membered-named {p = o} r w refl m)
     (append_assoc (member_text s x) (0x2C ∷ joined (member_text u y ∷ ys)) (0x7D ∷ []) ∙ colon s x _)
 
 pub object-spelled : {d p : ℕ} {ms : Members} {xs : List (List ℕ)} → Membered d (suc p) ms xs → Value (suc d) p (jobj p ms) (braces xs)
 unfolding braces joined
 object-spelled no_more = no_members no_space refl
-object-spelled (and_then q v r) = members (membered-named q v r)
+object-spelled (and_then q v r) = members (membered-named q v refl r)
 
 -- ---- null
 
