@@ -1,0 +1,42 @@
+use mathlib.Core.Path.{ap}
+use mathlib.Core.Bool.{not}
+use Prim.Native.Nat.{◌-◌}
+use native.Mathlib.Omega.{arith}
+use Rattle.jer.specs.Table.{table}
+use Rattle.jer.specs.Valid.{good_alone}
+use Rattle.types.proofs.LoopLaws.{first_next, first_found, first_ends}
+use Rattle.types.proofs.SureMembers.{count-is}
+use Rattle.types.proofs.CheckLaws.{bad_alone, alone-starts, pass-found, pass-ends}
+use Rattle.types.proofs.passes.passed_alone.Goals as goal
+
+pub loop-r-init : goal.loop-r-init
+loop-r-init c =
+    let a = c.args in
+    let t = table a.rows.now a.names.now in
+    alone-starts t (c.row_count-count.ensures a.names.now)
+
+pub good_alone-requires : goal.good_alone-requires
+good_alone-requires c =
+    let a = c.args in
+    (omega (arith, count-is a.rows.now a.names.now (c.row_count-count.ensures a.names.now), c.loop-r-test.true), c.all_ascii-ascii.ensures)
+
+pub returns-then-not-good_alone : goal.returns-then-not-good_alone
+returns-then-not-good_alone c =
+    let a = c.args in
+    let t = table a.rows.now a.names.now in
+    pass-found _ (first_found (bad_alone t) c.loop-r.r c.row_count-count.result c.loop-r-test.true (ap not c.good_alone.ensures) c.if-not-good_alone.true-raw c.loop-r.invariant)
+
+pub loop-r-smaller : goal.loop-r-smaller
+loop-r-smaller c = omega arith
+
+pub loop-r-preserved : goal.loop-r-preserved
+loop-r-preserved c =
+    let a = c.args in
+    let t = table a.rows.now a.names.now in
+    first_next (bad_alone t) c.loop-r.r c.row_count-count.result c.loop-r-test.true (ap not c.good_alone.ensures) c.if-not-good_alone.false-raw c.loop-r.invariant
+
+pub returns : goal.returns
+returns c =
+    let a = c.args in
+    let t = table a.rows.now a.names.now in
+    pass-ends _ (first_ends (bad_alone t) c.loop-r.r c.row_count-count.result c.loop-r-test.false c.loop-r.invariant)
