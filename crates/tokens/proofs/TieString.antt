@@ -232,7 +232,7 @@ chars_denote : {s : List ℕ} {p : ℕ} {t bs : List ℕ} (ys : List ℕ) → Ch
 chars_denote ys no_char h = mark_denotes h
 chars_denote {s} {p} ys (char {bs = bs} {cs = cs} c cc' e d) h =
     let g : drop p s ≡ bs ++ (cs ++ (0x22 ∷ ys)) = rw (d, append_assoc) at h in
-    rw (d, e) (char_denotes (cs ++ (0x22 ∷ ys)) c g (chars_denote ys cc' (drop_past s p bs _ g)))
+    rw (d, e) (char_denotes (cs ++ (0x22 ∷ ys)) c g (chars_denote {p = past p bs} ys cc' (drop_past s p bs _ g)))
 
 -- ---- the laws
 
