@@ -78,7 +78,7 @@ leaf_at t s t_object r p = at OtherKind p
 -- ---- what follows a part of a bracket
 
 unfoldable pub follows_at : Follows → ℕ
-follows_at (PartMut q) = q
+follows_at (Part q) = q
 follows_at (Shut q) = q
 
 -- after a part that ends at q: white space, then a comma and the next part, or the closing bracket
@@ -98,7 +98,7 @@ with_item v rest = bind rest (λ g. ok (got (vcons v g.value) g.next))
 unfoldable pub items_at : (ℕ → Res (Got Val)) → List ℕ → ℕ → Follows → Res (Got Vals)
 items_at value s zero f = ok (got vnil (follows_at f))
 items_at value s (suc n) (Shut q) = ok (got vnil q)
-items_at value s (suc n) (PartMut q) = bind (value q) (λ g. with_item g.value (items_at value s n (after_part s g.next)))
+items_at value s (suc n) (Part q) = bind (value q) (λ g. with_item g.value (items_at value s n (after_part s g.next)))
 
 unfoldable pub list_at : Reader → Table → List ℕ → Reader
 list_at value t s r p = bind (items_at (λ q. value (element_of t r) q) s (length s) (first_part s 0x5D p)) (λ g. ok (got (v_list g.value) g.next))
@@ -161,7 +161,7 @@ scanned e met places = record { end = e; met = met; places = places }
 unfoldable pub scan_at : ℕ → Table → List ℕ → ℕ → ℕ → Follows → ℕ → List ℕ → Scanned
 scan_at d t s r zero f met places = scanned (Closed (follows_at f)) met places
 scan_at d t s r (suc n) (Shut q) met places = scanned (Closed q) met places
-scan_at d t s r (suc n) (PartMut q) met places =
+scan_at d t s r (suc n) (Part q) met places =
     elim (position t r (denoted s (q + 1))) [
       | none ↦ elim (extensible t r) [
         | true ↦ scan_at d t s r n (after_part s (past_value d s (value_place s q))) met places

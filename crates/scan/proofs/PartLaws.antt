@@ -89,7 +89,7 @@ pub first-within : (s : List ℕ) (k p m : ℕ) → length s ≤ m → p < m →
 unfolding first_part follows_at
 first-within s k p m l h = go (eqb (byte_at s (past_space s (p + 1))) k)
   where
-    go : (t : Bool) → follows_at (elim t [ true ↦ Shut (past_space s (p + 1) + 1) | false ↦ PartMut (past_space s (p + 1)) ]) ≤ m + 1
+    go : (t : Bool) → follows_at (elim t [ true ↦ Shut (past_space s (p + 1) + 1) | false ↦ Part (past_space s (p + 1)) ]) ≤ m + 1
     go true = omega (arith, space-within s m (p + 1) l (omega arith))
     go false = omega (arith, space-within s m (p + 1) l (omega arith))
 
@@ -97,6 +97,6 @@ pub after-within : (s : List ℕ) (x m : ℕ) → length s ≤ m → x ≤ m →
 unfolding after_part follows_at
 after-within s x m l h = go (eqb (byte_at s (past_space s x)) 0x2C)
   where
-    go : (t : Bool) → follows_at (elim t [ true ↦ PartMut (past_space s (past_space s x + 1)) | false ↦ Shut (past_space s x + 1) ]) ≤ m + 1
+    go : (t : Bool) → follows_at (elim t [ true ↦ Part (past_space s (past_space s x + 1)) | false ↦ Shut (past_space s x + 1) ]) ≤ m + 1
     go true = space-within s (m + 1) (past_space s x + 1) (omega arith) (omega (arith, space-within s m x l h))
     go false = omega (arith, space-within s m x l h)

@@ -76,7 +76,7 @@ module _ (t : Table) (s : List ℕ) (r i q : ℕ) {b : Bool} where
 -- ---- members of an array
 
 -- the place of what follows, once it is known to be a part
-pub shown : {f : Follows} {q b : ℕ} → f ≡ PartMut q → follows_at f ≤ b → q ≤ b
+pub shown : {f : Follows} {q b : ℕ} → f ≡ Part q → follows_at f ≤ b → q ≤ b
 unfolding follows_at
 shown e h = rw e at h
 

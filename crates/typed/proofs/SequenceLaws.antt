@@ -262,9 +262,9 @@ stopped_ends z met places q e = absurd (let z : ◌≡◌ {A = ℕ} 0 1 = cc in 
 pub scan_near : (d : ℕ) (t : Table) (s : List ℕ) (r b : ℕ) → length s ≤ 65536 → 65540 ≤ b → (n : ℕ) (f : Follows) (met : ℕ) (places : List ℕ) → Near b f → Ends b (scan_at d t s r n f met places)
 unfolding scan_at follows_at
 scan_near d t s r b l h zero (Shut y) met places w = λ q e. let z : y ≡ q = cc in rw (← z) w
-scan_near d t s r b l h zero (PartMut y) met places w = λ q e. let z : y ≡ q = cc in omega arith
+scan_near d t s r b l h zero (Part y) met places w = λ q e. let z : y ≡ q = cc in omega arith
 scan_near d t s r b l h (suc n) (Shut y) met places w = λ q e. let z : y ≡ q = cc in rw (← z) w
-scan_near d t s r b l h (suc n) (PartMut y) met places w = go (λ u us. scan_near d t s r b l h n (after_part s (past_value d s (value_place s y))) u us next) (position t r (denoted s (y + 1)))
+scan_near d t s r b l h (suc n) (Part y) met places w = go (λ u us. scan_near d t s r b l h n (after_part s (past_value d s (value_place s y))) u us next) (position t r (denoted s (y + 1)))
   where
     next : Near b (after_part s (past_value d s (value_place s y)))
     next =
@@ -316,7 +316,7 @@ module _ (value : Reader) (d : ℕ) (t : Table) (s : List ℕ) (r p : ℕ) where
 
 pub near-follows : (b c : ℕ) (f : Follows) → b ≤ c → 65536 ≤ c → Near b f → follows_at f ≤ c
 unfolding follows_at
-near-follows b c (PartMut q) l h n = omega arith
+near-follows b c (Part q) l h n = omega arith
 near-follows b c (Shut q) l h n = omega arith
 
 pub near-there : (t : Table) (s : List ℕ) (r k b : ℕ) (f : Follows) {q : ℕ} → Near b f → element.There q ≡ element_found t s r k f → q ≤ 65536

@@ -8,7 +8,7 @@ use Rattle.octets.proofs.decode.base64_group.Goals as goal
 pub returns-in_default : goal.returns-in_default
 returns-in_default c =
     let d = subst (Reads base64_value c.args.s.now c.args.i) c.in-Is.is c.base64_digit.ensures in
-    base64_half d (without c.base64_digit-in-Is.result c.in-Is-base64_digit.keys2 c.base64_digit-in-Is.ensures)
+    base64_half d (without c.base64_digit-in-Is.result c.in_default.not-Is c.base64_digit-in-Is.ensures)
 
 pub base64_tail-requires : goal.base64_tail-requires
 base64_tail-requires c =

@@ -8,25 +8,23 @@ use Rattle.octets.proofs.GroupLaws.{without, tail-bits, tail-other, tail-one, ta
 use Rattle.octets.proofs.decode.base64_tail.Goals as goal
 
 pub returns-then-y-ne0 : goal.returns-then-y-ne0
-returns-then-y-ne0 c = tail-bits (without c.base64_digit.result c.in-Is.keys2 c.base64_digit.ensures) (λ e. c.if-y-ne0.true (omega arith))
+returns-then-y-ne0 c = tail-bits (without c.base64_digit.result c.in_default.not-Is c.base64_digit.ensures) (λ e. c.if-y-ne0.true (omega arith))
 
 pub returns-then-not-same_as : goal.returns-then-not-same_as
-returns-then-not-same_as c = tail-other (without c.base64_digit.result c.in-Is.keys2 c.base64_digit.ensures) (sym c.same_as.ensures ∙ not-true c.same_as.result c.if-not-same_as.true-raw)
+returns-then-not-same_as c = tail-other (without c.base64_digit.result c.in_default.not-Is c.base64_digit.ensures) (sym c.same_as.ensures ∙ not-true c.same_as.result c.if-not-same_as.true-raw)
 
 pub returns-in_default : goal.returns-in_default
-returns-in_default c =
-    let entry = (goal.at.returns-in_default c).After-shared_slice_known-1 in
-    tail-one c.args.s.now c.args.i (omega arith) (sym c.same_as.ensures ∙ not-false c.same_as.result c.if-not-same_as.false-raw)
+returns-in_default c = tail-one c.args.s.now c.args.i (omega arith) (sym c.same_as.ensures ∙ not-false c.same_as.result c.if-not-same_as.false-raw)
 
 pub returns-then-z-ne0 : goal.returns-then-z-ne0
 returns-then-z-ne0 c =
     let d = subst (Reads base64_value c.args.s.now c.args.i) c.in-Is.is c.base64_digit.ensures in
-    tail-bits_2 d (without c.base64_digit-2.result c.in-Is-base64_digit.keys2 c.base64_digit-2.ensures) (λ e. c.if-z-ne0.true (omega arith))
+    tail-bits_2 d (without c.base64_digit-2.result c.in_default-base64_digit.not-Is c.base64_digit-2.ensures) (λ e. c.if-z-ne0.true (omega arith))
 
 pub returns-then-not-same_as-2 : goal.returns-then-not-same_as-2
 returns-then-not-same_as-2 c =
     let d = subst (Reads base64_value c.args.s.now c.args.i) c.in-Is.is c.base64_digit.ensures in
-    tail-other_2 d (without c.base64_digit-2.result c.in-Is-base64_digit.keys2 c.base64_digit-2.ensures) (sym c.same_as-in_default-base64_digit.ensures ∙ not-true c.same_as-in_default-base64_digit.result c.if-not-same_as-2.true-raw)
+    tail-other_2 d (without c.base64_digit-2.result c.in_default-base64_digit.not-Is c.base64_digit-2.ensures) (sym c.same_as-in_default-base64_digit.ensures ∙ not-true c.same_as-in_default-base64_digit.result c.if-not-same_as-2.true-raw)
 
 pub overflow_add-result-in_default-base64_digit-2 : goal.overflow_add-result-in_default-base64_digit-2
 overflow_add-result-in_default-base64_digit-2 c =

@@ -9,7 +9,7 @@ use Rattle.octets.proofs.decode.hex_group.Goals as goal
 pub returns-in_default : goal.returns-in_default
 returns-in_default c =
     let d = subst (Reads hex_value c.args.s.now c.args.i) c.in-Is.is c.hex_digit.ensures in
-    hex_half d (without c.hex_digit-in-Is.result c.in-Is-hex_digit.keys2 c.hex_digit-in-Is.ensures)
+    hex_half d (without c.hex_digit-in-Is.result c.in_default.not-Is c.hex_digit-in-Is.ensures)
 
 pub overflow_mul-result : goal.overflow_mul-result
 overflow_mul-result c =

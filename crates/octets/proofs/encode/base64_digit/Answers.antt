@@ -6,13 +6,13 @@ pub returns-in-62 : goal.returns-in-62
 returns-in-62 c = base64-plus c.args.x c.in-62.is
 
 pub returns-in-0-to-25 : goal.returns-in-0-to-25
-returns-in-0-to-25 c = base64-upper c.args.x c.if-x-lt26.true
+returns-in-0-to-25 c = base64-upper c.args.x (omega arith)
 
 pub returns-in-26-to-51 : goal.returns-in-26-to-51
-returns-in-26-to-51 c = base64-lower c.args.x c.if-x-lt26.false c.if-x-lt52.true
+returns-in-26-to-51 c = base64-lower c.args.x (omega arith) (omega arith)
 
 pub returns-in-52-to-61 : goal.returns-in-52-to-61
-returns-in-52-to-61 c = base64_decimal c.args.x c.if-x-lt52.false c.if-x-lt62.true
+returns-in-52-to-61 c = base64_decimal c.args.x (omega arith) (omega arith)
 
 pub returns-in_default : goal.returns-in_default
-returns-in_default c = base64-slash c.args.x (omega (arith, (λ i. omega arith)))
+returns-in_default c = base64-slash c.args.x (omega arith)

@@ -10,9 +10,7 @@ pub loop-i-init : goal.loop-i-init
 loop-i-init c = (putting_start (base64 c.args.octets.now) c.args.text.now c.args.k, omega arith)
 
 pub loop-i-preserved : goal.loop-i-preserved
-loop-i-preserved c =
-    let entry = (goal.at.loop-i-preserved c).Start in
-    (base64-next c.args.octets.now c.loop-i.i c.loop-i.invariant.0 c.loop-i-test.true (sets_as c.loop-i.text (c.args.k + c.loop-i.n) c.group-four.ensures c.put_all.ensures) c.put_all.auto.s, omega arith)
+loop-i-preserved c = (base64-next c.args.octets.now c.loop-i.i c.loop-i.invariant.0 c.loop-i-test.true (sets_as c.loop-i.text (c.args.k + c.loop-i.n) c.group-four.ensures c.put_all.ensures) c.put_all.auto.s, omega arith)
 
 pub put_all-requires-then-octets-i-eq2 : goal.put_all-requires-then-octets-i-eq2
 put_all-requires-then-octets-i-eq2 c = simp length-set (omega arith)

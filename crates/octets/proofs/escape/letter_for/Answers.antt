@@ -1,3 +1,4 @@
+use native.Mathlib.Omega.{arith}
 use Rattle.json_text.specs.Bytes.{pick}
 use Rattle.octets.specs.Encode.{letter_for}
 use Rattle.octets.proofs.EscapeLaws.{letter-none}
@@ -32,4 +33,4 @@ unfolding letter_for pick
 returns-in-13 c = rw c.in-13.is
 
 pub returns-in_default : goal.returns-in_default
-returns-in_default c = let r = REST in letter-none c.args.b r.0.0.0.0.0.0.1 r.0.0.0.0.0.1 r.0.0.0.0.1 r.0.0.0.1 r.0.0.1 r.0.1 r.1
+returns-in_default c = letter-none c.args.b (λ i. omega arith) (λ i. omega arith) (λ i. omega arith) (λ i. omega arith) (λ i. omega arith) (λ i. omega arith) (λ i. omega arith)

@@ -9,9 +9,7 @@ pub loop-i-init : goal.loop-i-init
 loop-i-init c = putting_start (escapes c.args.octets.now) c.args.text.now c.args.k
 
 pub overflow_add-n : goal.overflow_add-n
-overflow_add-n c =
-    let entry = (goal.at.overflow_add-n c).Start in
-    omega (arith, escapes-room c.args.octets.now c.loop-i.invariant c.loop-i-test.true c.put_escaped-n.ensures.value, c.requires)
+overflow_add-n c = omega (arith, escapes-room c.args.octets.now c.loop-i.invariant c.loop-i-test.true c.put_escaped-n.ensures.value, c.requires)
 
 pub loop-i-preserved : goal.loop-i-preserved
 loop-i-preserved c = escapes-next c.args.octets.now c.loop-i.invariant c.loop-i-test.true c.put_escaped-n.ensures.value c.put_escaped-n.ensures.text_after c.put_escaped-n.auto.text

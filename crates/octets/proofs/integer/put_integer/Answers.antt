@@ -13,10 +13,10 @@ pub returns-then-n-lt9223372036854775808 : goal.returns-then-n-lt922337203685477
 returns-then-n-lt9223372036854775808 c =
     let a = c.args in
     let e = sym (int-plus c.joined-n.result c.if-n-lt9223372036854775808.true) ∙ ap int_text c.joined-n.ensures in
-    record { value = c.put_digits.ensures.value ∙ ap length e; text_after = c.put_digits.ensures.upper_bound.1 ∙ ap (λ (l : List ℕ). sets a.text.now a.k l) e }
+    record { value = c.put_digits.ensures.value ∙ ap length e; text_after = c.put_digits.ensures.text_after ∙ ap (λ (l : List ℕ). sets a.text.now a.k l) e }
 
 pub returns : goal.returns
 returns c =
     let a = c.args in
     let e = sym (int-minus c.joined-n.result c.if-n-lt9223372036854775808.false (omega arith)) ∙ ap int_text c.joined-n.ensures in
-    record { value = omega (arith, ap length e, c.put_digits-2.ensures.value); text_after = sets-next a.text.now a.k (0x2D ∷ []) (digits 20 (18446744073709551615 - c.joined-n.result + 1) []) c.put.ensures c.put_digits-2.ensures.upper_bound.1 ∙ ap (λ (l : List ℕ). sets a.text.now a.k l) e }
+    record { value = omega (arith, ap length e, c.put_digits-2.ensures.value); text_after = sets-next a.text.now a.k (0x2D ∷ []) (digits 20 (18446744073709551615 - c.joined-n.result + 1) []) c.put.ensures c.put_digits-2.ensures.text_after ∙ ap (λ (l : List ℕ). sets a.text.now a.k l) e }
