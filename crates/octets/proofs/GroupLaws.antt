@@ -3,12 +3,9 @@ use mathlib.Core.Path.{◌≡◌, refl, sym, ap, ◌∙◌}
 use mathlib.Core.List.{List, [], ◌∷◌, ◌++◌, append-nil, append_assoc}
 use mathlib.Core.Bool.{Bool, true, false}
 use mathlib.Core.Option.{Option, none, some}
-use mathlib.Core.Logic.{⊎_elim}
 use Prim.Native.Nat.{ℕ, ◌+◌, ◌*◌, ◌/◌, ◌%◌, ◌<◌, ◌≤◌}
 use native.Mathlib.Omega.{arith}
 use borrow.Author.Tests.{eq-eqb, ne_eqb, eqb-true, ltb-true, ltb-false}
-use types.Run.{OneOf}
-use denote.Enum.Declared.{tag_of}
 use lib.Dec.{eqb, ltb}
 use lib.ListN.{length, take, length-append}
 use lib.Seq.{sets, length-take-le}
@@ -25,7 +22,6 @@ use Rattle.octets.specs.declared.decode.Next.TheVariants.{End, Is, Other}
 use Rattle.octets.specs.declared.decode.Group.{Group}
 use Rattle.octets.specs.declared.decode.Group.TheVariants as group
 use Rattle.octets.specs.Decode.{found_of, Stored, Digit, NoDigit, Reads, followed, Grouped, First, Tail}
-use Rattle.octets.specs.contracts.decode.Next as next
 
 -- ---- no digit comes first
 
@@ -35,10 +31,10 @@ NoFirst value cs = (c : ℕ) (l : List ℕ) → cs ≡ c ∷ l → value c ≡ n
 pub record Without (value : ℕ → Option ℕ) (s : List ℕ) (i : ℕ) : Type 0 where
   pub first : NoFirst value (denoted s i)
 
--- the string's end or another character: `let Next::Is(..) = .. else` has the variants 0 and 2 left
-pub without : {value : ℕ → Option ℕ} {s : List ℕ} {i : ℕ} (r : Next) → OneOf (0 ∷ 2 ∷ []) (tag_of next.the_type r) → Reads value s i r → Without value s i
+-- the string's end or another character: what `let Next::Is(..) = .. else` has left
+pub without : {value : ℕ → Option ℕ} {s : List ℕ} {i : ℕ} (r : Next) → ((x q : ℕ) → r ≡ Is x q → ⊥) → Reads value s i r → Without value s i
 without End k h = record { first = λ c l e. absurd (let z : ◌≡◌ {A = ℕ} 0 1 = cc in omega arith) }
-without (Is x q) k h = absurd (⊎_elim (λ w. omega arith) (λ w. omega arith) k)
+without (Is x q) k h = absurd (k x q refl)
 without {value} Other k h = record { first = λ c l e. let w : h.char ≡ c = cc h.here in ap value (sym w) ∙ h.is }
 
 -- ---- hexadecimal
