@@ -10,7 +10,7 @@ use Rattle.jer.specs.Rows.{numbers, rows_of, pool_of}
 use Rattle.jer.specs.Read.{read_item, missing_element}
 use Rattle.tokens.specs.Strings.{denoted, string_end}
 use Rattle.places.specs.ByPlaces.{Got, ending, leaf_at}
-use Rattle.slices.specs.Lent.{Lent, before, after, table_in}
+use Rattle.slices.specs.Lent.{Shown, Lent, held, before, after, table_in}
 use Rattle.leaf.specs.declared.Step.{Step}
 use Rattle.leaf.specs.declared.Step.TheVariants.{Read, Refused}
 
@@ -45,23 +45,23 @@ refused_at cause place = Refused (AtByte cause place)
 -- ---- what the readers of leaves do
 
 -- a leaf of the token k is read at a place and stored from a slot of the rows and an offset of the pool on
-abbrev pub LeafRead : Token → Lent → Lent → Lent → ℕ → ℕ → ℕ → ℕ → Step → Lent → Lent → Type 0
+abbrev pub LeafRead : Token → Shown → Shown → Shown → ℕ → ℕ → ℕ → ℕ → Step → Lent → Lent → Type 0
 LeafRead k types names s row place slot offset z rows pool =
-    Stepped z (after rows) (before rows) (after pool) (before pool) slot offset (table_in types names) row (leaf_at (table_in types names) (before s) k row place)
+    Stepped z (after rows) (before rows) (after pool) (before pool) slot offset (table_in types names) row (leaf_at (table_in types names) (held s) k row place)
 
 -- one without bytes in the pool, whatever the names and the pool are
-abbrev pub RowRead : Token → Lent → Lent → ℕ → ℕ → ℕ → Step → Lent → Type 0
+abbrev pub RowRead : Token → Shown → Shown → ℕ → ℕ → ℕ → Step → Lent → Type 0
 RowRead k types s row place slot z rows =
-    (ns pool : List ℕ) (offset : ℕ) → Stepped z (after rows) (before rows) pool pool slot offset (table (before types) ns) row (leaf_at (table (before types) ns) (before s) k row place)
+    (ns pool : List ℕ) (offset : ℕ) → Stepped z (after rows) (before rows) pool pool slot offset (table (held types) ns) row (leaf_at (table (held types) ns) (held s) k row place)
 
 -- an item of an ENUMERATED
-abbrev pub ItemRead : Lent → Lent → Lent → ℕ → ℕ → ℕ → Step → Lent → Type 0
+abbrev pub ItemRead : Shown → Shown → Shown → ℕ → ℕ → ℕ → Step → Lent → Type 0
 ItemRead types names s row place slot z rows =
     (pool : List ℕ) (offset : ℕ) → Stepped z (after rows) (before rows) pool pool slot offset (table_in types names) row
-    (ending (string_end (before s) (place + 1)) (read_item (table_in types names) row place (position (table_in types names) row (denoted (before s) (place + 1)))))
+    (ending (string_end (held s) (place + 1)) (read_item (table_in types names) row place (position (table_in types names) row (denoted (held s) (place + 1)))))
 
 -- a missing element of an array at a place, after which next follows
-abbrev pub MissingRead : Lent → ℕ → ℕ → ℕ → ℕ → ℕ → Step → Lent → Type 0
+abbrev pub MissingRead : Shown → ℕ → ℕ → ℕ → ℕ → ℕ → Step → Lent → Type 0
 MissingRead types row member place slot next z rows =
-    (ns pool : List ℕ) (offset : ℕ) → Stepped z (after rows) (before rows) pool pool slot offset (table (before types) ns) (type_at (table (before types) ns) row member)
-    (ending next (missing_element (table (before types) ns) row place member))
+    (ns pool : List ℕ) (offset : ℕ) → Stepped z (after rows) (before rows) pool pool slot offset (table (held types) ns) (type_at (table (held types) ns) row member)
+    (ending next (missing_element (table (held types) ns) row place member))

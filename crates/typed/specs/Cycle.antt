@@ -12,7 +12,7 @@ use Rattle.places.specs.declared.Ended.{Ended}
 use Rattle.places.specs.declared.Ended.TheVariants.{Closed, Stopped}
 use Rattle.places.specs.declared.Scanned.{Scanned}
 use Rattle.places.specs.ByPlaces.{Got, Reader, shallow_at, bracket_at, read_at, token_at, list_at, array_at, object_at, choice_at, within, after_scan}
-use Rattle.slices.specs.Lent.{Lent, before, after, table_in}
+use Rattle.slices.specs.Lent.{Shown, Lent, held, before, after, table_in}
 use Rattle.leaf.specs.declared.Step.{Step}
 use Rattle.leaf.specs.declared.Step.TheVariants.{Read, Refused}
 use Rattle.leaf.specs.Step.{Stepped}
@@ -90,6 +90,6 @@ abbrev pub choice : Way
 choice d t s r p = choice_at (λ q u. inside d t s q u) (d - 1) t s r p
 
 -- it is read so at a place, and stored from a slot of the rows and an offset of the pool on
-abbrev pub ReadsAs : Way → Lent → Lent → Lent → ℕ → ℕ → ℕ → ℕ → ℕ → Step → Lent → Lent → Type 0
+abbrev pub ReadsAs : Way → Shown → Shown → Shown → ℕ → ℕ → ℕ → ℕ → ℕ → Step → Lent → Lent → Type 0
 ReadsAs x types names s row place slot offset depth z rows pool =
-    Reads z (after rows) (before rows) (after pool) (before pool) slot offset (limit place + depth) (table_in types names) row (x depth (table_in types names) (before s) row place)
+    Reads z (after rows) (before rows) (after pool) (before pool) slot offset (limit place + depth) (table_in types names) row (x depth (table_in types names) (held s) row place)

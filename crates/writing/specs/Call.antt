@@ -1,6 +1,6 @@
 -- The call, once the type table is good.
 use Rattle.std.specs.Prelude.{ℕ, ◌%◌, ◌≡◌, List, length}
-use Rattle.slices.specs.Lent.{Lent, before, after, table_in}
+use Rattle.slices.specs.Lent.{Shown, Lent, held, before, after, table_in}
 use Rattle.jer.specs.Table.{Table, table}
 use Rattle.jer.specs.Judge.{judge}
 use Rattle.jer.specs.Write.{write}
@@ -23,5 +23,5 @@ pub record Answers (x : Res (List ℕ)) (text₀ text₁ : List ℕ) (a : Writin
   pub text : text₁ ≡ text_after text₀ x
 
 -- the text of the value table, in the lent text
-abbrev pub WritesText : Lent → Lent → Lent → Lent → Lent → Writing → Type 0
-WritesText types names values pool text r = Answers (value_written (table_in types names) (before values) (before pool)) (before text) (after text) r
+abbrev pub WritesText : Shown → Shown → Shown → Shown → Lent → Writing → Type 0
+WritesText types names values pool text r = Answers (value_written (table_in types names) (held values) (held pool)) (before text) (after text) r

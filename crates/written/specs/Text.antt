@@ -2,7 +2,7 @@
 use Rattle.std.specs.Prelude.{ℕ, zero, suc, ◌+◌, ◌-◌, ◌%◌, ◌≤◌, ◌<◌, ◌≡◌, List, [], ◌∷◌, ◌++◌, Bool, true, false, eqb, length, take}
 use Rattle.std.proofs.Math.Option.{Option}
 use Rattle.std.proofs.lemmas.List.Edits.{sets}
-use Rattle.slices.specs.Lent.{Lent, before, after, table_in}
+use Rattle.slices.specs.Lent.{Shown, Lent, held, before, after, table_in}
 use Rattle.jer.specs.Table.{Table, table, member_row, UTF8String, kind_of, is_base64, is_unwrapped, count_of, type_at, name_at}
 use Rattle.types.specs.Rows.{row_of}
 use Rattle.types.specs.declared.row.Row.{Row}
@@ -104,9 +104,9 @@ lead true t r i n = nulls n (i - n) ++ comma i
 lead false t r i n = comma n ++ name_text (name_at t r i)
 
 -- it is put, for a member whose row is `member`
-abbrev pub Leads : Bool → List ℕ → Lent → Row → ℕ → ℕ → ℕ → ℕ → Lent → ℕ → Type 0
+abbrev pub Leads : Bool → List ℕ → Shown → Row → ℕ → ℕ → ℕ → ℕ → Lent → ℕ → Type 0
 Leads array types names member r i n k text e =
-    member ≡ row_of (table types (before names)) (member_row (table types (before names)) r i) → Puts (lead array (table types (before names)) r i n) k (before text) (after text) e
+    member ≡ row_of (table types (held names)) (member_row (table types (held names)) r i) → Puts (lead array (table types (held names)) r i n) k (before text) (after text) e
 
 -- ---- the end of a bracket
 
@@ -132,21 +132,21 @@ kept_after false i n = suc n
 -- ---- what the members of the cycle write
 
 -- the value from a slot of the value table and an offset of the pool on, of the type at a row, into the text from a place on
-abbrev pub WritesValue : ℕ → Lent → Lent → Lent → Lent → ℕ → ℕ → ℕ → ℕ → Lent → Taken → Type 0
+abbrev pub WritesValue : ℕ → Shown → Shown → Shown → Shown → ℕ → ℕ → ℕ → ℕ → Lent → Taken → Type 0
 WritesValue depth types names values pool row slot offset place text a =
-    Writes (value_text depth (table_in types names) (before pool) (rows_from (before values) slot) row slot offset) place (before text) (after text) a
+    Writes (value_text depth (table_in types names) (held pool) (rows_from (held values) slot) row slot offset) place (before text) (after text) a
 
 -- the same with no text to write into: it is measured
-abbrev pub Measures : ℕ → Lent → Lent → Lent → Lent → ℕ → ℕ → ℕ → Taken → Type 0
-Measures depth types names values pool row slot offset a = Writes (value_text depth (table_in types names) (before pool) (rows_from (before values) slot) row slot offset) 0 [] [] a
+abbrev pub Measures : ℕ → Shown → Shown → Shown → Shown → ℕ → ℕ → ℕ → Taken → Type 0
+Measures depth types names values pool row slot offset a = Writes (value_text depth (table_in types names) (held pool) (rows_from (held values) slot) row slot offset) 0 [] [] a
 
 -- a value with a bracket, whose row is w and whose parts are taken so
-abbrev pub WritesParts : (Table → ℕ → ValueRow → List ValueRow → ℕ → ℕ → Taker → Took Val) → ℕ → Lent → Lent → Lent → Lent → ℕ → ValueRow → ℕ → ℕ → ℕ → Lent → Taken → Type 0
+abbrev pub WritesParts : (Table → ℕ → ValueRow → List ValueRow → ℕ → ℕ → Taker → Took Val) → ℕ → Shown → Shown → Shown → Shown → ℕ → ValueRow → ℕ → ℕ → ℕ → Lent → Taken → Type 0
 WritesParts parts depth types names values pool row w slot offset place text a =
-    Writes (bracket_text (parts (table_in types names) row w (rows_from (before values) (suc slot)) slot offset) depth (table_in types names) (before pool) row) place (before text) (after text) a
+    Writes (bracket_text (parts (table_in types names) row w (rows_from (held values) (suc slot)) slot offset) depth (table_in types names) (held pool) row) place (before text) (after text) a
 
 -- a leaf, whose row is w
-abbrev pub WritesLeaf : Lent → Lent → Lent → ℕ → ValueRow → ℕ → ℕ → ℕ → Lent → Taken → Type 0
+abbrev pub WritesLeaf : Shown → Shown → Shown → ℕ → ValueRow → ℕ → ℕ → ℕ → Lent → Taken → Type 0
 WritesLeaf types names pool row w slot offset place text a =
     (i : Option Taker) (ws : List ValueRow)
-    → Writes (text_of (λ v. write v (table_in types names) row) (take_row i (table_in types names) (before pool) row w ws slot offset)) place (before text) (after text) a
+    → Writes (text_of (λ v. write v (table_in types names) row) (take_row i (table_in types names) (held pool) row w ws slot offset)) place (before text) (after text) a

@@ -1,0 +1,9 @@
+use mathlib.Core.Path.{refl}
+use Rattle.jer.specs.Answer.{values}
+use Rattle.lines.proofs.ShownLaws.{refusal-four, shown_as}
+use Rattle.lines.proofs.shown.put_bad_line.Goals as goal
+
+pub returns : goal.returns
+returns c =
+    let a = c.args in
+    shown_as a.text.now 0 (refusal-four (values 15 a.line 0) refl) c.put_four.ensures

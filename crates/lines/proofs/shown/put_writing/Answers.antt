@@ -1,0 +1,17 @@
+use mathlib.Core.Path.{◌∙◌}
+use native.Mathlib.Omega.{arith}
+use Rattle.lines.proofs.ShownLaws.{shown_as, part_line, part_length, writing_refused, writing_written}
+use Rattle.lines.proofs.shown.put_writing.Goals as goal
+
+pub put_octets-requires : goal.put_octets-requires
+put_octets-requires c = omega (arith, part_length c.in-Written.n c.args.text.now c.part.ensures)
+
+pub returns-in-Refused : goal.returns-in-Refused
+returns-in-Refused c =
+    let a = c.args in
+    shown_as a.out.now 0 (writing_refused a.text.now c.in-Refused.is) c.put_refusal.ensures
+
+pub returns-in-Written : goal.returns-in-Written
+returns-in-Written c =
+    let a = c.args in
+    shown_as a.out.now 0 (part_line c.in-Written.n a.text.now c.part.ensures ∙ writing_written a.text.now c.in-Written.is) c.put_octets.ensures

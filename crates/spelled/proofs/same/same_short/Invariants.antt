@@ -1,0 +1,10 @@
+use Prim.Native.Nat.{◌-◌}
+use lib.ListN.{length}
+use Rattle.spelled.specs.Bytes.{SameBytes}
+use Rattle.spelled.proofs.same.same_short.Given as goal
+
+abbrev pub invariant-loop-i : goal.invariant-loop-i
+invariant-loop-i l = SameBytes l.s l.p l.x l.i
+
+abbrev pub decreases-loop-i : goal.decreases-loop-i
+decreases-loop-i l = length l.x - l.i
