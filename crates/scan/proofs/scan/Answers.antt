@@ -28,7 +28,10 @@ onward c =
     c.after_part-after.ensures ∙ ap (after_part a.s.now) (c.skip_value.ensures ∙ ap (past_value a.depth a.s.now) c.value_place-value.ensures.0)
 
 less : (c : After-after_part-after) → left c.args.s.now c.after_part-after.result < left c.args.s.now c.loop-next.next
-less c = let a = c.args in falls a.depth a.s.now _ c.after_part-after.result (turn (goal.at. c).In-Part).within c.in-Part.is (onward c)
+less c =
+    let a = c.args in
+    let w : Turn a.depth (table a.types.now a.names.now) a.s.now a.row (whole a.types.now a.names.now a.s.now a.row a.p a.depth) c.in-Part.q c.loop-next.met c.loop-next.places = loop_turn _ _ _ _ c.loop-next.invariant c.in-Part.is in
+    falls a.depth a.s.now _ c.after_part-after.result w.within c.in-Part.is (onward c)
 
 -- at a name that no member has
 unknown : (c : In-Nothing)
