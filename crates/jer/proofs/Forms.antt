@@ -5,7 +5,6 @@ use mathlib.Core.Bool.{Bool, true, false, false≢true}
 use lib.Dec.{eqb}
 use borrow.Author.Tests.{eqb-true}
 use Rattle.json_text.specs.Bytes.{pick}
-use Rattle.jer.specs.declared.Layout.{Layout}
 use Rattle.jer.specs.Table.{Table, CHOICE, carries, type_kind, is_some, tag_of, form_of, kind_of, is_type}
 
 -- how a row uses its fields

@@ -1,5 +1,5 @@
 -- The typed reading refuses at a byte, and for nothing else: never by a row, and never for want of room.
-use Prim.Native.Nat.{ℕ, zero, suc, ◌-◌, ◌^◌}
+use Prim.Native.Nat.{ℕ, zero, suc, ◌^◌}
 use mathlib.Core.List.{List, [], ◌∷◌}
 use mathlib.Core.Bool.{Bool, true, false, ◌&&◌, not}
 use mathlib.Core.Option.{Option, none, some}

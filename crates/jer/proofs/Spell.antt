@@ -6,7 +6,7 @@ use mathlib.Core.Bool.{true}
 use native.Mathlib.Omega.{arith}
 use Rattle.json_text.specs.Tree.{Json}
 use Rattle.json_text.specs.Grammar.{Text}
-use Rattle.jer.specs.Table.{Table, tag_of, kind_of, is_type, marks_of, element_of, count_of, root_of, optional, type_at, name_at}
+use Rattle.jer.specs.Table.{Table, tag_of, is_type, marks_of, element_of, count_of, root_of, optional, type_at, name_at}
 use Rattle.jer.specs.Value.{Val, v_seq, v_list, v_choice, Vals, Parts, absent}
 use Rattle.jer.specs.Answer.{ok}
 use Rattle.jer.specs.Read.{read}

@@ -1,9 +1,9 @@
 -- The value of a hexadecimal digit, by the ends of its ranges.
-use Prim.Native.Nat.{ℕ, ◌-◌, ◌%◌, ◌≤◌, ◌<◌}
-use mathlib.Core.Path.{◌≡◌, refl, sym, ap, ◌∙◌}
+use Prim.Native.Nat.{ℕ, ◌-◌, ◌<◌}
+use mathlib.Core.Path.{◌≡◌, refl, sym, ◌∙◌}
 use mathlib.Core.Option.{Option, none, some}
 use native.Mathlib.Omega.{arith}
-use Rattle.json_text.specs.Bytes.{In, pick}
+use Rattle.json_text.specs.Bytes.{In}
 use Rattle.json_text.specs.Grammar.{Hex, digit, upper, lower}
 use Rattle.json_text.proofs.Feed.{pick-none, pick-row}
 use Rattle.json_text.proofs.SoundRows.{pick-within, ◌⨾◌}

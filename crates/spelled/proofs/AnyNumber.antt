@@ -6,6 +6,7 @@ use mathlib.Core.Bool.{true, false}
 use native.Mathlib.Omega.{arith}
 use lib.ListN.{length, get_or}
 use Rattle.json_text.specs.Tree.{Json, jint, jreal}
+use Rattle.json_text.specs.Bytes.{In}
 use Rattle.json_text.specs.Grammar as grammar
 use Rattle.json_text.specs.Grammar.{Digits, last_digit, more_digits, Onward, stop, onward, nought, from, Power, Value}
 use Rattle.tokens.specs.Places.{byte_at}
@@ -25,10 +26,13 @@ pub digits_more : (s : List ℕ) (p q m : ℕ) → Stretch (SomeOnward m) s p q 
 digits_more s p q m k l g h =
     stretch-more (SomeOnward m) (SomeOnward m) s p q (get_or s q 0) (λ xs o. record { number = o.number * 10 + (get_or s q 0 - 0x30); onward = onward_snoc o.onward (g, h) }) k l refl (omega arith)
 
+first_digit : {b : ℕ} (bs : List ℕ) → In 0x30 0x39 b → (0 < length bs → Digits bs) → Digits (b ∷ bs)
+first_digit [] h f = last_digit h
+first_digit (c ∷ cs) h f = more_digits h (f (omega arith))
+
 onward-digits : {m n : ℕ} {bs : List ℕ} → Onward m n bs → 0 < length bs → Digits bs
 onward-digits stop l = absurd (omega arith)
-onward-digits (onward h stop) l = last_digit h
-onward-digits (onward h (onward g o)) l = more_digits h (onward-digits (onward g o) (omega arith))
+onward-digits (onward {bs = bs} h o) l = first_digit bs h (onward-digits o)
 
 pub digits-some : (s : List ℕ) (p q : ℕ) → Stretch (SomeOnward 0) s p q → p ≤ q → (q ≡ p → ⊥) → Passed Digits s p q
 digits-some s p q k l n =

@@ -16,33 +16,19 @@ byte-b-requires c =
     let w = c.until-end.ensures in
     omega (arith, l.invariant.1.0, c.loop-q-test.true, w.0)
 
-pub returns-then-b-lt48-clause-stretch : goal.returns-then-b-lt48-clause-stretch
-returns-then-b-lt48-clause-stretch c =
+pub returns-then-b-lt48 : goal.returns-then-b-lt48
+returns-then-b-lt48 c =
     let p = c.args.p in
     let l = c.loop-q in
     let w = c.until-end.ensures in
-    ((l.invariant.0, (l.invariant.1, few-small l.m p l.q (omega (arith, l.invariant.3, w.1)) l.invariant.2))).0
+    record { stretch = l.invariant.0; within = (l.invariant.1, few-small l.m p l.q (omega (arith, l.invariant.3, w.1)) l.invariant.2) }
 
-pub returns-then-b-lt48-clause-within : goal.returns-then-b-lt48-clause-within
-returns-then-b-lt48-clause-within c =
+pub returns-then-d-gt9 : goal.returns-then-d-gt9
+returns-then-d-gt9 c =
     let p = c.args.p in
     let l = c.loop-q in
     let w = c.until-end.ensures in
-    ((l.invariant.0, (l.invariant.1, few-small l.m p l.q (omega (arith, l.invariant.3, w.1)) l.invariant.2))).1
-
-pub returns-then-d-gt9-clause-stretch : goal.returns-then-d-gt9-clause-stretch
-returns-then-d-gt9-clause-stretch c =
-    let p = c.args.p in
-    let l = c.loop-q in
-    let w = c.until-end.ensures in
-    ((l.invariant.0, (l.invariant.1, few-small l.m p l.q (omega (arith, l.invariant.3, w.1)) l.invariant.2))).0
-
-pub returns-then-d-gt9-clause-within : goal.returns-then-d-gt9-clause-within
-returns-then-d-gt9-clause-within c =
-    let p = c.args.p in
-    let l = c.loop-q in
-    let w = c.until-end.ensures in
-    ((l.invariant.0, (l.invariant.1, few-small l.m p l.q (omega (arith, l.invariant.3, w.1)) l.invariant.2))).1
+    record { stretch = l.invariant.0; within = (l.invariant.1, few-small l.m p l.q (omega (arith, l.invariant.3, w.1)) l.invariant.2) }
 
 pub overflow_mul-m : goal.overflow_mul-m
 overflow_mul-m c =
@@ -71,16 +57,9 @@ loop-q-preserved c =
       omega (arith, c.loop-q-test.true),
     )
 
-pub returns-clause-stretch : goal.returns-clause-stretch
-returns-clause-stretch c =
+pub returns : goal.returns
+returns c =
     let p = c.args.p in
     let l = c.loop-q in
     let w = c.until-end.ensures in
-    ((l.invariant.0, (l.invariant.1, few-small l.m p l.q (omega (arith, l.invariant.3, w.1)) l.invariant.2))).0
-
-pub returns-clause-within : goal.returns-clause-within
-returns-clause-within c =
-    let p = c.args.p in
-    let l = c.loop-q in
-    let w = c.until-end.ensures in
-    ((l.invariant.0, (l.invariant.1, few-small l.m p l.q (omega (arith, l.invariant.3, w.1)) l.invariant.2))).1
+    record { stretch = l.invariant.0; within = (l.invariant.1, few-small l.m p l.q (omega (arith, l.invariant.3, w.1)) l.invariant.2) }

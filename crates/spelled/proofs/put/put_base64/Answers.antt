@@ -23,7 +23,7 @@ loop-i-preserved c =
     let a = c.args in
     let s = a.s.now in
     let l = c.loop-i in
-    (base64-more s a.p a.n c.requires.0 l.pool a.pool.now a.o l.i l.k _ (omega (arith, c.loop-i-test.true)) c.put_group.ensures l.invariant.0, c.put_group.auto.1.1.0 ∙ l.invariant.1, omega (arith, l.invariant.2), omega (arith, c.loop-i-test.true))
+    (base64-more s a.p a.n c.requires.0 l.pool a.pool.now a.o l.i l.k _ (omega (arith, c.loop-i-test.true)) c.put_group.ensures l.invariant.0, c.put_group.auto.pool ∙ l.invariant.1, omega (arith, l.invariant.2), omega (arith, c.loop-i-test.true))
 
 pub returns : goal.returns
 returns c =

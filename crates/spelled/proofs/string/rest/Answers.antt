@@ -17,9 +17,6 @@ returns-then-b-eq34 c =
     let l = c.loop-i in
     λ h. (l.invariant, sym (byte_inside s l.i c.loop-i-test.true) ∙ c.if-b-eq34.true)
 
-pub returns-then-b-lt32 : goal.returns-then-b-lt32
-returns-then-b-lt32 c = λ h. absurd (omega (arith, c.none.ensures))
-
 pub escape-e-requires : goal.escape-e-requires
 escape-e-requires c =
     let s = c.args.s.now in
@@ -49,7 +46,7 @@ loop-i-preserved-then-b-lt128 c =
     let s = c.args.s.now in
     let p = c.args.p in
     let l = c.loop-i in
-    chars-self s p l.i l.n l.escaped l.invariant c.loop-i-test.true (omega (arith, c.if-b-lt32.false), omega (arith, c.if-b-lt128.true), c.if-b-eq34.false, c.if-b-eq92.false)
+    chars-self s p l.i l.n l.escaped l.invariant c.loop-i-test.true (omega arith, omega (arith, c.if-b-lt128.true), c.if-b-eq34.false, c.if-b-eq92.false)
 
 pub returns-then-k-eq0 : goal.returns-then-k-eq0
 returns-then-k-eq0 c = λ h. absurd (omega (arith, c.none-then-k-eq0.ensures))
