@@ -8,7 +8,7 @@ use lib.Dec.{eqb}
 use Rattle.json_text.specs.Tree.{Json, Members, mcons}
 use Rattle.jer.specs.Table.{Table, is_type, extensible, type_at, position}
 use Rattle.jer.specs.Value.{v_choice}
-use Rattle.jer.specs.Answer.{bind, at}
+use Rattle.jer.specs.Answer.{bind}
 use Rattle.jer.specs.Read.{null?, read, entries, read_chosen, read_choice}
 use Rattle.jer.specs.Sane.{Sane}
 use Rattle.tokens.specs.Places.{byte_at, past_space}

@@ -13,7 +13,7 @@ use Rattle.json_text.specs.Tree.{Json, Members, mcons}
 use Rattle.jer.specs.declared.Refusal.{Refusal}
 use Rattle.jer.specs.Table.{Table, is_type, extensible, count_of, type_at, name_at, may_miss, position, is_some}
 use Rattle.jer.specs.Value.{v_seq}
-use Rattle.jer.specs.Answer.{Res, ok, no, bind, at}
+use Rattle.jer.specs.Answer.{Res, ok, no, bind}
 use Rattle.jer.specs.Read.{Entry, null?, read, entries, lookup, names_good, null_absent, with_absent, with_present, read_member, read_members, read_object}
 use Rattle.jer.specs.Sane.{Sane}
 use Rattle.tokens.specs.Strings.{denoted}

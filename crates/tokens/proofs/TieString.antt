@@ -12,7 +12,7 @@ use lib.ListN.{length, drop, length-append}
 use Rattle.json_text.specs.Bytes.{In, pick, past}
 use Rattle.json_text.specs.Utf8.{encode, Wide, two, three_e0, three_e1, three_eD, three_eE, four_f0, four_f1, four_f4}
 use Rattle.json_text.specs.Grammar.{Hex, digit, upper, lower, Four, four, Escape, quote, backslash, slash, backspace, form_feed, line_feed, carriage_return, tabulation, paired, Char, plain, wide, escape, unit, pair, Chars, no_char, char, Quoted, quoted}
-use Rattle.json_text.proofs.Feed.{pick-row, in-true, in-false}
+use Rattle.json_text.proofs.Feed.{in-true, in-false}
 use Rattle.tokens.specs.Places.{byte_at}
 use Rattle.tokens.specs.declared.strings.Piece.TheVariants as piece
 use Rattle.slices.proofs.DigitLaws.{digit-hex}

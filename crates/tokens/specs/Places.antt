@@ -1,6 +1,6 @@
 -- What stands at a place of a text: total, so that no place is out of range. Code by places cites these definitions;
 -- `proofs/` shows that on a JSON text they give what the grammar says.
-use Rattle.std.specs.Prelude.{ℕ, suc, ◌+◌, ◌-◌, List, [], ◌∷◌, Bool, true, false, ◌||◌, eqb, get_or, drop}
+use Rattle.std.specs.Prelude.{ℕ, suc, ◌+◌, List, [], ◌∷◌, Bool, true, false, ◌||◌, eqb, get_or, drop}
 
 -- the byte at a place, 256 past the end
 abbrev pub byte_at : List ℕ → ℕ → ℕ

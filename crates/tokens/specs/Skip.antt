@@ -1,6 +1,6 @@
 -- Past a value, by places.
 -- 01, Reading: "A member that the table does not know is skipped, value and all its nesting, if the sequence is extensible."
-use Rattle.std.specs.Prelude.{ℕ, zero, suc, ◌+◌, ◌-◌, List, Bool, true, false, ◌||◌, not, eqb, length}
+use Rattle.std.specs.Prelude.{ℕ, zero, suc, ◌+◌, List, Bool, true, false, ◌||◌, not, eqb, length}
 use Rattle.tokens.specs.Places.{byte_at, is_space, run_from}
 use Rattle.tokens.specs.Strings.{string_end}
 

@@ -1,5 +1,5 @@
 -- The characters that a string denotes, from the place after its opening quotation mark.
-use Rattle.std.specs.Prelude.{ℕ, zero, suc, ◌+◌, ◌-◌, ◌*◌, ◌%◌, List, [], ◌∷◌, ◌++◌, Bool, true, false, ◌&&◌, ◌||◌, eqb, leb, length}
+use Rattle.std.specs.Prelude.{ℕ, zero, suc, ◌+◌, ◌*◌, ◌%◌, List, [], ◌∷◌, ◌++◌, Bool, true, false, ◌&&◌, ◌||◌, eqb, leb, length}
 use Rattle.json_text.specs.Bytes.{on, pick}
 use Rattle.json_text.specs.Utf8.{encode}
 use Rattle.json_text.specs.Grammar.{paired}

@@ -1,5 +1,5 @@
 -- Equal bytes, and UTF-8, one byte at a time. Assumes nothing.
-use mathlib.Core.Path.{◌≡◌, refl, sym, ap, ◌∙◌}
+use mathlib.Core.Path.{◌≡◌, refl, sym, ap}
 use mathlib.Core.List.{List, [], ◌∷◌}
 use mathlib.Core.Bool.{Bool, true, false, ◌&&◌}
 use Prim.Native.Nat.{ℕ, zero, suc, ◌+◌, ◌-◌, ◌<◌, ◌≤◌}
@@ -8,7 +8,7 @@ use native.Mathlib.Omega.{arith}
 use borrow.Author.Tests.{eq-eqb, ne_eqb, le-leb, lt-leb, leb-true}
 use lib.Dec.{eqb, leb}
 use lib.ListN.{length, get_or, take, drop, length-drop, drop_of_length-le}
-use lib.Seq.{length-take-le, get_or-take, get_or-drop, take_all, take-nil, drop-cons, drop-length}
+use lib.Seq.{length-take-le, get_or-take, get_or-drop, drop-cons}
 use Rattle.json_text.specs.Bytes.{pick}
 use Rattle.json_text.specs.Utf8.{Due, start, due, never, wide_rows, due_next, due_step, due_end, utf8_from}
 use Rattle.jer.specs.Table.{same_bytes}

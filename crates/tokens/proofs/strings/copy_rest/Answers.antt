@@ -1,4 +1,3 @@
-use Prim.Native.Nat.{◌-◌}
 use mathlib.Core.Path.{sym, ◌∙◌}
 use native.Mathlib.Omega.{arith}
 use Rattle.tokens.proofs.StringLaws.{piece_past, piece_quote, piece_escape, piece_bare, escaped-inside, encodes_length, counting-close, copying_start, copying_close, copying_bare, copying_escaped}

@@ -1,4 +1,3 @@
-use Prim.Native.Nat.{◌-◌}
 use mathlib.Core.Path.{refl, sym, ◌∙◌}
 use Rattle.tokens.proofs.StringLaws.{end-past, end-quote, end-pair, end-other}
 use Rattle.tokens.proofs.strings.string_end.Goals as goal

@@ -1,4 +1,3 @@
-use Prim.Native.Nat.{◌-◌}
 use native.Mathlib.Omega.{arith}
 use Rattle.types.proofs.SureLaws.{ascii-next}
 use Rattle.types.proofs.bytes.all_ascii.Goals as goal

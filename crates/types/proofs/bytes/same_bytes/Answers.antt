@@ -1,5 +1,4 @@
 use mathlib.Core.Path.{refl, ◌∙◌}
-use Prim.Native.Nat.{◌-◌}
 use native.Mathlib.Omega.{arith}
 use Rattle.types.proofs.ByteLaws.{same_lengths, same_next, same-fails, same_ends}
 use Rattle.types.proofs.bytes.same_bytes.Goals as goal

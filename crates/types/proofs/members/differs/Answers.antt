@@ -1,6 +1,5 @@
 use mathlib.Core.Path.{ap}
 use mathlib.Core.Bool.{not}
-use Prim.Native.Nat.{◌-◌}
 use native.Mathlib.Omega.{arith}
 use Rattle.jer.specs.Table.{table}
 use Rattle.types.proofs.LoopLaws.{every-next, every-fails, every-ends}

@@ -1,7 +1,5 @@
-use Prim.Native.Nat.{◌-◌}
 use native.Mathlib.Omega.{arith}
 use Rattle.jer.specs.Table.{table}
-use Rattle.types.specs.Check.{good_in}
 use Rattle.types.proofs.LoopLaws.{first_next, first_found, first_ends}
 use Rattle.types.proofs.CheckLaws.{bad_in, bad-told, pass-starts, pass-found, pass-ends}
 use Rattle.types.proofs.passes.passed.Goals as goal

@@ -1,9 +1,7 @@
 use mathlib.Core.Path.{ap}
 use mathlib.Core.Bool.{not}
-use Prim.Native.Nat.{◌-◌}
 use native.Mathlib.Omega.{arith}
 use Rattle.jer.specs.Table.{table}
-use Rattle.jer.specs.Valid.{good_alone}
 use Rattle.types.proofs.LoopLaws.{first_next, first_found, first_ends}
 use Rattle.types.proofs.SureMembers.{count-is}
 use Rattle.types.proofs.CheckLaws.{bad_alone, alone-starts, pass-found, pass-ends}

@@ -1,4 +1,3 @@
-use Prim.Native.Nat.{◌-◌}
 use Rattle.types.proofs.SureMembers.{apart_next}
 use native.Mathlib.Omega.{arith}
 use Rattle.jer.specs.Table.{table}

@@ -1,5 +1,4 @@
 use mathlib.Core.Path.{refl, ap}
-use Prim.Native.Nat.{◌-◌}
 use native.Mathlib.Omega.{arith}
 use Rattle.jer.specs.Table.{table}
 use Rattle.types.specs.Rows.{found_of}
