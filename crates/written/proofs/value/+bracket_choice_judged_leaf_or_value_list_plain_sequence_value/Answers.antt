@@ -1,9 +1,9 @@
-use Prim.Native.Nat.{◌+◌, ◌-◌}
+use Prim.Native.Nat.{◌+◌}
 use mathlib.Core.Path.{refl, sym, ap, ◌∙◌}
 use native.Mathlib.Omega.{arith}
 use lib.ListN.{drop}
 use borrow.Author.Tests.{not-true, not-false}
-use Rattle.jer.specs.Table.{count_of, table}
+use Rattle.jer.specs.Table.{table}
 use Rattle.types.specs.declared.row.Row.{Row}
 use Rattle.written.proofs.RowLaws.{member_is, member-type}
 use Rattle.types.proofs.RowLaws.{kind-of}
