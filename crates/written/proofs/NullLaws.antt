@@ -7,7 +7,7 @@ use Prim.Native.Nat.{ℕ, zero, suc, ◌+◌, ◌-◌, ◌/◌, ◌%◌, ◌^◌
 use native.Mathlib.Omega.{arith}
 use lib.Dec.{eqb, ltb, leb}
 use lib.ListN.{length, take, drop}
-use borrow.Author.Tests.{eqb-true, ltb-true, eq-eqb, ne_eqb}
+use borrow.Author.Tests.{ltb-true, eq-eqb, ne_eqb}
 use Rattle.json_text.specs.Utf8.{utf8}
 use Rattle.json_text.proofs.SoundRows.{pick-within, ◌⨾◌}
 use Rattle.jer.specs.Table.{Table, UTF8String, NULL, CHOICE, tag_of, kind_of, is_base64, is_array, is_unwrapped, element_of, count_of, type_at, same_bytes}

@@ -1,5 +1,5 @@
 -- Where a value begins: at its own row, or, of an UNWRAPPED choice, at its alternative's.
-use Rattle.std.specs.Prelude.{ℕ, suc, ◌+◌, ◌-◌, ◌≡◌, List, ◌∷◌, Bool, true, false, ◌&&◌, eqb, ltb, drop}
+use Rattle.std.specs.Prelude.{ℕ, suc, ◌+◌, ◌-◌, ◌≡◌, List, ◌∷◌, true, false, ◌&&◌, eqb, ltb, drop}
 use Rattle.jer.specs.Table.{Table, CHOICE, kind_of, is_unwrapped, count_of, type_at}
 use Rattle.jer.specs.Rows.{ValueRow}
 use Rattle.jer.specs.Judge.{wrong}

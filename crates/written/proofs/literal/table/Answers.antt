@@ -5,6 +5,7 @@ use Rattle.jer.specs.Write.{escaped}
 use Rattle.written.proofs.LiteralLaws.{literal_of, table-literal}
 use Rattle.written.proofs.literal.table.Goals as goal
 
+-- One computed test: each entry of the table.
 pub returns : goal.returns
 unfolding literal_of escaped pick same_bytes hex_digit
 returns c = table-literal

@@ -2,7 +2,6 @@ use mathlib.Core.Path.{refl}
 use native.Mathlib.Omega.{arith}
 use Rattle.written.proofs.PutLaws.{puts_none, puts-next, puts-all, puts-stored}
 use Rattle.octets.proofs.AmountLaws.{amount-within}
-use Prim.Native.Nat.{◌-◌}
 use borrow.Author.Rules.{rules}
 use Rattle.written.proofs.put.put_bytes.Goals as goal
 

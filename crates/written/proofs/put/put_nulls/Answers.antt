@@ -1,7 +1,6 @@
 use mathlib.Core.Path.{refl}
 use native.Mathlib.Omega.{arith}
 use Rattle.written.proofs.PutLaws.{puts-nulls-none, puts-null, puts-nulls}
-use Prim.Native.Nat.{◌-◌}
 use borrow.Author.Rules.{rules}
 use Rattle.written.proofs.put.put_nulls.Goals as goal
 

@@ -49,7 +49,7 @@ bounds-text-k-2 c =
     let room = c.has_quoted.ensures (not-false _ c.if-not-has_quoted.false-raw) in
     let set = length-set a.text.now a.k 0x22 in
     let put = c.put_literal-n.ensures in
-    omega (arith, room, put.few, c.put_literal-n.auto.1.1.0, set)
+    omega (arith, room, put.few, c.put_literal-n.auto.text, set)
 
 pub returns : goal.returns
 returns c =

@@ -23,24 +23,24 @@ put_base64-requires c =
 
 pub returns-in-Escaped-clause-value : goal.returns-in-Escaped-clause-value
 unfolding spelled
-returns-in-Escaped-clause-value c = (rw c.in-Escaped.is (c.put_escapes.ensures.value, c.put_escapes.ensures.text_after)).0
+returns-in-Escaped-clause-value c = rw c.in-Escaped.is c.put_escapes.ensures.value
 
 pub returns-in-Escaped-clause-text_after : goal.returns-in-Escaped-clause-text_after
 unfolding spelled
-returns-in-Escaped-clause-text_after c = (rw c.in-Escaped.is (c.put_escapes.ensures.value, c.put_escapes.ensures.text_after)).1
+returns-in-Escaped-clause-text_after c = rw c.in-Escaped.is c.put_escapes.ensures.text_after
 
 pub returns-in-Hexadecimal-clause-value : goal.returns-in-Hexadecimal-clause-value
 unfolding spelled
-returns-in-Hexadecimal-clause-value c = (rw c.in-Hexadecimal.is (c.put_hex.ensures.value, c.put_hex.ensures.text_after)).0
+returns-in-Hexadecimal-clause-value c = rw c.in-Hexadecimal.is c.put_hex.ensures.value
 
 pub returns-in-Hexadecimal-clause-text_after : goal.returns-in-Hexadecimal-clause-text_after
 unfolding spelled
-returns-in-Hexadecimal-clause-text_after c = (rw c.in-Hexadecimal.is (c.put_hex.ensures.value, c.put_hex.ensures.text_after)).1
+returns-in-Hexadecimal-clause-text_after c = rw c.in-Hexadecimal.is c.put_hex.ensures.text_after
 
 pub returns-in-Base64-clause-value : goal.returns-in-Base64-clause-value
 unfolding spelled
-returns-in-Base64-clause-value c = (rw c.in-Base64.is (c.put_base64.ensures.value, c.put_base64.ensures.text_after)).0
+returns-in-Base64-clause-value c = rw c.in-Base64.is c.put_base64.ensures.value
 
 pub returns-in-Base64-clause-text_after : goal.returns-in-Base64-clause-text_after
 unfolding spelled
-returns-in-Base64-clause-text_after c = (rw c.in-Base64.is (c.put_base64.ensures.value, c.put_base64.ensures.text_after)).1
+returns-in-Base64-clause-text_after c = rw c.in-Base64.is c.put_base64.ensures.text_after

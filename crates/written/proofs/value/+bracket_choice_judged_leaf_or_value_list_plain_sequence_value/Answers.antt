@@ -1,9 +1,9 @@
-use Prim.Native.Nat.{◌+◌, ◌-◌}
+use Prim.Native.Nat.{◌+◌}
 use mathlib.Core.Path.{refl, sym, ap, ◌∙◌}
 use native.Mathlib.Omega.{arith}
 use lib.ListN.{drop}
 use borrow.Author.Tests.{not-true, not-false}
-use Rattle.jer.specs.Table.{count_of, table}
+use Rattle.jer.specs.Table.{table}
 use Rattle.types.specs.declared.row.Row.{Row}
 use Rattle.written.proofs.RowLaws.{member_is, member-type}
 use Rattle.types.proofs.RowLaws.{kind-of}
@@ -311,7 +311,7 @@ sequence-loop-i-preserved t c =
     let inside = rw inv.1 at c.loop-i-test.true in
     let null = null_is t (drop c.loop-i.next rows) c.is_array-array.result type (c.null_in.ensures a.names.now) c.if-null_in.false in
     let v = value-got rows type c.loop-i.next c.leaf_or_value-t.ensures c.in-Took-t.is in
-    (inv.0, inv.1, inv.2, c.leaf_or_value-t.auto.1.1.1.1.1.0 ∙ c.put_lead-s.auto.1.1.0 ∙ inv.3, rw c.kept_after-kept.ensures (members_part inv.4 inside absent c.requires.0.wrapped v null (c.put_lead-s.ensures a.types.now a.row member)))
+    (inv.0, inv.1, inv.2, c.leaf_or_value-t.auto.text ∙ c.put_lead-s.auto.text ∙ inv.3, rw c.kept_after-kept.ensures (members_part inv.4 inside absent c.requires.0.wrapped v null (c.put_lead-s.ensures a.types.now a.row member)))
 
 pub sequence-returns : goal.sequence-returns
 sequence-returns t c =
@@ -333,7 +333,7 @@ value-plain-requires t c =
     let a = c.args in
     let t = table a.types.now a.names.now in
     let rows = rows_in a.values.now in
-    (omega (arith, c.requires.0), (c.requires, start_plain a.depth t a.pool.now rows a.row a.slot a.offset (c.start_of-start.ensures a.names.now) c.requires.wrapped (not-false _ c.if-not-start.false)))
+    (omega arith, (c.requires, start_plain a.depth t a.pool.now rows a.row a.slot a.offset (c.start_of-start.ensures a.names.now) c.requires.wrapped (not-false _ c.if-not-start.false)))
 
 pub value-returns-in-Wrong : goal.value-returns-in-Wrong
 value-returns-in-Wrong t c =
