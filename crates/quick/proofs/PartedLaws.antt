@@ -35,7 +35,7 @@ none-some none h = refl
 none-some (some e) h = absurd (let y : ◌≡◌ {A = ℕ} 0 1 = cc in omega arith)
 
 -- a member that was not met is absent
-agrees-free : {t : Table} {r i : ℕ} {es : List Entry} {ps : Parts} (m n : ℕ) → Agrees t r es i ps → i + n ≡ m → m < count_of t r → lookup (name_at t r m) es ≡ none → Free ps n
+agrees-free : {t : Table} {r : ℕ} {es : List Entry} {i : ℕ} {ps : Parts} (m n : ℕ) → Agrees t r es i ps → i + n ≡ m → m < count_of t r → lookup (name_at t r m) es ≡ none → Free ps n
 agrees-free m n (no_part e) h l u = absurd (omega arith)
 agrees-free m zero (unmet b a k) h l u = free
 agrees-free m (suc n) (unmet b a k) h l u = past_absent (agrees-free m n k (omega arith) l u)
@@ -172,7 +172,7 @@ module _ {t : Table} {s z : List ℕ} {r j end met has n m : ℕ} {es : List Ent
       zero-add q = omega arith
 
 -- there are no more present than members
-present-few : {t : Table} {r i : ℕ} {es : List Entry} {ps : Parts} → Agrees t r es i ps → i + count_present ps ≤ count_of t r
+present-few : {t : Table} {r : ℕ} {es : List Entry} {i : ℕ} {ps : Parts} → Agrees t r es i ps → i + count_present ps ≤ count_of t r
 unfolding count_present
 present-few (no_part e) = omega arith
 present-few (unmet l a k) = omega (arith, present-few k)

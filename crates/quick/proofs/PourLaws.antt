@@ -250,7 +250,7 @@ module _ {t : Table} {s z rows₀ rows pool₀ pool : List ℕ} {r : ℕ} {ps : 
     pub stands : Stands s z t (type_at t r k) value w last
     pub links : b + count_of t r ≤ w
     pub inside : last ≤ end
-    pub rows_fit_lem : q + length (rows_of value t (type_at t r k) 0) ≤ i + length (part_rows ps t r 0 o₀)
+    pub rows_fit : q + length (rows_of value t (type_at t r k) 0) ≤ i + length (part_rows ps t r 0 o₀)
     pub bytes_fit : o + length (pool_of value) ≤ o₀ + length (part_pool ps)
 
   filling-ahead : (w : ℕ) → k < count_of t r → get_or z (b + k) 0 ≡ w → (w ≡ 0 → ⊥) → Ahead w
@@ -260,7 +260,7 @@ module _ {t : Table} {s z rows₀ rows pool₀ pool : List ℕ} {r : ℕ} {ps : 
       go (next_absent e m) x y = absurd (nz (sym h ∙ e))
       go (next_value {w = w'} {l = m} {v = u} {ps = us} e a d st p) x y =
           let eq : w' ≡ w = sym e ∙ h in
-          record { value = u; last = m; stands = rw eq at st; links = omega arith; inside = d; rows_fit_lem = omega (arith, rows-any u t (type_at t r k) o, present-rows u us t r k o); bytes_fit = omega (arith, present-pool u us) }
+          record { value = u; last = m; stands = rw eq at st; links = omega arith; inside = d; rows_fit = omega (arith, rows-any u t (type_at t r k) o, present-rows u us t r k o); bytes_fit = omega (arith, present-pool u us) }
 
   filling-some : k < count_of t r → q + 1 ≤ i + length (part_rows ps t r 0 o₀)
   filling-some l = go (next_part f.linked l) f.tally
