@@ -3,10 +3,10 @@
 #![tactic(auto)]
 
 use jer::{Reading, Writing};
-use libc::STDOUT_FILENO;
 use lines::shown::{put_judged, put_reading, put_writing};
 use lines::taken::first_numbers;
 use slices::part;
+use std::io::{self, Write};
 use stdin::{Input, Line, numbers, octets, single};
 
 // Kinds of parts; any other is of inputs to `jerwrite`.
@@ -21,37 +21,44 @@ const WRITE: u32 = 3;
 const JERREAD: u32 = 4;
 
 // A type table and its names: judged.
-fn table_case(buf: &mut [u8], input: Input) -> Line {
+fn table_case(rt: HostRuntime, buf: &mut [u8], input: Input) -> io::Result<Line> {
     let mut rows = [0u32; 33000];
-    let a = numbers(buf, input, &mut rows);
+    let a = numbers(&mut rt.stdin(), buf, input, &mut rows)?;
     let mut names = [0u8; 65600];
     let at = a.input;
-    let b = octets(buf, at, &mut names);
+    let b = octets(&mut rt.stdin(), buf, at, &mut names)?;
     let judged = types::check(first_numbers(&rows, a.count), part(&names, 0, b.count));
     let mut out = [0u8; 21];
     let k = put_judged(&mut out, judged);
-    io::write_all(STDOUT_FILENO, part(&out, 0, k));
-    b
+    rt.stdout().write_all(part(&out, 0, k))?;
+    Ok(b)
 }
 
 // A text: judged.
-fn text_case(buf: &mut [u8], input: Input) -> Line {
+fn text_case(rt: HostRuntime, buf: &mut [u8], input: Input) -> io::Result<Line> {
     let mut text = [0u8; 65600];
-    let a = octets(buf, input, &mut text);
+    let a = octets(&mut rt.stdin(), buf, input, &mut text)?;
     let mut out = [0u8; 21];
     let k = put_judged(&mut out, text::check(part(&text, 0, a.count)));
-    io::write_all(STDOUT_FILENO, part(&out, 0, k));
-    a
+    rt.stdout().write_all(part(&out, 0, k))?;
+    Ok(a)
 }
 
 // Reads into the first n numbers and m bytes of what is lent, and prints the answer.
-fn read_answer(types: &[u32], names: &[u8], text: &[u8], n: usize, m: usize) {
+fn read_answer(
+    rt: HostRuntime,
+    types: &[u32],
+    names: &[u8],
+    text: &[u8],
+    n: usize,
+    m: usize,
+) -> io::Result<()> {
     let mut rows = [0u32; 16384];
     let mut pool = [0u8; 16384];
     let r = read_in(types, names, text, &mut rows, &mut pool, n, m);
     let mut out = [0u8; 168000];
     let k = put_reading(&mut out, r, &rows, &pool);
-    io::write_all(STDOUT_FILENO, part(&out, 0, k));
+    rt.stdout().write_all(part(&out, 0, k))
 }
 
 fn read_in(
@@ -73,24 +80,37 @@ fn read_in(
 }
 
 // The text of a case, the room for its rows and pool, and its answer.
-fn read_text(buf: &mut [u8], input: Input, types: &[u32], names: &[u8]) -> Line {
+fn read_text(
+    rt: HostRuntime,
+    buf: &mut [u8],
+    input: Input,
+    types: &[u32],
+    names: &[u8],
+) -> io::Result<Line> {
     let mut text = [0u8; 65600];
-    let c = octets(buf, input, &mut text);
+    let c = octets(&mut rt.stdin(), buf, input, &mut text)?;
     let at = c.input;
-    let n = single(buf, at);
+    let n = single(&mut rt.stdin(), buf, at)?;
     let next = n.input;
-    let m = single(buf, next);
-    read_answer(types, names, part(&text, 0, c.count), n.count, m.count);
-    m
+    let m = single(&mut rt.stdin(), buf, next)?;
+    read_answer(rt, types, names, part(&text, 0, c.count), n.count, m.count)?;
+    Ok(m)
 }
 
 // Writes into the first n bytes of what is lent, and prints the answer.
-fn write_answer(types: &[u32], names: &[u8], values: &[u32], pool: &[u8], n: usize) {
+fn write_answer(
+    rt: HostRuntime,
+    types: &[u32],
+    names: &[u8],
+    values: &[u32],
+    pool: &[u8],
+    n: usize,
+) -> io::Result<()> {
     let mut text = [0u8; 65536];
     let w = write_in(types, names, values, pool, &mut text, n);
     let mut out = [0u8; 131200];
     let k = put_writing(&mut out, w, &text);
-    io::write_all(STDOUT_FILENO, part(&out, 0, k));
+    rt.stdout().write_all(part(&out, 0, k))
 }
 
 fn write_in(
@@ -108,96 +128,110 @@ fn write_in(
 }
 
 // The value table of a case, its pool, the room for its text, and its answer.
-fn write_values(buf: &mut [u8], input: Input, types: &[u32], names: &[u8]) -> Line {
+fn write_values(
+    rt: HostRuntime,
+    buf: &mut [u8],
+    input: Input,
+    types: &[u32],
+    names: &[u8],
+) -> io::Result<Line> {
     let mut values = [0u32; 4096];
-    let c = numbers(buf, input, &mut values);
+    let c = numbers(&mut rt.stdin(), buf, input, &mut values)?;
     let mut pool = [0u8; 16384];
     let at = c.input;
-    let d = octets(buf, at, &mut pool);
+    let d = octets(&mut rt.stdin(), buf, at, &mut pool)?;
     let next = d.input;
-    let n = single(buf, next);
+    let n = single(&mut rt.stdin(), buf, next)?;
     write_answer(
+        rt,
         types,
         names,
         first_numbers(&values, c.count),
         part(&pool, 0, d.count),
         n.count,
-    );
-    n
+    )?;
+    Ok(n)
 }
 
 // A type table and its names, and then a text to be read or a value table to be written.
-fn call_case(buf: &mut [u8], input: Input, kind: u32) -> Line {
+fn call_case(rt: HostRuntime, buf: &mut [u8], input: Input, kind: u32) -> io::Result<Line> {
     let mut types = [0u32; 33000];
-    let a = numbers(buf, input, &mut types);
+    let a = numbers(&mut rt.stdin(), buf, input, &mut types)?;
     let mut names = [0u8; 65600];
     let at = a.input;
-    let b = octets(buf, at, &mut names);
+    let b = octets(&mut rt.stdin(), buf, at, &mut names)?;
     let next = b.input;
     let rows = first_numbers(&types, a.count);
     let bytes = part(&names, 0, b.count);
     if kind == READ {
-        return read_text(buf, next, rows, bytes);
+        return read_text(rt, buf, next, rows, bytes);
     }
-    write_values(buf, next, rows, bytes)
+    write_values(rt, buf, next, rows, bytes)
 }
 
 // The whole standard input of `jerread`: what it prints.
-fn jerread_case(buf: &mut [u8], input: Input) -> Line {
+fn jerread_case(rt: HostRuntime, buf: &mut [u8], input: Input) -> io::Result<Line> {
     let mut given = [0u8; 65600];
-    let a = octets(buf, input, &mut given);
+    let a = octets(&mut rt.stdin(), buf, input, &mut given)?;
     let mut out = [0u8; 168000];
     let k = shell::reads::answer(part(&given, 0, a.count), &mut out);
-    io::write_all(STDOUT_FILENO, part(&out, 0, k));
-    a
+    rt.stdout().write_all(part(&out, 0, k))?;
+    Ok(a)
 }
 
 // The same of `jerwrite`.
-fn jerwrite_case(buf: &mut [u8], input: Input) -> Line {
+fn jerwrite_case(rt: HostRuntime, buf: &mut [u8], input: Input) -> io::Result<Line> {
     let mut given = [0u8; 65600];
-    let a = octets(buf, input, &mut given);
+    let a = octets(&mut rt.stdin(), buf, input, &mut given)?;
     let mut out = [0u8; 131200];
     let k = shell::writes::answer(part(&given, 0, a.count), &mut out);
-    io::write_all(STDOUT_FILENO, part(&out, 0, k));
-    a
+    rt.stdout().write_all(part(&out, 0, k))?;
+    Ok(a)
 }
 
 // Answers the next case of a part.
-fn one(buf: &mut [u8], input: Input, kind: u32) -> Line {
+fn one(rt: HostRuntime, buf: &mut [u8], input: Input, kind: u32) -> io::Result<Line> {
     match kind {
-        TABLE => table_case(buf, input),
-        TEXT => text_case(buf, input),
-        READ | WRITE => call_case(buf, input, kind),
-        JERREAD => jerread_case(buf, input),
-        _ => jerwrite_case(buf, input),
+        TABLE => table_case(rt, buf, input),
+        TEXT => text_case(rt, buf, input),
+        READ | WRITE => call_case(rt, buf, input, kind),
+        JERREAD => jerread_case(rt, buf, input),
+        _ => jerwrite_case(rt, buf, input),
     }
 }
 
 // Answers the cases of a part.
-fn cases(buf: &mut [u8], input: Input, kind: u32, count: u32) -> Input {
+fn cases(
+    rt: HostRuntime,
+    buf: &mut [u8],
+    input: Input,
+    kind: u32,
+    count: u32,
+) -> io::Result<Input> {
     let mut at = input;
     let mut left = count;
     while 0 < left {
-        let line = one(buf, at, kind);
+        let line = one(rt, buf, at, kind)?;
         at = line.input;
         left -= 1;
     }
-    at
+    Ok(at)
 }
 
 // Nothing says that the input ends: the loop counts its turns down from a number that no run uses up.
-fn main() {
-    let mut buf = io::large_buffer();
+fn main(rt: HostRuntime) -> io::Result<()> {
+    let mut buf = [0u8; 65536];
     let mut input = Input { at: 0, end: 0 };
     let mut turns: u32 = 4294967295;
     while 0 < turns {
         let mut head = [0u32; 3];
-        let line = numbers(&mut buf, input, &mut head);
+        let line = numbers(&mut rt.stdin(), &mut buf, input, &mut head)?;
         if line.over {
-            return;
+            return Ok(());
         }
         let at = line.input;
-        input = cases(&mut buf, at, head[0], head[1]);
+        input = cases(rt, &mut buf, at, head[0], head[1])?;
         turns -= 1;
     }
+    Ok(())
 }

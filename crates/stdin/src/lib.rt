@@ -1,13 +1,14 @@
-// Standard input for the programs: what stands there collected, or its lines of hexadecimal read as they come.
+// A reader's bytes for the programs, which pass standard input: what stands there collected, or its lines of hexadecimal read as they come.
 // Of what comes from the operating system a contract can give bounds alone: that it is what stands there is tested and not proved.
+// A read that fails ends the call with its error; what was lent then has what was stored before.
 // What is made of it and printed, the crates `lines` and `shell`, is proved.
 #![tactic(auto)]
 
-ghost use Rattle.std.specs.Prelude.{◌≤◌, ◌≡◌, length};
+ghost use Rattle.std.specs.Prelude.{◌≤◌, ◌≡◌, length, IfOk};
 
-use libc::STDIN_FILENO;
 use lines::taken::DIGITS;
 use slices::byte_at;
+use std::io::{self, Read};
 
 // Where in its buffer the input stands.
 #[derive(Clone, Copy)]
@@ -31,9 +32,9 @@ pub struct Line {
     pub input: Input,
 }
 
-// The next byte of standard input, which is read anew where the buffer is used up.
-fn next_byte(buf: &mut [u8], input: Input) -> Next
-    ensures { result.byte ≤ 256 }
+// The next byte of the input, which is read anew where the buffer is used up.
+fn next_byte<R: Read>(from: &mut R, buf: &mut [u8], input: Input) -> io::Result<Next>
+    ensures { IfOk result (λ next. next.byte ≤ 256) }
 {
     let at = input.at;
     let end = input.end;
@@ -42,58 +43,58 @@ fn next_byte(buf: &mut [u8], input: Input) -> Next
             at: at + 1,
             end: end,
         };
-        return Next {
+        return Ok(Next {
             byte: byte_at(buf, at),
             input: i,
-        };
+        });
     }
-    let n = io::count(libc::read(STDIN_FILENO, buf), buf);
+    let n = from.read(buf)?;
     if n == 0 {
         let i = Input { at: 0, end: 0 };
-        return Next {
+        return Ok(Next {
             byte: 256,
             input: i,
-        };
+        });
     }
     let i = Input { at: 1, end: n };
-    Next {
+    Ok(Next {
         byte: byte_at(buf, 0),
         input: i,
-    }
+    })
 }
 
-// What is read of standard input: up to the end of this many lines, or to a line that is too long.
-pub fn collect(lines: u32, out: &mut [u8]) -> usize
-    ensures { result ≤ length out.old }
+// What is read of the input: up to the end of this many lines, or to a line that is too long.
+pub fn collect<R: Read>(from: &mut R, lines: u32, out: &mut [u8]) -> io::Result<usize>
+    ensures { IfOk result (λ n. n ≤ length out.old) }
 {
-    let mut buf = io::buffer();
+    let mut buf = [0u8; 4096];
     let mut input = Input { at: 0, end: 0 };
     let mut left = lines;
     let mut digits = 0;
     let mut k = 0;
     while k < out.len() {
-        let a = next_byte(&mut buf, input);
+        let a = next_byte(from, &mut buf, input)?;
         let b = a.byte;
         if b == 256 {
-            return k;
+            return Ok(k);
         }
         out[k] = b as u8;
         k += 1;
         input = a.input;
         if b == 0x0A {
             if left <= 1 {
-                return k;
+                return Ok(k);
             }
             left -= 1;
             digits = 0;
         } else {
             if DIGITS <= digits {
-                return k;
+                return Ok(k);
             }
             digits += 1;
         }
     }
-    k
+    Ok(k)
 }
 
 // A hexadecimal digit's value, 0 for any other byte.
@@ -109,75 +110,85 @@ fn ends(b: u32) -> bool {
 }
 
 // The octets of a line.
-pub fn octets(buf: &mut [u8], input: Input, out: &mut [u8]) -> Line
-    ensures { result.count ≤ length out.old }
+pub fn octets<R: Read>(
+    from: &mut R,
+    buf: &mut [u8],
+    input: Input,
+    out: &mut [u8],
+) -> io::Result<Line>
+    ensures { IfOk result (λ line. line.count ≤ length out.old) }
 {
     let mut i = input;
     let mut k = 0;
     while k < out.len() {
-        let a = next_byte(buf, i);
+        let a = next_byte(from, buf, i)?;
         let high = a.byte;
         let rest = a.input;
         if ends(high) {
-            return Line {
+            return Ok(Line {
                 count: k,
                 over: k == 0 && high == 256,
                 input: rest,
-            };
+            });
         }
-        let b = next_byte(buf, rest);
+        let b = next_byte(from, buf, rest)?;
         out[k] = (digit(high) * 16 + digit(b.byte)) as u8;
         i = b.input;
         k += 1;
     }
-    Line {
+    Ok(Line {
         count: k,
         over: false,
         input: i,
-    }
+    })
 }
 
 // One number of eight digits whose first is given.
-fn number(buf: &mut [u8], input: Input, high: u32) -> Next {
+fn number<R: Read>(from: &mut R, buf: &mut [u8], input: Input, high: u32) -> io::Result<Next> {
     let mut i = input;
     let mut x = digit(high);
     let mut k: u32 = 1;
     while k < 8 {
-        let a = next_byte(buf, i);
+        let a = next_byte(from, buf, i)?;
         x = x % 268435456 * 16 + digit(a.byte);
         i = a.input;
         k += 1;
     }
-    Next { byte: x, input: i }
+    Ok(Next { byte: x, input: i })
 }
 
 // The numbers of a line.
-pub fn numbers(buf: &mut [u8], input: Input, out: &mut [u32]) -> Line
-    ensures { result.count ≤ length out.old }
+pub fn numbers<R: Read>(
+    from: &mut R,
+    buf: &mut [u8],
+    input: Input,
+    out: &mut [u32],
+) -> io::Result<Line>
+    ensures { IfOk result (λ line. line.count ≤ length out.old) }
 {
     let mut i = input;
     let mut k = 0;
     while k < out.len() {
-        let a = next_byte(buf, i);
+        let a = next_byte(from, buf, i)?;
         let high = a.byte;
         let rest = a.input;
         if ends(high) {
-            return Line {
+            return Ok(Line {
                 count: k,
                 over: k == 0 && high == 256,
                 input: rest,
-            };
+            });
         }
-        let b = number(buf, rest, high);
+        let b = number(from, buf, rest, high)?;
         out[k] = b.byte;
         i = b.input;
         k += 1;
     }
-    Line {
+    Ok(Line {
         count: k,
         over: false,
         input: i,
-    }
+    })
 }
 
 fn wide(x: u32) -> usize
@@ -187,16 +198,16 @@ fn wide(x: u32) -> usize
 }
 
 // The first number of the next line, which stands in the place of a count.
-pub fn single(buf: &mut [u8], input: Input) -> Line
-    ensures { result.count ≤ 4294967295 }
+pub fn single<R: Read>(from: &mut R, buf: &mut [u8], input: Input) -> io::Result<Line>
+    ensures { IfOk result (λ line. line.count ≤ 4294967295) }
 {
     let mut one = [0u32; 2];
-    let line = numbers(buf, input, &mut one);
+    let line = numbers(from, buf, input, &mut one)?;
     let rest = line.input;
     let n = one[0];
-    Line {
+    Ok(Line {
         count: wide(n),
         over: line.over,
         input: rest,
-    }
+    })
 }
