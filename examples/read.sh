@@ -1,7 +1,7 @@
 #!/usr/bin/env bash
 # examples/read.sh TEXT [TABLE]: reads a text with the proved program jerread and prints its rows and pool, or the refusal.
-# TABLE has a type table and its names as two lines of hexadecimal; without it, the spring booking's. `rt check jerread`
-# makes the program. It is x86-64 code, which runs with the toolchain's C library and, on Arm, its emulator, as `rt` runs it.
+# TABLE has a type table and its names as two lines of hexadecimal; without it, the spring booking's. `rt run` in
+# crates/jerread makes the program. It is x86-64 code; on another machine Debian's emulator runs it (qemu-user, libc6-amd64-cross).
 set -euo pipefail
 root=$(cd "$(dirname "$0")/.." && pwd)
 [ $# -ge 1 ] || { sed -n '2,4s/^# //p' "$0" >&2; exit 2; }
@@ -22,9 +22,8 @@ mapfile -t -n 2 lines <"$table"
 digits=$(od -An -v -tx1 -N 8193 <"$text" | tr -d ' \n')
 [ ${#digits} -le 16384 ] || fail "$text has over 8,192 bytes, all that jerread takes; the library's calls take 65,536: see examples/c and examples/rust"
 
-[ -f "$root/target/bin/jerread" ] || (cd "$root" && rt check jerread >&2)
-tools=$(dirname "$(dirname "$(rt doc)")")/on/$(uname -m)/toolchain
-emulator=$tools/bin/qemu-x86_64
-[ -x "$emulator" ] || emulator=
-printf '%s\n' "${lines[@]}" "$digits" |
-    $emulator "$tools/lib/ld-linux-x86-64.so.2" --library-path "$tools/lib" "$root/target/bin/jerread"
+program=$root/crates/jerread/out/jerread
+[ -f "$program" ] || (cd "$root/crates/jerread" && rt run <stdin >&2)
+runner=
+[ "$(uname -m)" = x86_64 ] || runner="qemu-x86_64 -L /usr/x86_64-linux-gnu"
+printf '%s\n' "${lines[@]}" "$digits" | $runner "$program"

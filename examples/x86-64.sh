@@ -1,5 +1,5 @@
 # Sourced by examples/run.sh and bench/run.sh in the repository's root: how x86-64 programs are built and run here.
-# The archive of `rt staticlib` links only into x86-64 programs; on Arm they are cross-built with Debian's packages,
+# The archive of the crate capi_c links only into x86-64 programs; on Arm they are cross-built with Debian's packages,
 # linked statically, and run through its emulator.
 # Sets CC, CXX, LINK, RUST_TARGET, RUN and LIB. In the environment, CAPI_FOLDER names a folder with a libcapi.a that was
 # made before, and TRY_MACHINE=aarch64 tries Arm's way on x86-64.
@@ -41,4 +41,9 @@ if [ "$machine" = aarch64 ] && [ -f $of_package/libm.a ]; then
 fi
 
 LIB=${CAPI_FOLDER:-target/staticlib}
-[ -n "${CAPI_FOLDER:-}" ] || rt staticlib capi
+if [ -z "${CAPI_FOLDER:-}" ]; then
+    (cd crates/capi_c && rt lib)
+    mkdir -p $LIB
+    cp crates/capi_c/out/libcapi_c.a $LIB/libcapi.a
+    echo "$LIB/libcapi.a has the functions of capi_c that are marked #[unsafe(no_mangle)]"
+fi

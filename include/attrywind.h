@@ -1,5 +1,6 @@
 /* Attrywind: ASN.1 values in JSON (JER, X.697) as docs/document-01.md lays them down.
-   The functions of target/staticlib/libcapi.a, for x86-64 Linux; `rt staticlib capi` makes it.
+   The functions of target/staticlib/libcapi.a, for x86-64 Linux. `rt lib` in crates/capi_c makes it as out/libcapi_c.a;
+   examples/run.sh does that and copies it.
 
    Each returns 0, or the number of document 01's refusal.
 

@@ -1,4 +1,4 @@
-// The calls for programs in C and other languages, as include/attrywind.h declares them: numbers and lent slices alone.
+// The calls for programs in C and other languages, as include/attrywind.h declares them: numbers and lent slices alone. The crate capi_c exports them.
 // Contracts cite specs/Answers.antt: each is a call of the library (`jer`'s CallClauses.antt) whose answer is told in numbers.
 #![tactic(auto)]
 
@@ -31,8 +31,7 @@ fn refused(amounts: &mut [u64], e: Refusal) -> u32
 }
 
 // Judges a type table with its names.
-#[unsafe(no_mangle)]
-pub extern "C" fn attrywind_check_table(types: &[u32], names: &[u8], amounts: &mut [u64]) -> u32
+pub fn attrywind_check_table(types: &[u32], names: &[u8], amounts: &mut [u64]) -> u32
     ensures { TableFromC (table types.now names.now) amounts.old result amounts.new }
 {
     match types::check(types, names) {
@@ -45,8 +44,7 @@ pub extern "C" fn attrywind_check_table(types: &[u32], names: &[u8], amounts: &m
 }
 
 // Reads the text by the type table into the lent rows and pool.
-#[unsafe(no_mangle)]
-pub extern "C" fn attrywind_read(
+pub fn attrywind_read(
     types: &[u32],
     names: &[u8],
     text: &[u8],
@@ -66,8 +64,7 @@ pub extern "C" fn attrywind_read(
 }
 
 // Reads each of the texts that stand one after another and end at `ends`, by one type table.
-#[unsafe(no_mangle)]
-pub extern "C" fn attrywind_read_each(
+pub fn attrywind_read_each(
     types: &[u32],
     names: &[u8],
     texts: &[u8],
@@ -89,8 +86,7 @@ pub extern "C" fn attrywind_read_each(
 }
 
 // Writes the one text of the value table into the lent text.
-#[unsafe(no_mangle)]
-pub extern "C" fn attrywind_write(
+pub fn attrywind_write(
     types: &[u32],
     names: &[u8],
     values: &[u32],
