@@ -42,7 +42,7 @@ fi
 
 LIB=${CAPI_FOLDER:-target/staticlib}
 if [ -z "${CAPI_FOLDER:-}" ]; then
-    (cd crates/capi_c && rt lib)
+    (cd crates/capi_c && rt lib >&2)
     mkdir -p $LIB
     cp crates/capi_c/out/libcapi_c.a $LIB/libcapi.a
     echo "$LIB/libcapi.a has the functions of capi_c that are marked #[unsafe(no_mangle)]"
