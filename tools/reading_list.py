@@ -19,16 +19,17 @@ PAGE = ROOT / "docs/PROMISES.md"
 README = ROOT / "README.md"
 SUM = r"\*\*[\d,]+ lines\*\*"
 NAME = r"[^\s(){}\[\],;.:⌜⌝]+"
+OWN = "|".join(sorted(c.name for c in (ROOT / "crates").iterdir()))
 
 
 def imports(text):
-    """Each imported name, or a module's own name, with its module."""
+    """Each imported name, or a module's own name, with its module; an operator by its middle, which is how it is written."""
     found = {}
-    for line in re.findall(r"^(?:ghost )?use (.+?);?$", text, re.M):
+    for line in re.findall(r"^(?:pub )?(?:ghost )?use ([^\s{;]+(?:\{[^}]*\}| as [^\s;]+)?)", text, re.M):
         module, _, group = line.partition(".{")
         if group:
-            for name in group.rstrip("}").split(", "):
-                found[name.split(" as ")[-1]] = module
+            for name in filter(None, re.split(r",\s*|\s+$", group.rstrip("}").strip())):
+                found[name.split(" as ")[-1].strip("◌")] = module
         else:
             module, _, alias = line.partition(" as ")
             found[alias or module.rsplit(".", 1)[-1]] = module
@@ -37,14 +38,14 @@ def imports(text):
 
 def file_of(module):
     """The file of a module of this repository, or None."""
-    own = re.match(r"Rattle·(\w+)(?:·specs\.specs|\.specs)\.(.+)", module)
+    own = re.match(rf"Rattle\.({OWN})\.specs\.(.+)", module)
     if not own:
         return None
     crate, path = own.groups()
     if not path.startswith("declared."):
         return f"crates/{crate}/specs/{path.split('.')[0]}.antt"
     parts = path.split(".")[1:]
-    inner = parts[0] if len(parts) > 1 and parts[1] != "the-variants" else "lib"
+    inner = parts[0] if len(parts) > 1 and parts[1] != "TheVariants" else "lib"
     return f"crates/{crate}/src/{inner}.rt"
 
 
@@ -52,8 +53,9 @@ def statement(path, name):
     """What a theorem states, or a function's contract, with the parameters of the modules around it."""
     text = (ROOT / path).read_text()
     if path.endswith(".rt"):
-        after = text.split(f"fn {name}(", 1)[1]
-        return " ".join(re.findall(r"^\s*(?:requires|ensures) .*$", after.split("\n}", 1)[0], re.M))
+        head = re.split(r"^\s*\{$", text.split(f"fn {name}(", 1)[1], maxsplit=1, flags=re.M)[0]
+        clauses = re.search(r"^\s*(?:requires|ensures) .*", head, re.M | re.S)
+        return clauses.group() if clauses else ""
     found = re.search(rf"^(\s*)pub {re.escape(name)} : (.*?)(?=^\1(?:unfolding |{re.escape(name)} ))", text, re.M | re.S)
     around = re.findall(r"^module _ (.*?) where$", text[:found.start()], re.M | re.S)
     return found.group(2) + (around[-1] if found.group(1) and around else "")
@@ -76,7 +78,7 @@ def followed(modules, equal):
             files.add(path)
             if path.endswith(".antt"):
                 left += imports((ROOT / path).read_text()).values()
-    return files, {m for m in tools if not m.startswith("Rattle·")}
+    return files, {m for m in tools if not re.match(rf"Rattle\.({OWN})\.", m)}
 
 
 def lines(path):

@@ -4,7 +4,7 @@
     python3 tools/run-definitions.py [--every N]
 
 Each case becomes an equation between two closed terms that antt computes. Of each kind of crates/cases every
-N-th case is taken (default 1: all), but for the long ones at the size limits. The crates json and jer are
+N-th case is taken (default 1: all), but for the long ones at the size limits. The crates json_text and jer are
 copied without their laws to a temporary folder, and the equations are checked beside them.
 """
 import argparse
@@ -16,53 +16,53 @@ import sys
 import tempfile
 
 ROOT = pathlib.Path(__file__).resolve().parent.parent
-CRATES = ["json", "jer"]
+CRATES = ["json_text", "jer"]
 PER_FILE = 40
 LONGEST_LINE = 32768
 # file, lines of input a case, the function of Runs and what each line is
 KINDS = {
-    "table": (2, "runTable", ["numbers", "bytes"]),
-    "text": (1, "runText", ["bytes"]),
-    "read": (5, "runRead", ["numbers", "bytes", "bytes", "number", "number"]),
-    "write": (5, "runWrite", ["numbers", "bytes", "numbers", "bytes", "number"]),
+    "table": (2, "run_table", ["numbers", "bytes"]),
+    "text": (1, "run_text", ["bytes"]),
+    "read": (5, "run_read", ["numbers", "bytes", "bytes", "number", "number"]),
+    "write": (5, "run_write", ["numbers", "bytes", "numbers", "bytes", "number"]),
     "jerread": (1, "jerread", ["bytes"]),
     "jerwrite": (1, "jerwrite", ["bytes"]),
 }
 RUNS = """
-unfoldable pub lineOf : Values → List ℕ
-lineOf v = 1 ∷ v .number ∷ v .first ∷ v .second ∷ []
+unfoldable pub line_of : Values → List ℕ
+line_of v = 1 ∷ v.number ∷ v.first ∷ v.second ∷ []
 
-unfoldable pub ofJudged : Judged → List ℕ
-ofJudged judged.Good = 0 ∷ []
-ofJudged (judged.Refused e) = lineOf (valuesOf e)
+unfoldable pub of_judged : Judged → List ℕ
+of_judged judged.Good = 0 ∷ []
+of_judged (judged.Refused e) = line_of (values_of e)
 
-unfoldable pub ofReading : Table → Res Val → Reading → List ℕ
-ofReading t (no f) x = lineOf (valuesOf f)
-ofReading t (ok v) (reading.Refused e) = lineOf (valuesOf e)
-ofReading t (ok v) (reading.Read n m) = 0 ∷ (rowNumbers t v ++ poolOf v)
+unfoldable pub of_reading : Table → Res Val → Reading → List ℕ
+of_reading t (no f) x = line_of (values_of f)
+of_reading t (ok v) (reading.Refused e) = line_of (values_of e)
+of_reading t (ok v) (reading.Read n m) = 0 ∷ (row_numbers t v ++ pool_of v)
 
-unfoldable pub ofWriting : Res (List ℕ) → Writing → List ℕ
-ofWriting (no f) x = lineOf (valuesOf f)
-ofWriting (ok s) (writing.Refused e) = lineOf (valuesOf e)
-ofWriting (ok s) (writing.Written n) = 0 ∷ s
+unfoldable pub of_writing : Res (List ℕ) → Writing → List ℕ
+of_writing (no f) x = line_of (values_of f)
+of_writing (ok s) (writing.Refused e) = line_of (values_of e)
+of_writing (ok s) (writing.Written n) = 0 ∷ s
 
-unfoldable pub runTable : List ℕ → List ℕ → List ℕ
-runTable rows names = ofJudged (tableJudged (record { rows = rows; names = names }))
+unfoldable pub run_table : List ℕ → List ℕ → List ℕ
+run_table rows names = of_judged (table_judged (record { rows = rows; names = names }))
 
-unfoldable pub runText : List ℕ → List ℕ
-runText s = ofJudged (textJudged s)
+unfoldable pub run_text : List ℕ → List ℕ
+run_text s = of_judged (text_judged s)
 
-unfoldable pub readIn : Table → List ℕ → ℕ → ℕ → List ℕ
-readIn t s n m = ofReading t (readText t s) (readAnswer t n m (readText t s))
+unfoldable pub read_in : Table → List ℕ → ℕ → ℕ → List ℕ
+read_in t s n m = of_reading t (read_text t s) (read_answer t n m (read_text t s))
 
-unfoldable pub runRead : List ℕ → List ℕ → List ℕ → ℕ → ℕ → List ℕ
-runRead rows names s n m = readIn (record { rows = rows; names = names }) s n m
+unfoldable pub run_read : List ℕ → List ℕ → List ℕ → ℕ → ℕ → List ℕ
+run_read rows names s n m = read_in (record { rows = rows; names = names }) s n m
 
-unfoldable pub runWrite : List ℕ → List ℕ → List ℕ → List ℕ → ℕ → List ℕ
-runWrite rows names ns pool room =
-    ofWriting (writeText (record { rows = rows; names = names }) ns pool) (writeAnswer room (writeText (record { rows = rows; names = names }) ns pool))
+unfoldable pub run_write : List ℕ → List ℕ → List ℕ → List ℕ → ℕ → List ℕ
+run_write rows names ns pool room =
+    of_writing (write_text (record { rows = rows; names = names }) ns pool) (write_answer room (write_text (record { rows = rows; names = names }) ns pool))
 """
-RUNS_NAMES = ["lineOf", "ofJudged", "ofReading", "ofWriting", "runTable", "runText", "readIn", "runRead", "runWrite"]
+RUNS_NAMES = ["line_of", "of_judged", "of_reading", "of_writing", "run_table", "run_text", "read_in", "run_read", "run_write"]
 
 
 def definitions(path):
@@ -85,9 +85,7 @@ def header():
         for path in sorted((ROOT / "crates" / crate / "specs").glob("*.antt")):
             names = [] if path.stem in ("Lib", "Samples") else definitions(path)
             if names:
-                where = f"Rattle·{crate}" if crate != "jer" else "Rattle·jer·specs.specs"
-                where += f".specs.{path.stem}" if crate != "jer" else f".{path.stem}"
-                lines.append(f"use {where}.{{{', '.join(names)}}}")
+                lines.append(f"use Rattle.{crate}.specs.{path.stem}.{{{', '.join(names)}}}")
                 unfold += names
     return lines, unfold
 
@@ -162,23 +160,19 @@ def cases(every):
         given = given[count * lines_each:]
 
 
-PRELUDE = """use Prim.Native.Nat.{ℕ, zero, suc, _+_, _*_}
-use mathlib.Core.List.{List, [], _∷_, _++_}
-use mathlib.Core.Path.{_≡_, refl}
-use mathlib.Core.Bool.{Bool, true, false}
-"""
+PRELUDE = "use Rattle.std.specs.Prelude.{ℕ, ◌≡◌, refl, List, [], ◌∷◌, ◌++◌}\n"
 
 
 def write_modules(specs, chosen):
     uses, unfold = header()
-    declared = "Rattle·jer·specs.specs.declared"
-    extra = [f"use {declared}.{t}.{{{t}}}\nuse {declared}.{t}.the-variants as {t.lower()}" for t in ("Judged", "Reading", "Writing")]
-    types = ["use Rattle·jer·specs.specs.Table.{Table}", "use Rattle·jer·specs.specs.Value.{Val}", "use Rattle·jer·specs.specs.Answer.{Res, ok, no, Values, valuesOf}"]
-    runs = "\n".join(l for l in uses if ".specs.jer" not in l)
+    declared = "Rattle.jer.specs.declared"
+    extra = [f"use {declared}.{t}.{{{t}}}\nuse {declared}.{t}.TheVariants as {t.lower()}" for t in ("Judged", "Reading", "Writing")]
+    types = ["use Rattle.jer.specs.Table.{Table}", "use Rattle.jer.specs.Value.{Val}", "use Rattle.jer.specs.Answer.{Res, ok, no, Values, values_of}"]
+    runs = "\n".join(uses)
     (specs / "Runs.antt").write_text(PRELUDE + runs + "\n" + "\n".join(extra + types) + "\n" + RUNS)
     modules = ["Runs"]
     for n, i in enumerate(range(0, len(chosen), PER_FILE)):
-        body = PRELUDE + runs + "\nuse Rattle·jer·specs.specs.Runs.{" + ", ".join(RUNS_NAMES) + "}\n"
+        body = PRELUDE + runs + "\nuse Rattle.jer.specs.Runs.{" + ", ".join(RUNS_NAMES) + "}\n"
         for j, (label, left, right) in enumerate(chosen[i:i + PER_FILE]):
             body += f"\n-- {label}\ncase{j} : {left} ≡ {right}\nunfolding {' '.join(unfold + RUNS_NAMES)}\ncase{j} = refl\n"
         (specs / f"Cases{n}.antt").write_text(body)
@@ -197,11 +191,11 @@ def main():
         for crate in CRATES:
             for part in ("src", "specs"):
                 shutil.copytree(ROOT / "crates" / crate / part, top / "crates" / crate / part)
-            for proof in (ROOT / "crates" / crate / "proofs").glob("*/Proof.antt"):
-                shutil.copytree(proof.parent, top / "crates" / crate / "proofs" / proof.parent.name)
-        (top / "crates.txt").write_text("json:\njer: json\n")
+            for proof in filter(pathlib.Path.is_dir, (ROOT / "crates" / crate / "proofs").iterdir()):
+                shutil.copytree(proof, top / "crates" / crate / "proofs" / proof.name)
+        (top / "crates.txt").write_text("json_text:\njer: json_text\n")
         write_modules(top / "crates/jer/specs", chosen)
-        run = subprocess.run(["rt", "check", "jer"], cwd=top, capture_output=True, text=True)
+        run = subprocess.run(["rt", "check"], cwd=top / "crates/jer", capture_output=True, text=True)
         text = run.stdout + run.stderr
         for wrong in re.finditer(r"(Cases\d+)\.antt:\d+:\d+: error: `(case\d+)`", text):
             source = (top / f"crates/jer/specs/{wrong.group(1)}.antt").read_text()
