@@ -2,7 +2,7 @@
 
 python3 second/standard_input.py [RUNNER]
 
-`rt check jerread jerwrite` builds them. RUNNER runs an x86-64 program where the machine is none
+`rt run` in crates/jerread and in crates/jerwrite builds them, each into out/. RUNNER runs an x86-64 program where the machine is none
 (Debian's qemu-x86_64 on Arm). Inputs are those stored for the two programs, cut short, with lines
 that are too long or missing, other bytes between, and more after the last line.
 """
@@ -59,7 +59,7 @@ def changed(draw, lines):
 
 
 def differences(runner, program, answer):
-    command = runner + [os.path.join(ROOT, 'target', 'bin', program)]
+    command = runner + [os.path.join(ROOT, 'crates', program, 'out', program)]
     draw = Draw(SEED, program)
     lines = stored(program)
     differ = 0

@@ -12,9 +12,9 @@ from notation import hexadecimal, table
 HERE = pathlib.Path(__file__).resolve().parent
 TERMS = HERE.parents[1] / 'crates/promises/proofs/BookingTables.antt'
 HEAD = """-- The spring and the summer table of `examples/booking`, and which rows of theirs are paired; `examples/booking/make.py` makes this file.
-use mathlib.Core.List.{List, [], _∷_}
-use Rattle·jer.specs.Table.{Table}
-use Rattle·jer.proofs.CutTested.{Pair, pair}
+use mathlib.Core.List.{List, [], ◌∷◌}
+use Rattle.jer.specs.Table.{Table}
+use Rattle.jer.proofs.CutTested.{Pair, pair}
 """
 FIELDS, ENUMERATED, SEQUENCE, SEQUENCE_OF, CHOICE = 8, 2, 6, 7, 8
 
@@ -43,7 +43,7 @@ def terms(spring, summer):
     for version, (numbers, names) in (('spring', spring), ('summer', summer)):
         text += '\nunfoldable pub %s : Table\n%s = record { rows = %s; names = %s }\n' % (version, version, listed(numbers), listed(names))
     met = ['pair %d %d' % pair for pair in pairs(summer[0], spring[0])]
-    return text + '\nunfoldable pub rowsPaired : List Pair\nrowsPaired = %s\n' % listed(met)
+    return text + '\nunfoldable pub rows_paired : List Pair\nrows_paired = %s\n' % listed(met)
 
 
 def main():
