@@ -13,7 +13,7 @@ def main():
     wrong = []
     for name, path in named:
         file = ROOT / path
-        declared = file.is_file() and re.search(rf"^\s*(?:unfoldable |abbrev )?pub (?:(?:extern \"C\" )?fn |record |data )?{re.escape(name)}[ (:]", file.read_text(), re.M)
+        declared = file.is_file() and re.search(rf"^\s*(?:unfoldable |abbrev )?pub (?:(?:extern \"C\" )?fn |record |data )?{re.escape(name)}[ (:<]", file.read_text(), re.M)
         if not declared:
             wrong.append(f"{name} is not declared in {path}")
     paths = set(re.findall(r"`((?:crates|docs|examples|second|tools)/[^`\s*]+)`", page))

@@ -53,7 +53,7 @@ def statement(path, name):
     """What a theorem states, or a function's contract, with the parameters of the modules around it."""
     text = (ROOT / path).read_text()
     if path.endswith(".rt"):
-        head = re.split(r"^\s*\{$", text.split(f"fn {name}(", 1)[1], maxsplit=1, flags=re.M)[0]
+        head = re.split(r"^\s*\{$", re.split(rf"\bfn {name}[<(]", text, maxsplit=1)[1], maxsplit=1, flags=re.M)[0]
         clauses = re.search(r"^\s*(?:requires|ensures) .*", head, re.M | re.S)
         return clauses.group() if clauses else ""
     found = re.search(rf"^(\s*)pub {re.escape(name)} : (.*?)(?=^\1(?:unfolding |{re.escape(name)} ))", text, re.M | re.S)
