@@ -4,8 +4,8 @@
     python3 tools/run-definitions.py [--every N]
 
 Each case becomes an equation between two closed terms that antt computes. Of each kind of crates/cases every
-N-th case is taken (default 1: all), but for the long ones at the size limits. The crates json_text and jer are
-copied without their laws to a temporary folder, and the equations are checked beside them.
+N-th case is taken (default 1: all), but for the long ones at the size limits, which the last line counts. The crates json_text and
+jer are copied without their laws to a temporary folder, and the equations are checked beside them.
 """
 import argparse
 import pathlib
@@ -18,7 +18,8 @@ import tempfile
 ROOT = pathlib.Path(__file__).resolve().parent.parent
 CRATES = ["json_text", "jer"]
 PER_FILE = 40
-LONGEST_LINE = 32768
+# At 30,008 digits (read case 1022) antt runs out of the memory that one declaration may use.
+LONGEST_LINE = 30000
 # file, lines of input a case, the function of Runs and what each line is
 KINDS = {
     "table": (2, "run_table", ["numbers", "bytes"]),
@@ -154,6 +155,7 @@ def cases(every):
         for i in range(0, count, every):
             lines = given[i * lines_each:(i + 1) * lines_each]
             if max(map(len, lines)) > LONGEST_LINE:
+                yield None
                 continue
             words = [argument(k, w) for k, w in zip(kinds, lines)]
             yield f"{name} case {i + 1}", f"{function} {' '.join(words)}", as_list(expected[i])
@@ -185,7 +187,8 @@ def main():
     parser = argparse.ArgumentParser()
     parser.add_argument("--every", type=int, default=1)
     options = parser.parse_args()
-    chosen = list(cases(options.every))
+    taken = list(cases(options.every))
+    chosen = [case for case in taken if case]
     with tempfile.TemporaryDirectory() as there:
         top = pathlib.Path(there)
         for crate in CRATES:
@@ -199,11 +202,11 @@ def main():
         text = run.stdout + run.stderr
         for wrong in re.finditer(r"(Cases\d+)\.antt:\d+:\d+: error: `(case\d+)`", text):
             source = (top / f"crates/jer/specs/{wrong.group(1)}.antt").read_text()
-            print("differs:", source.split(f"\n{wrong.group(2)} : ")[0].rsplit("-- ", 1)[1])
+            print("not shown equal:", source.split(f"\n{wrong.group(2)} : ")[0].rsplit("-- ", 1)[1])
         if run.returncode != 0:
             print(text[-3000:])
             return 1
-    print(f"definitions run on {len(chosen)} stored cases: all answers are the second program's")
+    print(f"definitions run on {len(chosen)} stored cases: all answers are the second program's; left out as too long: {len(taken) - len(chosen)}")
     return 0
 
 
