@@ -7,7 +7,7 @@ ghost use Rattle.jer.specs.Reports.{reported_of};
 ghost use Rattle.jer.specs.CallClauses.{TableCall};
 ghost use Rattle.jer.specs.Table.{table};
 ghost use Rattle.jer.specs.Each.{text_from, values_in, rows_used, pool_used, EachCall};
-ghost use Rattle.slices.specs.Lent.{table_in, before, after};
+ghost use Rattle.slices.specs.Lent.{table_in};
 ghost use Rattle.reading.specs.Run.{Ran, ReadFrom, told_of};
 
 use crate::read_good;
@@ -97,7 +97,7 @@ fn one(
     m: usize,
 ) -> Reading
     requires { TableCall (table types.now names.now) judged.Good × (n * 4 ≤ length rows.old) × (m ≤ length pool.old) }
-    ensures { ReadFrom (table_in types names) (before s) n m result rows pool }
+    ensures { ReadFrom (table_in types names) s.now n m result rows pool }
 {
     let first = n * 4;
     read_good(types, names, s, &mut rows[first..], &mut pool[m..])
@@ -114,7 +114,7 @@ fn each(
     tells: &mut [u64],
 ) -> usize
     requires { TableCall (table types.now names.now) judged.Good }
-    ensures { Ran (table_in types names) (before texts) (before ends) rows pool tells result }
+    ensures { Ran (table_in types names) texts.now ends.now rows pool tells result }
 {
     let mut k: usize = 0;
     let mut from: usize = 0;
