@@ -1,0 +1,24 @@
+use Prim.Native.Nat.{ℕ}
+use mathlib.Core.Path.{sym, ap, ◌∙◌}
+use mathlib.Core.List.{List}
+use native.Mathlib.Omega.{arith}
+use lib.ListN.{drop}
+use Rattle.jer.specs.Programs.{jerwrite, write_second}
+use Rattle.lines.proofs.ShownLaws.{shown_as}
+use Rattle.shell.proofs.LineLaws.{numbers-refused, numbers-given}
+use Rattle.shell.proofs.writes.answer.Goals as goal
+
+pub returns-in_default : goal.returns-in_default
+unfolding jerwrite
+returns-in_default c =
+    let a = c.args in
+    shown_as a.out.now 0 (numbers-refused 1 a.s.now 0 (λ types rest. write_second types rest) (sym c.in_default.is ∙ c.numbers_line.ensures.value)) c.put_bad_line.ensures
+
+pub returns : goal.returns
+unfolding jerwrite
+returns c =
+    let a = c.args in
+    let f : List ℕ → List ℕ → List ℕ = λ types rest. write_second types rest in
+    shown_as a.out.now 0
+    (ap (λ (x : List ℕ). f x (drop c.in-Line.p a.s.now)) c.first_numbers.ensures ∙ numbers-given 1 a.s.now 0 f _ (omega arith) (sym c.in-Line.is ∙ c.numbers_line.ensures.value) c.numbers_line.ensures.out_after)
+    c.second.ensures

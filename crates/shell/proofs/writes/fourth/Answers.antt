@@ -1,0 +1,24 @@
+use Prim.Native.Nat.{ℕ}
+use mathlib.Core.Path.{sym, ap, ◌∙◌}
+use mathlib.Core.List.{List}
+use native.Mathlib.Omega.{arith}
+use lib.ListN.{drop}
+use Rattle.jer.specs.Programs.{write_fourth, write_shown}
+use Rattle.lines.proofs.ShownLaws.{shown_as}
+use Rattle.shell.proofs.LineLaws.{octets-refused, octets-given}
+use Rattle.shell.proofs.writes.fourth.Goals as goal
+
+pub returns-in_default : goal.returns-in_default
+unfolding write_fourth
+returns-in_default c =
+    let a = c.args in
+    shown_as a.out.now 0 (octets-refused 4 a.s.now a.p (λ pool rest. write_shown a.types.now a.names.now a.values.now pool) (sym c.in_default.is ∙ c.octets_line.ensures.value)) c.put_bad_line.ensures
+
+pub returns : goal.returns
+unfolding write_fourth
+returns c =
+    let a = c.args in
+    let f : List ℕ → List ℕ → List ℕ = λ pool rest. write_shown a.types.now a.names.now a.values.now pool in
+    shown_as a.out.now 0
+    (ap (λ (x : List ℕ). f x (drop c.in-Line.field-1 a.s.now)) c.part.ensures ∙ octets-given 4 a.s.now a.p f _ (omega arith) (sym c.in-Line.is ∙ c.octets_line.ensures.value) c.octets_line.ensures.out_after)
+    c.show.ensures
