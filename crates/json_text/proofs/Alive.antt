@@ -155,7 +155,7 @@ abbrev pub HeldAs : Role → Stack → Type 0
 HeldAs (as_name o ms) k = 1 ≤ room k
 HeldAs as_value k = Held k
 
--- Of `sElem` and of the states of a name the bracket opened last is not on the stack.
+-- Of `s_elem` and of the states of a name the bracket opened last is not on the stack.
 abbrev pub Ok : State → Type 0
 Ok (s_val k) = Held k
 Ok (s_elem o k) = 1 ≤ room k

@@ -10,8 +10,6 @@ use borrow.Author.Tests.{eq-eqb, ne_eqb, eqb-true, eqb-false, leb-true, leb-fals
 use lib.Dec.{eqb, leb}
 use lib.ListN.{length, get_or, take, drop, drop_of_length-le, length-drop}
 use lib.Seq.{drop-cons, sets}
-use Rattle.json_text.specs.Bytes.{In}
-use Rattle.json_text.proofs.SoundRows.{pick-within, ◌⨾◌}
 use Rattle.jer.specs.Octets.{also, only_if, hex_value, unhex}
 use Rattle.jer.specs.Programs.{line_from, line_at, octets_in, numbers_in}
 use Rattle.octets.proofs.PutLaws.{Putting, putting_next, putting_done}

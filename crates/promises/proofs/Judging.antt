@@ -1,4 +1,4 @@
--- Judging and reading a text, at the level of the calls, by the grammar alone: the machine in `json` need not be believed.
+-- Judging and reading a text, at the level of the calls, by the grammar alone: the machine in `json_text` need not be believed.
 use Prim.Native.Nat.{ℕ, ◌≤◌}
 use mathlib.Core.Path.{◌≡◌, refl, sym, ap, ◌∙◌}
 use mathlib.Core.List.{List}

@@ -1,4 +1,4 @@
-// The owner's demands as theorems about the calls, from their contracts alone: `jer`'s `specs/Contracts.antt` says what each contract
+// The owner's demands as theorems about the calls, from their contracts alone: `jer`'s `specs/CallClauses.antt` says what each contract
 // determines, and the calls cite it; `proofs/` has what follows. docs/PROMISES.md names each of them.
 #![tactic(auto)]
 

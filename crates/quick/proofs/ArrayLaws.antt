@@ -1,21 +1,20 @@
 -- SEQUENCE as an array: its elements in member order, one more at a time, and their parts.
-use Prim.Native.Nat.{ℕ, zero, suc, ◌+◌, ◌-◌, ◌<◌, ◌≤◌}
+use Prim.Native.Nat.{ℕ, zero, suc, ◌+◌, ◌<◌, ◌≤◌}
 use mathlib.Core.Path.{◌≡◌, refl, sym, ap, ◌∙◌}
 use mathlib.Core.List.{List, [], ◌∷◌, ◌++◌, append_assoc, append-nil}
-use mathlib.Core.Bool.{Bool, true, false, ◌&&◌, not}
-use native.Mathlib.Nat.{add-zero}
+use mathlib.Core.Bool.{true, false, ◌&&◌}
 use native.Mathlib.Numerals.{add-one}
 use native.Mathlib.Omega.{arith}
 use lib.Dec.{eqb}
-use lib.ListN.{length, drop, length-append}
+use lib.ListN.{length}
 use Rattle.json_text.specs.Bytes.{past}
 use Rattle.json_text.specs.Tree.{Json, jarr, Items, inil, icons, isnoc, place_of}
 use Rattle.json_text.specs.Grammar as grammar
 use Rattle.json_text.specs.Grammar.{Padded, padded, Elements, last_element, more_elements, no_elements}
-use Rattle.json_text.proofs.TakesTree.{iapp, iapp_snoc, iapp-last}
+use Rattle.json_text.proofs.TakesTree.{iapp, iapp_snoc}
 use Rattle.jer.specs.Table.{Table, kind_of, is_unwrapped, is_array, extensible, count_of, type_at, may_miss, SEQUENCE, SEQUENCE-OF}
 use Rattle.jer.specs.Value.{Val, v_seq, Parts, pnil, absent, present, count_present}
-use Rattle.jer.specs.Answer.{Res, ok, bind}
+use Rattle.jer.specs.Answer.{ok, bind}
 use Rattle.jer.specs.Read.{Element, null?, read, elements, with_absent, with_present, read_element, read_elements, surplus, read_array, unwrapping}
 use Rattle.tokens.specs.Places.{byte_at}
 use Rattle.tokens.proofs.TiePlace.{past_append}

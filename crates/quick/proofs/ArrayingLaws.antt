@@ -1,25 +1,23 @@
 -- SEQUENCE as an array: what is known after some elements, one element more, and its end.
-use Prim.Native.Nat.{ℕ, zero, suc, ◌+◌, ◌-◌, ◌<◌, ◌≤◌}
+use Prim.Native.Nat.{ℕ, ◌+◌, ◌-◌, ◌<◌, ◌≤◌}
 use mathlib.Core.Path.{◌≡◌, refl, sym, ap, ◌∙◌}
 use mathlib.Core.List.{List, [], ◌∷◌, ◌++◌}
-use mathlib.Core.Bool.{Bool, true, false, ◌&&◌}
+use mathlib.Core.Bool.{true, false, ◌&&◌}
 use native.Mathlib.Numerals.{add-one}
 use native.Mathlib.Omega.{arith}
 use lib.Count.{ones}
 use lib.ListN.{length, get_or, set, length-set, length-append}
 use lib.Seq.{get_or-set_same, get_or-set_other}
-use Rattle.json_text.specs.Tree.{Json, jnull}
-use Rattle.json_text.specs.Grammar.{Value, Padded}
+use Rattle.json_text.specs.Tree.{Json}
 use Rattle.jer.specs.Table.{Table, kind_of, is_type, is_array, extensible, count_of, type_at, may_miss, SEQUENCE}
 use Rattle.jer.specs.Value.{Val, v_seq, Parts, count_present}
 use Rattle.jer.specs.Answer.{ok}
-use Rattle.jer.specs.Read.{Element, null?, read}
-use Rattle.jer.specs.Rows.{rows_of, part_rows, pool_of, part_pool, above}
+use Rattle.jer.specs.Read.{Element}
+use Rattle.jer.specs.Rows.{rows_of, part_rows, pool_of, part_pool}
 use Rattle.jer.specs.Sane.{Sane}
 use Rattle.tokens.specs.Places.{byte_at}
 use Rattle.places.specs.ByPlaces.{bit_of, with_bit}
 use Rattle.places.proofs.MeaningBits.{no-bit, bit_kept}
-use Rattle.spelled.specs.Stretch.{Stretch}
 use Rattle.quick.specs.declared.Got.{Got}
 use Rattle.quick.specs.declared.step.Step as declared-step
 use Rattle.quick.specs.Stood.{Spaces, TreeAt, Stood}
@@ -28,7 +26,7 @@ use Rattle.quick.specs.Taken as taken
 use Rattle.quick.specs.Taken.{Headed, Walked, Shuts, Shut, Came}
 use Rattle.quick.proofs.PartLaws.{set_part, set-count, set-rows, set-pool}
 use Rattle.quick.proofs.TapeLaws.{alike_part, no_parts, linked-none, linked-later, linked-alike, linked-ahead, LinkSet, linked-set, stands_alike}
-use Rattle.quick.proofs.WalkLaws.{alike_same, alike_then, alike_set, mark-inside, headed-after, header, bracket-closed}
+use Rattle.quick.proofs.WalkLaws.{alike_then, alike_set, mark-inside, headed-after, header, bracket-closed}
 use Rattle.quick.proofs.MemberLaws.{ones_with}
 use Rattle.quick.proofs.PartedLaws.{none-count, none_rows, none-pool, ones-zero}
 use Rattle.quick.proofs.ObjectingLaws.{seq_rows, seq_pool}

@@ -2,7 +2,7 @@
 use Prim.Native.Nat.{ℕ, ◌+◌, ◌*◌, ◌/◌, ◌%◌, ◌^◌, ◌<◌, ◌≤◌}
 use mathlib.Core.Path.{◌≡◌, refl, sym, ap, ◌∙◌}
 use mathlib.Core.List.{List, []}
-use mathlib.Core.Bool.{Bool, true, false, ◌&&◌}
+use mathlib.Core.Bool.{Bool, true, false}
 use mathlib.Core.Option.{Option, none, some}
 use native.Mathlib.Nat.{mod-eq_of_lt}
 use native.Mathlib.Omega.{arith}
@@ -11,14 +11,14 @@ use Rattle.json_text.specs.Tree.{Json, jnull, jbool, jint, jstr}
 use Rattle.json_text.specs.Grammar as grammar
 use Rattle.json_text.specs.Grammar.{Value, Quoted}
 use Rattle.jer.specs.Table.{Table, kind_of, is_base64, count_of, BOOLEAN, INTEGER, ENUMERATED, NULL, OCTET-STRING, UTF8String}
-use Rattle.jer.specs.Value.{Leaf, l_bool, l_int, l_enum, l_null, l_bytes, Val, v_leaf, v_int}
-use Rattle.jer.specs.Answer.{Res, ok}
+use Rattle.jer.specs.Value.{Leaf, l_bool, l_int, l_enum, l_null, l_bytes, Val, v_leaf}
+use Rattle.jer.specs.Answer.{ok}
 use Rattle.jer.specs.Read.{read, octets_of}
 use Rattle.tokens.specs.Strings.{denoted}
 use Rattle.octets.specs.declared.decode.Found.TheVariants.{Octets}
 use Rattle.octets.specs.Decode.{found_of, Stored}
 use Rattle.jer.specs.Rows.{bit, leaf_pool}
-use Rattle.spelled.specs.Stretch.{Stretch, Passed}
+use Rattle.spelled.specs.Stretch.{Passed}
 use Rattle.spelled.specs.Leaves.{IntegerAt, StringAt}
 use Rattle.spelled.specs.Names.{PositionIs}
 use Rattle.spelled.specs.Octets.{OctetsAre}
@@ -26,7 +26,7 @@ use Rattle.jer.specs.Octets.{unhex, unbase64}
 use Rattle.spelled.proofs.ReadLaws.{read-null, read_bool, read_int_lem, read-item, read-utf8, read-hex, read-base64}
 use Rattle.quick.specs.declared.bare.Words as declared-leaf
 use Rattle.quick.specs.Stood.{Stood}
-use Rattle.quick.specs.Tape.{Text, Words, in_row, in_text, in_hex, in_base64, in_escaped}
+use Rattle.quick.specs.Tape.{Words, in_row, in_text, in_hex, in_base64, in_escaped}
 use Rattle.quick.specs.Taken.{LeafTaken}
 use Rattle.quick.proofs.NameLaws.{string-denoted}
 

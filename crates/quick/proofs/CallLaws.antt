@@ -1,8 +1,8 @@
 -- The call: its answer and its buffers, once the whole text was taken.
 use Prim.Native.Nat.{ℕ, ◌+◌, ◌*◌, ◌<◌, ◌≤◌}
-use mathlib.Core.Path.{◌≡◌, refl, sym, ap, ◌∙◌}
+use mathlib.Core.Path.{◌≡◌, refl, ◌∙◌}
 use mathlib.Core.List.{List}
-use mathlib.Core.Bool.{Bool, true, false, ◌&&◌}
+use mathlib.Core.Bool.{true, false}
 use mathlib.Core.Option.{Option, none, some}
 use native.Mathlib.Omega.{arith}
 use borrow.Author.Tests.{le-leb, lt-leb}
@@ -15,18 +15,16 @@ use Rattle.jer.specs.declared.Reading.{Reading}
 use Rattle.jer.specs.declared.Reading.TheVariants as reading
 use Rattle.jer.specs.Table.{Table, table}
 use Rattle.jer.specs.Valid.{first_bad}
-use Rattle.jer.specs.Value.{Val}
-use Rattle.jer.specs.Answer.{Res, ok, bind}
-use Rattle.jer.specs.Calls.{table_of, good_table, good_text, judged_by, table_judged, read_text, over, row_numbers, roomy, read_answer, rows_after, pool_after}
+use Rattle.jer.specs.Answer.{ok, bind}
+use Rattle.jer.specs.Calls.{table_of, good_table, judged_by, table_judged, read_text, over, row_numbers, roomy, read_answer, rows_after, pool_after}
 use Rattle.jer.specs.CallClauses.{ReadCall}
-use Rattle.jer.specs.Read.{read_whole}
 use Rattle.jer.specs.Rows.{numbers, rows_of, pool_of}
 use Rattle.jer.specs.Sane.{Sane}
 use Rattle.jer.proofs.ValidSane.{valid_sane}
 use Rattle.leaf.proofs.StoreLaws.{numbers-length}
 use Rattle.quick.specs.declared.Got.{Got}
 use Rattle.quick.specs.Taken.{Whole}
-use Rattle.quick.specs.Emit.{Room, Noted, Emits}
+use Rattle.quick.specs.Emit.{Noted, Emits}
 
 -- ---- the table
 

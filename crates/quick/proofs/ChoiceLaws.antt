@@ -1,22 +1,22 @@
 -- CHOICE: as an object of one member, and UNWRAPPED.
-use Prim.Native.Nat.{ℕ, zero, suc, ◌+◌, ◌<◌, ◌≤◌}
+use Prim.Native.Nat.{ℕ, suc, ◌+◌, ◌<◌, ◌≤◌}
 use mathlib.Core.Path.{◌≡◌, refl, sym, ap, ◌∙◌}
 use mathlib.Core.List.{List, [], ◌∷◌}
 use mathlib.Core.Bool.{Bool, true, false, ◌&&◌}
-use mathlib.Core.Option.{Option, none, some}
+use mathlib.Core.Option.{some}
 use native.Mathlib.Numerals.{add-one}
 use native.Mathlib.Omega.{arith}
 use borrow.Author.Tests.{eqb-true}
 use lib.Dec.{eqb}
 use lib.ListN.{length, drop}
-use Rattle.json_text.specs.Bytes.{In, Row, on, pick, past}
-use Rattle.json_text.specs.Tree.{Json, jnull, jbool, jint, jreal, jstr, jarr, jobj, Members, mnil, mcons}
+use Rattle.json_text.specs.Bytes.{Row, on, pick, past}
+use Rattle.json_text.specs.Tree.{Json, jnull, jbool, jint, jreal, jstr, jarr, jobj, mnil, mcons}
 use Rattle.json_text.specs.Grammar as grammar
 use Rattle.json_text.proofs.Feed.{pick-none}
-use Rattle.jer.specs.Table.{Table, kind_of, is_unwrapped, is_type, count_of, type_at, marked, position, alternative, CHOICE, UNWRAPPED, Token, t_null, t_boolean, t_number, t_string, t_array, t_object, token_code}
+use Rattle.jer.specs.Table.{Table, kind_of, is_unwrapped, count_of, type_at, marked, position, alternative, CHOICE, UNWRAPPED, Token, t_null, t_boolean, t_number, t_string, t_array, t_object}
 use Rattle.jer.specs.Value.{Val, v_choice}
-use Rattle.jer.specs.Answer.{Res, ok, bind}
-use Rattle.jer.specs.Read.{Entry, null?, Meaning, read, entries, elements, read_string, read_array, read_braces, read_choice, read_chosen, read_int, at_kind, picked, unwrapping}
+use Rattle.jer.specs.Answer.{ok, bind}
+use Rattle.jer.specs.Read.{Entry, Meaning, read, read_braces, read_choice, read_chosen, picked, unwrapping}
 use Rattle.jer.specs.Rows.{rows_of, pool_of, above}
 use Rattle.jer.specs.Sane.{Sane}
 use Rattle.tokens.specs.Places.{byte_at}
@@ -25,16 +25,15 @@ use Rattle.places.specs.ByPlaces.{token_at}
 use Rattle.places.proofs.MeaningNames.{alternative-found}
 use Rattle.types.specs.declared.token.Found.TheVariants.{At}
 use Rattle.types.specs.Rows.{found_of}
-use Rattle.spelled.specs.Stretch.{Stretch}
 use Rattle.quick.specs.declared.Got.{Got}
 use Rattle.quick.specs.declared.name.Name as declared-name
 use Rattle.quick.specs.Stood.{Spaces, TreeAt, Stood}
-use Rattle.quick.specs.Tape.{Alike, headed, Stands, a_choice}
+use Rattle.quick.specs.Tape.{headed, a_choice}
 use Rattle.quick.specs.Taken.{Headed, Given, Taken, Walked, NameTaken, MemberAt}
 use Rattle.quick.proofs.ListLaws.{byte_drop}
 use Rattle.quick.proofs.TapeLaws.{alike_part, stands_alike}
 use Rattle.quick.proofs.WalkLaws.{mark-inside, headed-after, header, bracket-closed}
-use Rattle.quick.proofs.ObjectLaws.{Closes, Member, member-here, closes-last}
+use Rattle.quick.proofs.ObjectLaws.{Closes, member-here, closes-last}
 use Rattle.quick.proofs.NameLaws.{found_some}
 
 choice-rows : (v : Val) (t : Table) (r i : ℕ) → length (rows_of (v_choice i v) t r 0) ≡ suc (length (rows_of v t (type_at t r i) 0))

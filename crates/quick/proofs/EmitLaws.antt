@@ -1,31 +1,29 @@
 -- The walk over the tape: what a value of each kind is, once it stands; a leaf, a header and a choice stored.
-use Prim.Native.Nat.{ℕ, zero, suc, ◌+◌, ◌-◌, ◌*◌, ◌/◌, ◌%◌, ◌^◌, ◌<◌, ◌≤◌}
+use Prim.Native.Nat.{ℕ, suc, ◌+◌, ◌-◌, ◌*◌, ◌/◌, ◌%◌, ◌^◌, ◌<◌, ◌≤◌}
 use mathlib.Core.Path.{◌≡◌, refl, sym, ap, ◌∙◌}
-use mathlib.Core.List.{List, [], ◌∷◌, ◌++◌}
-use native.Mathlib.Nat.{add-zero, mod-eq_of_lt}
+use mathlib.Core.List.{List, [], ◌∷◌}
+use native.Mathlib.Nat.{add-zero}
 use native.Mathlib.Numerals.{add-one}
 use native.Mathlib.Omega.{arith}
 use mathlib.Core.Bool.{Bool, true, false}
-use mathlib.Core.Option.{Option, none, some}
+use mathlib.Core.Option.{Option, some}
 use borrow.Author.Tests.{ltb-true, ltb-false}
 use lib.Dec.{ltb}
 use lib.ListN.{length, get_or, take, drop}
 use lib.Seq.{sets}
-use Rattle.jer.specs.Table.{Table, table, field, tag_of, kind_of, is_base64, element_of, count_of, type_at, UTF8String, SEQUENCE, SEQUENCE-OF, CHOICE}
+use Rattle.jer.specs.Table.{Table, table, field, tag_of, kind_of, is_base64, element_of, type_at, UTF8String}
 use Rattle.jer.proofs.Forms.{kind_tag}
-use Rattle.jer.specs.Value.{Leaf, l_bytes, Val, v_leaf, v_seq, v_list, v_choice, Vals, Parts, count_vals, count_present}
-use Rattle.jer.specs.Rows.{ValueRow, row, leaf_row, leaf_pool, numbers, rows_of, item_rows, part_rows, pool_of, item_pool, part_pool, above}
-use Rattle.jer.proofs.WeightMeasure.{rows-length}
+use Rattle.jer.specs.Value.{Leaf, Val, v_leaf, v_seq, v_list, v_choice, Vals, Parts, count_vals, count_present}
+use Rattle.jer.specs.Rows.{numbers, rows_of, item_rows, part_rows, pool_of, item_pool, part_pool, above}
 use Rattle.tokens.specs.Strings.{denoted}
 use Rattle.slices.proofs.PartLaws.{sets_append}
 use Rattle.tokens.proofs.TieString.{quoted-read}
 use Rattle.jer.specs.Octets.{unhex, unbase64}
 use Rattle.jer.specs.Read.{octets_of}
 use Rattle.octets.specs.Decode.{Stored}
-use Rattle.spelled.specs.Stretch.{Stretch}
 use Rattle.spelled.specs.Octets.{OctetsStored}
 use Rattle.quick.specs.Tape.{Text, Words, in_row, in_text, in_hex, in_base64, in_escaped, Header, Stands, a_leaf, a_list, a_sequence, a_choice, Listed, Linked}
-use Rattle.quick.specs.Emit.{Room, Noted, NotedItems, NotedParts, Stores, Emits, Pours, EmitsParts}
+use Rattle.quick.specs.Emit.{Noted, NotedItems, NotedParts, Stores, Emits, Pours, EmitsParts}
 use Rattle.quick.proofs.ListLaws.{rows-any}
 use Rattle.quick.proofs.PartLaws.{parts-any}
 use Rattle.quick.proofs.TapeLaws.{stands-ahead, listed-ahead, linked-ahead}

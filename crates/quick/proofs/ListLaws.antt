@@ -1,28 +1,26 @@
 -- Items one after another, with commas between them and white space around, make an array of the grammar; its meaning is the list of theirs.
-use Prim.Native.Nat.{ℕ, zero, suc, ◌+◌, ◌<◌, ◌≤◌}
+use Prim.Native.Nat.{ℕ, suc, ◌+◌, ◌<◌}
 use mathlib.Core.Path.{◌≡◌, refl, sym, ap, ◌∙◌}
 use mathlib.Core.List.{List, [], ◌∷◌, ◌++◌, append_assoc}
-use mathlib.Core.Bool.{Bool, true, false, ◌&&◌}
+use mathlib.Core.Bool.{false}
 use native.Mathlib.Numerals.{add-one}
 use native.Mathlib.Omega.{arith}
-use borrow.Author.Tests.{eq-eqb}
-use lib.Dec.{eqb}
 use lib.ListN.{length, drop, length-append}
 use lib.Seq.{drop-cons}
 use Rattle.json_text.specs.Bytes.{past}
 use Rattle.json_text.specs.Tree.{Json, jarr, Items, inil, icons}
 use Rattle.json_text.specs.Grammar as grammar
 use Rattle.json_text.specs.Grammar.{Value, Padded, padded, Elements, last_element, more_elements, no_elements}
-use Rattle.jer.specs.Table.{Table, kind_of, is_unwrapped, element_of, SEQUENCE-OF, CHOICE}
+use Rattle.jer.specs.Table.{Table, kind_of, is_unwrapped, element_of, SEQUENCE-OF}
 use Rattle.jer.specs.Value.{Val, v_list, Vals, vnil, vcons, count_vals}
-use Rattle.jer.specs.Answer.{Res, ok, bind}
+use Rattle.jer.specs.Answer.{ok, bind}
 use Rattle.jer.specs.Read.{read, read_items, read_array, elements, unwrapping}
 use Rattle.jer.specs.Rows.{rows_of, item_rows, pool_of, item_pool}
 use Rattle.jer.proofs.WeightMeasure.{rows-length}
 use Rattle.tokens.specs.Places.{byte_at}
 use Rattle.tokens.proofs.PlaceLaws.{byte_inside, inside}
 use Rattle.tokens.proofs.TiePlace.{past_append}
-use Rattle.quick.specs.Stood.{Spaces, TreeAt, Stood}
+use Rattle.quick.specs.Stood.{Spaces, Stood}
 
 -- ---- lists of values
 

@@ -1,20 +1,20 @@
 -- SEQUENCE OF: a list that grows by an item, and its end.
-use Prim.Native.Nat.{ℕ, zero, suc, ◌+◌, ◌-◌, ◌<◌, ◌≤◌}
-use mathlib.Core.Path.{◌≡◌, refl, sym, ap, ◌∙◌}
-use mathlib.Core.List.{List, [], ◌∷◌}
+use Prim.Native.Nat.{ℕ, suc, ◌+◌, ◌<◌, ◌≤◌}
+use mathlib.Core.Path.{◌≡◌, refl, sym, ◌∙◌}
+use mathlib.Core.List.{List}
 use native.Mathlib.Numerals.{add-one}
 use native.Mathlib.Omega.{arith}
 use lib.ListN.{length}
-use Rattle.jer.specs.Table.{Table, kind_of, element_of, is_type, SEQUENCE-OF}
-use Rattle.jer.specs.Value.{Val, v_list, Vals, vnil, vcons, count_vals}
+use Rattle.jer.specs.Table.{Table, kind_of, element_of, SEQUENCE-OF}
+use Rattle.jer.specs.Value.{v_list, Vals, vnil, count_vals}
 use Rattle.jer.specs.Rows.{rows_of, item_rows, pool_of, item_pool, above}
 use Rattle.tokens.specs.Places.{byte_at}
 use Rattle.quick.specs.declared.Got.{Got}
-use Rattle.quick.specs.Stood.{Spaces, Stood}
-use Rattle.quick.specs.Tape.{headed, Alike, Stands, a_list, Listed, no_item}
-use Rattle.quick.specs.Taken.{Headed, Given, Taken, Walked}
+use Rattle.quick.specs.Stood.{Spaces}
+use Rattle.quick.specs.Tape.{headed, Alike, a_list, Listed, no_item}
+use Rattle.quick.specs.Taken.{Headed, Taken, Walked}
 use Rattle.quick.proofs.ListLaws.{vsnoc, count_snoc, rows_snoc, pool_snoc, Item, item-padded, Some, some-none, some_more, some-last, list-stood, empty-stood}
-use Rattle.quick.proofs.TapeLaws.{alike_part, stands-ahead, listed-alike, listed_snoc}
+use Rattle.quick.proofs.TapeLaws.{alike_part, listed-alike, listed_snoc}
 use Rattle.quick.proofs.WalkLaws.{alike_same, alike_then, mark-inside, headed-after, header, bracket-closed}
 
 -- after some items: the next is due at `at`, and is noted from `end` on

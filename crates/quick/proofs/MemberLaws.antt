@@ -1,24 +1,22 @@
 -- Null at a place, members that are missing, and the bits of members met.
-use Prim.Native.Nat.{ℕ, zero, suc, ◌+◌, ◌*◌, ◌/◌, ◌%◌, ◌^◌, ◌<◌, ◌≤◌, max}
+use Prim.Native.Nat.{ℕ, zero, suc, ◌+◌, ◌/◌, ◌%◌, ◌^◌, ◌<◌, max}
 use mathlib.Core.Path.{◌≡◌, refl, sym, ap, ◌∙◌}
-use mathlib.Core.List.{List, [], ◌∷◌, ◌++◌}
+use mathlib.Core.List.{List}
 use mathlib.Core.Bool.{Bool, true, false, ◌&&◌, not}
 use native.Mathlib.Nat.{pow-suc, pow-succ', div-one, div-div-eq-div-mul}
-use native.Mathlib.Numerals.{add-one}
 use native.Mathlib.Omega.{arith}
 use borrow.Author.Tests.{eqb-true, eqb-false, eq-eqb, ne_eqb}
-use lib.Bits.{bit_or, or_step, or_shr, or_zero_r}
+use lib.Bits.{bit_or, or_step, or_zero_r}
 use lib.Count.{ones, ones_step}
 use lib.Dec.{eqb}
-use lib.ListN.{length, drop}
-use Rattle.json_text.specs.Bytes.{In, past}
-use Rattle.json_text.specs.Tree.{Json, jnull}
-use Rattle.jer.specs.Table.{Table, count_of, optional, type_at, may_miss, null_taken}
+use lib.ListN.{drop}
+use Rattle.json_text.specs.Bytes.{In}
+use Rattle.json_text.specs.Tree.{Json}
+use Rattle.jer.specs.Table.{Table, optional, type_at, may_miss, null_taken}
 use Rattle.jer.specs.Read.{null?, null_absent}
 use Rattle.tokens.specs.Places.{byte_at}
 use Rattle.tokens.proofs.TieFirst.{FirstByte, of_null, of_true, of_false, of_minus, of_digit, of_real_minus, of_real_digit, of_string, of_array, of_object, first_byte}
 use Rattle.places.specs.ByPlaces.{bit_of, with_bit}
-use Rattle.spelled.specs.Stretch.{Stretch}
 use Rattle.quick.specs.Stood.{TreeAt}
 
 -- ---- null

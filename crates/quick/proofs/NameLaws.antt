@@ -1,32 +1,27 @@
 -- The name of a member.
-use Prim.Native.Nat.{ℕ, suc, ◌+◌, ◌<◌, ◌≤◌}
+use Prim.Native.Nat.{ℕ, ◌+◌, ◌<◌, ◌≤◌}
 use mathlib.Core.Path.{◌≡◌, refl, sym, ap, ◌∙◌}
-use mathlib.Core.List.{List, [], ◌∷◌, ◌++◌, append_assoc}
+use mathlib.Core.List.{List, [], ◌∷◌, ◌++◌}
 use mathlib.Core.Option.{Option, none, some}
 use native.Mathlib.Numerals.{add-one}
 use native.Mathlib.Omega.{arith}
 use lib.ListN.{length, take, drop}
-use lib.Seq.{drop-cons}
 use Rattle.json_text.specs.Bytes.{past}
-use mathlib.Core.Bool.{Bool, true, false}
-use Rattle.spelled.specs.Stretch.{Stretch, Passed}
+use mathlib.Core.Bool.{Bool, false}
 use Rattle.spelled.specs.Leaves.{StringAt}
 use Rattle.spelled.specs.Names.{Distinct, PositionIs, FoundAmong}
 use Rattle.jer.specs.Table.{Table, position, first_of, count_of}
 use Rattle.tokens.specs.Places.{byte_at}
 use Rattle.tokens.specs.Strings.{denoted}
-use Rattle.tokens.proofs.PlaceLaws.{byte_inside, inside}
 use Rattle.tokens.proofs.TiePlace.{past_append}
 use Rattle.tokens.proofs.TieString.{quoted-read}
 use Rattle.places.proofs.MeaningNames.{position-found}
-use Rattle.types.specs.declared.token.Found.{Found}
 use Rattle.types.specs.declared.token.Found.TheVariants.{At, Nothing}
 use Rattle.types.specs.Rows.{found_of}
 use Rattle.quick.specs.declared.name.Name as declared-name
 use Rattle.quick.specs.Stood.{Spaces, NameAt}
 use Rattle.quick.specs.Taken.{NameTaken}
 use Rattle.quick.proofs.ListLaws.{byte_drop}
-use Rattle.quick.proofs.WalkLaws.{mark-inside}
 
 -- a name: its string from o up to q, the colon at c
 pub name-here : {s : List ℕ} {o q c n : ℕ} {e : Bool} (k : StringAt s o q n e) → Spaces s q c → byte_at s c ≡ 0x3A → NameAt s o (c + 1) k.chars

@@ -1,31 +1,26 @@
 -- Objects: the members met so far as parts in table order, of which one more is set at a time, in whatever order the text has them.
-use Prim.Native.Nat.{ℕ, zero, suc, ◌+◌, ◌-◌, ◌<◌, ◌≤◌}
+use Prim.Native.Nat.{ℕ, zero, suc, ◌+◌, ◌<◌}
 use mathlib.Core.Path.{◌≡◌, refl, sym, ap, ◌∙◌}
 use mathlib.Core.List.{List, [], ◌∷◌, ◌++◌, append_assoc}
-use mathlib.Core.Bool.{Bool, true, false, ◌&&◌, not}
-use mathlib.Core.Option.{Option, none, some}
-use native.Mathlib.Nat.{add-zero, add-suc}
+use mathlib.Core.Bool.{true, false, ◌&&◌, not}
+use mathlib.Core.Option.{none, some}
 use native.Mathlib.Numerals.{add-one}
 use native.Mathlib.Omega.{arith}
 use lib.Dec.{eqb}
-use lib.ListN.{length, drop, length-append}
-use lib.Seq.{drop-cons}
+use lib.ListN.{drop}
 use Rattle.json_text.specs.Bytes.{past}
 use Rattle.json_text.specs.Tree.{Json, jobj, Members, mnil, mcons, msnoc}
 use Rattle.json_text.specs.Grammar as grammar
 use Rattle.json_text.specs.Grammar.{Quoted, Padded, padded, Name, name, Named, last_member, more_members, no_members}
-use Rattle.json_text.proofs.TakesTree.{mapp, mapp_snoc, mapp-last}
-use Rattle.jer.specs.Table.{Table, kind_of, is_type, is_unwrapped, is_array, extensible, count_of, type_at, name_at, may_miss, same_bytes, position, is_some, SEQUENCE, CHOICE}
-use Rattle.jer.specs.Value.{Val, v_seq, Parts, pnil, absent, present, count_present}
-use Rattle.jer.specs.Answer.{Res, ok, bind}
+use Rattle.json_text.proofs.TakesTree.{mapp, mapp_snoc}
+use Rattle.jer.specs.Table.{Table, kind_of, is_unwrapped, is_array, extensible, count_of, type_at, name_at, may_miss, same_bytes, position, is_some, SEQUENCE, CHOICE}
+use Rattle.jer.specs.Value.{Val, v_seq, Parts, pnil, absent, present}
+use Rattle.jer.specs.Answer.{ok, bind}
 use Rattle.jer.specs.Read.{Entry, null?, read, entries, lookup, names_good, null_absent, with_absent, with_present, read_member, read_members, read_object, read_braces, unwrapping}
-use Rattle.jer.specs.Rows.{rows_of, part_rows, pool_of, part_pool}
 use Rattle.tokens.specs.Places.{byte_at}
-use Rattle.tokens.proofs.PlaceLaws.{byte_inside, inside}
 use Rattle.tokens.proofs.TiePlace.{past_append}
-use Rattle.places.proofs.MeaningNames.{position-found, lookup-met, lookup-other}
-use Rattle.spelled.specs.Stretch.{Stretch}
-use Rattle.quick.specs.Stood.{Spaces, TreeAt, Stood, NameAt}
+use Rattle.places.proofs.MeaningNames.{lookup-met, lookup-other}
+use Rattle.quick.specs.Stood.{Spaces, Stood}
 use Rattle.quick.specs.Taken.{MemberAt}
 use Rattle.quick.proofs.ListLaws.{byte_drop}
 use Rattle.quick.proofs.PartLaws.{set_part}

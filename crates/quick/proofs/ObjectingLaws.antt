@@ -1,30 +1,29 @@
 -- SEQUENCE as an object: what is known after some members, one member more, and its end.
-use Prim.Native.Nat.{ℕ, zero, suc, ◌+◌, ◌-◌, ◌<◌, ◌≤◌}
+use Prim.Native.Nat.{ℕ, suc, ◌+◌, ◌-◌, ◌<◌, ◌≤◌}
 use mathlib.Core.Path.{◌≡◌, refl, sym, ap, ◌∙◌}
 use mathlib.Core.List.{List, [], ◌∷◌}
-use mathlib.Core.Bool.{Bool, true, false, ◌&&◌}
-use mathlib.Core.Option.{Option, none, some}
+use mathlib.Core.Bool.{true, false}
+use mathlib.Core.Option.{none}
 use native.Mathlib.Numerals.{add-one}
 use native.Mathlib.Omega.{arith}
 use lib.Count.{ones}
-use lib.ListN.{length, get_or, set, length-set}
+use lib.ListN.{length, get_or, length-set}
 use Rattle.json_text.specs.Tree.{Json}
 use Rattle.jer.specs.Table.{Table, table, field, kind_of, is_type, is_array, count_of, name_at, may_miss, is_some, SEQUENCE}
-use Rattle.jer.specs.Value.{Val, v_seq, Parts, count_present}
+use Rattle.jer.specs.Value.{v_seq, Parts}
 use Rattle.jer.specs.Read.{Entry, null?, read, lookup}
 use Rattle.jer.specs.Rows.{rows_of, part_rows, pool_of, part_pool, above}
 use Rattle.jer.specs.Sane.{Sane}
 use Rattle.tokens.specs.Places.{byte_at}
-use Rattle.places.specs.ByPlaces.{bit_of, with_bit}
+use Rattle.places.specs.ByPlaces.{bit_of}
 use Rattle.quick.specs.declared.Got.{Got}
 use Rattle.quick.specs.declared.step.Step as declared-step
-use Rattle.spelled.specs.Stretch.{Stretch}
-use Rattle.quick.specs.Stood.{Spaces, TreeAt, Stood}
-use Rattle.quick.specs.Tape.{Alike, headed, Stands, a_sequence}
-use Rattle.quick.specs.Taken.{Headed, Given, Walked, Shuts, Shut, MemberAt, Met, valued, nulled, passed, Stepped}
+use Rattle.quick.specs.Stood.{Spaces, Stood}
+use Rattle.quick.specs.Tape.{Alike, headed, a_sequence}
+use Rattle.quick.specs.Taken.{Walked, Shuts, Shut, MemberAt, Met, valued, nulled, passed, Stepped}
 use Rattle.quick.proofs.TapeLaws.{alike_part, linked-alike}
-use Rattle.quick.proofs.WalkLaws.{alike_same, alike_then, mark-inside, headed-after, header, bracket-closed}
-use Rattle.quick.proofs.ObjectLaws.{Member, member-here, Members-so-far, members-none, members-more, Takes, knows, skips, Object, members-last, object-stood, empty-object-stood}
+use Rattle.quick.proofs.WalkLaws.{alike_then, mark-inside, headed-after, header, bracket-closed}
+use Rattle.quick.proofs.ObjectLaws.{member-here, Members-so-far, members-none, members-more, Takes, knows, skips, Object, members-last, object-stood, empty-object-stood}
 use Rattle.quick.proofs.PartedLaws.{Parted, parted-none, parted-nulled, parted-valued, parted-along, parted-few, unmet-name}
 
 pub seq_rows : (ps : Parts) (t : Table) (r : ℕ) → length (rows_of (v_seq ps) t r 0) ≡ suc (length (part_rows ps t r 0 0))

@@ -1,5 +1,5 @@
 -- The members of a sequence met so far: what their bits, their links and their rows say together.
-use Prim.Native.Nat.{ℕ, zero, suc, ◌+◌, ◌-◌, ◌<◌, ◌≤◌}
+use Prim.Native.Nat.{ℕ, zero, suc, ◌+◌, ◌<◌, ◌≤◌}
 use mathlib.Core.Path.{◌≡◌, refl, sym, ap, ◌∙◌}
 use mathlib.Core.List.{List, [], ◌∷◌}
 use mathlib.Core.Bool.{Bool, true, false, ◌&&◌}
@@ -8,10 +8,10 @@ use native.Mathlib.Omega.{arith}
 use borrow.Author.Tests.{eqb-true, eqb-false}
 use lib.Count.{ones}
 use lib.Dec.{eqb}
-use lib.ListN.{length, get_or, set, length-set}
+use lib.ListN.{length, get_or, set}
 use lib.Seq.{get_or-set_same, get_or-set_other}
 use Rattle.jer.specs.Table.{Table, is_type, count_of, type_at, name_at, same_bytes, position, is_some}
-use Rattle.jer.specs.Value.{Val, Parts, pnil, absent, present, count_present}
+use Rattle.jer.specs.Value.{Val, Parts, count_present}
 use Rattle.jer.specs.Answer.{ok}
 use Rattle.jer.specs.Read.{Entry, lookup, null_absent}
 use Rattle.jer.specs.Rows.{rows_of, part_rows, pool_of, part_pool}
@@ -20,7 +20,7 @@ use Rattle.places.specs.ByPlaces.{bit_of, with_bit}
 use Rattle.places.proofs.MeaningBits.{no-bit, bit-set, bit_kept}
 use Rattle.places.proofs.MeaningNames.{position-found, names-differ, lookup-met, lookup-other}
 use Rattle.quick.specs.Tape.{Alike, Stands, Linked}
-use Rattle.quick.proofs.PartLaws.{set_part, Free, free, past_absent, past_present, set-count, set-rows, set-pool, absent-rows, absent-pool}
+use Rattle.quick.proofs.PartLaws.{set_part, Free, free, past_absent, past_present, set-count, set-rows, set-pool}
 use Rattle.quick.proofs.TapeLaws.{alike_part, no_parts, linked-none, linked-later, linked-alike, linked-ahead, LinkSet, linked-set, stands_alike}
 use Rattle.quick.proofs.WalkLaws.{alike_set}
 use Rattle.quick.proofs.MemberLaws.{ones_with, both_ways}

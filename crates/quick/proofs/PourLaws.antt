@@ -1,19 +1,18 @@
 -- The loops of the walk over the tape: what is left of a list or of a sequence, once stored, completes it.
-use Prim.Native.Nat.{ℕ, zero, suc, ◌+◌, ◌*◌, ◌<◌, ◌≤◌}
+use Prim.Native.Nat.{ℕ, suc, ◌+◌, ◌*◌, ◌<◌, ◌≤◌}
 use mathlib.Core.Path.{◌≡◌, refl, sym, ap, ◌∙◌}
-use mathlib.Core.List.{List, [], ◌∷◌, ◌++◌}
-use native.Mathlib.Nat.{add-zero}
+use mathlib.Core.List.{List, [], ◌∷◌}
 use native.Mathlib.Numerals.{add-one}
 use native.Mathlib.Omega.{arith}
 use lib.ListN.{length, get_or}
 use lib.Seq.{sets}
-use Rattle.jer.specs.Table.{Table, table, field, kind_of, element_of, count_of, type_at}
-use Rattle.jer.specs.Value.{Val, v_seq, v_list, v_choice, Vals, vnil, vcons, count_vals, Parts, pnil, absent, present, count_present}
-use Rattle.jer.specs.Rows.{numbers, rows_of, item_rows, part_rows, pool_of, item_pool, part_pool, above, absent_row}
+use Rattle.jer.specs.Table.{Table, table, count_of, type_at}
+use Rattle.jer.specs.Value.{Val, Vals, vnil, vcons, Parts, pnil, absent, present}
+use Rattle.jer.specs.Rows.{numbers, rows_of, item_rows, part_rows, pool_of, item_pool, part_pool}
 use Rattle.slices.proofs.PartLaws.{sets_append}
 use Rattle.leaf.proofs.StoreLaws.{numbers-length, numbers_append}
-use Rattle.quick.specs.Tape.{Header, Stands, Listed, no_item, item, Linked, no_link, no_value, a_value}
-use Rattle.quick.specs.Emit.{Room, Noted, NotedItems, NotedParts, Stores, Emits, Pours, EmitsParts, Passes}
+use Rattle.quick.specs.Tape.{Stands, Listed, no_item, item, Linked, no_link, no_value, a_value}
+use Rattle.quick.specs.Emit.{Noted, NotedItems, NotedParts, Stores, Emits, Pours, EmitsParts, Passes}
 use Rattle.quick.proofs.ListLaws.{rows-any, cons-rows, nil-rows, cons-pool, nil-pool}
 use Rattle.quick.proofs.PartLaws.{parts-any, absent-rows, present-rows, absent-pool, present-pool}
 use Rattle.quick.proofs.TapeLaws.{stands-ahead, listed-ahead, linked-ahead}

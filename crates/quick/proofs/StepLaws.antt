@@ -1,5 +1,5 @@
 -- One member of an object: a null for its absence, or a value with its link.
-use Prim.Native.Nat.{ℕ, zero, suc, ◌+◌, ◌<◌, ◌≤◌}
+use Prim.Native.Nat.{ℕ, ◌+◌, ◌<◌, ◌≤◌}
 use mathlib.Core.Path.{◌≡◌, refl, sym, ap, ◌∙◌}
 use mathlib.Core.List.{List}
 use mathlib.Core.Bool.{Bool, true, false, ◌&&◌}
@@ -8,17 +8,16 @@ use lib.Dec.{eqb}
 use lib.ListN.{length, get_or, set, length-set}
 use Rattle.json_text.specs.Tree.{Json, jnull}
 use Rattle.json_text.specs.Grammar.{Value}
-use Rattle.jer.specs.Table.{Table, is_type, count_of, type_at, extensible, may_miss}
+use Rattle.jer.specs.Table.{Table, count_of, type_at, extensible, may_miss}
 use Rattle.jer.specs.Read.{null_absent, null?}
-use Rattle.jer.specs.Sane.{Sane}
 use Rattle.tokens.specs.Places.{byte_at}
 use Rattle.places.specs.ByPlaces.{bit_of, with_bit}
 use Rattle.quick.specs.declared.Got.{Got}
 use Rattle.quick.specs.declared.name.Name as declared-name
 use Rattle.quick.specs.declared.step.Step as declared-step
-use Rattle.spelled.specs.Stretch.{Stretch, Passed, ValueAt}
+use Rattle.spelled.specs.Stretch.{Passed, ValueAt}
 use Rattle.quick.specs.Stood.{Spaces, TreeAt}
-use Rattle.quick.specs.Tape.{Alike, Stands}
+use Rattle.quick.specs.Tape.{Alike}
 use Rattle.quick.specs.Taken as taken
 use Rattle.quick.specs.Taken.{Given, Taken, Walked, NameTaken, MemberAt, Met, valued, nulled, passed, Stepped, Came}
 use Rattle.quick.proofs.TapeLaws.{alike_part}

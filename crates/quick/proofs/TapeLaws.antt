@@ -1,11 +1,11 @@
 -- A tape that is the same from j to k stands for the same there; one more item at its end.
 use Prim.Native.Nat.{ℕ, zero, suc, ◌+◌, ◌<◌, ◌≤◌}
-use mathlib.Core.Path.{◌≡◌, refl, sym, ap, ◌∙◌}
+use mathlib.Core.Path.{◌≡◌, refl, ◌∙◌}
 use mathlib.Core.List.{List}
 use native.Mathlib.Omega.{arith}
-use lib.ListN.{length, get_or, take, set}
-use Rattle.jer.specs.Table.{Table, element_of, count_of, type_at}
-use Rattle.jer.specs.Value.{Leaf, Val, Vals, vnil, vcons, Parts, pnil, absent, present}
+use lib.ListN.{get_or}
+use Rattle.jer.specs.Table.{Table, count_of, type_at}
+use Rattle.jer.specs.Value.{Leaf, Val, Vals, Parts, pnil, absent}
 use Rattle.quick.specs.Tape.{Alike, Words, Header, Stands, a_leaf, a_list, a_sequence, a_choice, Listed, no_item, item, Linked, no_link, no_value, a_value}
 use Rattle.quick.proofs.ListLaws.{vsnoc}
 use Rattle.quick.proofs.PartLaws.{set_part}

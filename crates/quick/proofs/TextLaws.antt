@@ -1,25 +1,25 @@
 -- A value with white space around it that ends at the text's end is the text.
-use Prim.Native.Nat.{ℕ, ◌<◌, ◌≤◌}
-use mathlib.Core.Path.{◌≡◌, refl, sym, ap, ◌∙◌}
-use mathlib.Core.List.{List, [], ◌++◌, append-nil}
+use Prim.Native.Nat.{ℕ, ◌≤◌}
+use mathlib.Core.Path.{◌≡◌, ◌∙◌}
+use mathlib.Core.List.{List, append-nil}
 use native.Mathlib.Nat.{le_refl}
 use native.Mathlib.Omega.{arith}
 use borrow.Author.Tests.{le-leb}
-use lib.ListN.{length, drop, drop_of_length-le}
+use lib.ListN.{length, drop_of_length-le}
 use Rattle.json_text.specs.Tree.{Json}
-use Rattle.json_text.specs.Grammar.{Text, Padded}
+use Rattle.json_text.specs.Grammar.{Text}
 use Rattle.json_text.specs.Machine.{parse}
 use Rattle.json_text.proofs.Takes.{takes_text}
-use Rattle.jer.specs.Table.{Table, is_type}
+use Rattle.jer.specs.Table.{Table}
 use Rattle.jer.specs.Value.{Val}
-use Rattle.jer.specs.Answer.{Res, ok, bind}
-use Rattle.jer.specs.Read.{read, read_whole}
+use Rattle.jer.specs.Answer.{ok, bind}
+use Rattle.jer.specs.Read.{read_whole}
 use Rattle.jer.specs.Calls.{good_text, tree_of}
 use Rattle.jer.specs.Sane.{Sane}
 use Rattle.spelled.specs.Leaves.{IsFlags}
 use Rattle.quick.specs.declared.Got.{Got}
 use Rattle.quick.specs.Stood.{Spaces, Stood}
-use Rattle.quick.specs.Taken.{Given, Taken, Walked, Whole}
+use Rattle.quick.specs.Taken.{Given, Walked, Whole}
 use Rattle.quick.proofs.ListLaws.{Item, item-padded}
 
 parsed : (s : List ℕ) (j : Json) → length s ≤ 65536 → Text 32 j s → good_text s ≡ ok j

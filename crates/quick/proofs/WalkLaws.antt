@@ -1,7 +1,7 @@
 -- The walk over the text: what is not taken, a leaf noted, a header.
-use Prim.Native.Nat.{ℕ, zero, suc, ◌+◌, ◌-◌, ◌*◌, ◌<◌, ◌≤◌}
+use Prim.Native.Nat.{ℕ, suc, ◌+◌, ◌-◌, ◌<◌, ◌≤◌}
 use mathlib.Core.Path.{◌≡◌, refl, sym, ap, ◌∙◌}
-use mathlib.Core.List.{List, [], ◌∷◌, ◌++◌}
+use mathlib.Core.List.{List}
 use native.Mathlib.Numerals.{add-one}
 use native.Mathlib.Omega.{arith}
 use mathlib.Core.Bool.{Bool, true, false}
@@ -13,18 +13,16 @@ use lib.Seq.{get_or-set_same, get_or-set_other}
 use Rattle.jer.specs.Table.{Table, is_type, count_of, may_miss}
 use Rattle.jer.specs.Value.{Leaf, Val, v_leaf}
 use Rattle.jer.specs.Rows.{leaf_pool, rows_of, pool_of}
-use Rattle.jer.specs.Sane.{Sane}
 use Rattle.tokens.specs.Places.{byte_at}
 use Rattle.tokens.proofs.PlaceLaws.{inside}
 use Rattle.places.specs.ByPlaces.{bit_of}
 use Rattle.quick.specs.declared.Got.{Got}
 use Rattle.quick.specs.declared.bare.Words as declared-leaf
-use Rattle.spelled.specs.Stretch.{Stretch, Within}
+use Rattle.spelled.specs.Stretch.{Within}
 use Rattle.spelled.specs.Names.{Distinct}
 use Rattle.quick.specs.Stood.{Spaces, Stood}
-use Rattle.quick.specs.Tape.{headed, Alike, Words, Header, Stands, a_leaf}
-use Rattle.quick.specs.Taken.{Headed, Shut, Given, LeafTaken, Taken, Walked}
-use Rattle.quick.proofs.TapeLaws.{alike_part}
+use Rattle.quick.specs.Tape.{headed, Alike, Header, Stands, a_leaf}
+use Rattle.quick.specs.Taken.{Headed, Shut, Given, LeafTaken, Walked}
 
 pub alike_same : (z : List ℕ) (j k : ℕ) → Alike z z j k
 alike_same z j k = record { same = λ i h l. refl }

@@ -1,7 +1,7 @@
 -- What the walk over the tape is given, and what it stores.
 use Rattle.std.specs.Prelude.{ℕ, ◌+◌, ◌*◌, ◌≤◌, ◌<◌, ◌≡◌, List, length}
 use Rattle.std.proofs.lemmas.List.Edits.{sets}
-use Rattle.jer.specs.Table.{Table, table, kind_of}
+use Rattle.jer.specs.Table.{table, kind_of}
 use Rattle.jer.specs.Value.{Val, Vals, Parts}
 use Rattle.jer.specs.Rows.{numbers, rows_of, item_rows, part_rows, pool_of, item_pool, part_pool}
 use Rattle.quick.specs.Tape.{Stands, Listed, Linked}

@@ -1,5 +1,5 @@
 -- What the walk over the text is given, and what a success of it says.
-use Rattle.std.specs.Prelude.{ℕ, ◌+◌, ◌-◌, ◌≤◌, ◌<◌, ◌≡◌, Bool, true, false, ◌&&◌, List, length, get_or, set}
+use Rattle.std.specs.Prelude.{ℕ, ◌+◌, ◌-◌, ◌≤◌, ◌<◌, ◌≡◌, Bool, true, false, ◌&&◌, List, length, set}
 use Rattle.std.proofs.Math.Option.{none, some}
 use Rattle.std.specs.Int.Count.{ones}
 use Rattle.json_text.specs.Tree.{Json}

@@ -1,5 +1,5 @@
 -- Many texts, one after another: what is done, before what the rest gives.
-use Prim.Native.Nat.{ℕ, zero, suc, ◌+◌, ◌-◌, ◌*◌, ◌/◌, ◌^◌, ◌<◌, ◌≤◌}
+use Prim.Native.Nat.{ℕ, suc, ◌+◌, ◌-◌, ◌*◌, ◌/◌, ◌^◌, ◌<◌, ◌≤◌}
 use mathlib.Core.Path.{◌≡◌, refl, sym, ap, ◌∙◌}
 use mathlib.Core.List.{List, [], ◌∷◌, ◌++◌, append_assoc, append-nil}
 use mathlib.Core.Bool.{Bool, true, false, ◌&&◌, false≢true}
@@ -14,7 +14,7 @@ use Rattle.jer.specs.declared.Reading.{Reading}
 use Rattle.jer.specs.declared.Reading.TheVariants as reading
 use Rattle.jer.specs.Table.{Table}
 use Rattle.jer.specs.Value.{Val}
-use Rattle.jer.specs.Answer.{Res, ok, no, bind, Values}
+use Rattle.jer.specs.Answer.{Res, ok, no, bind}
 use Rattle.jer.specs.Rows.{rows_of, pool_of, numbers}
 use Rattle.jer.specs.Calls.{good_table, table_judged, read_text, read_answer, rows_after, pool_after, roomy, over, row_numbers}
 use Rattle.leaf.proofs.StoreLaws.{numbers-length}

@@ -1,10 +1,10 @@
 // A reader's bytes for the programs, which pass standard input: what stands there collected, or its lines of hexadecimal read as they come.
 // Of what comes from the operating system a contract can give bounds alone: that it is what stands there is tested and not proved.
-// A read that fails ends the call with its error; what was lent then has what was stored before.
+// A read that fails ends the call with its error, the reader's own and no other; what was lent then has what was stored before.
 // What is made of it and printed, the crates `lines` and `shell`, is proved.
 #![tactic(auto)]
 
-ghost use Rattle.std.specs.Prelude.{◌≤◌, ◌≡◌, length, IfOk};
+ghost use Rattle.std.specs.Prelude.{◌≤◌, ◌≡◌, length, IfOk, IfErr};
 
 use lines::taken::DIGITS;
 use slices::byte_at;
@@ -65,7 +65,8 @@ fn next_byte<R: Read>(from: &mut R, buf: &mut [u8], input: Input) -> io::Result<
 
 // What is read of the input: up to the end of this many lines, or to a line that is too long.
 pub fn collect<R: Read>(from: &mut R, lines: u32, out: &mut [u8]) -> io::Result<usize>
-    ensures { IfOk result (λ n. n ≤ length out.old) }
+    ensures ok { IfOk result (λ n. n ≤ length out.old) }
+    ensures err { IfErr result (λ _. length out.new ≡ length out.old) }
 {
     let mut buf = [0u8; 4096];
     let mut input = Input { at: 0, end: 0 };
@@ -116,7 +117,8 @@ pub fn octets<R: Read>(
     input: Input,
     out: &mut [u8],
 ) -> io::Result<Line>
-    ensures { IfOk result (λ line. line.count ≤ length out.old) }
+    ensures ok { IfOk result (λ line. line.count ≤ length out.old) }
+    ensures err { IfErr result (λ _. length out.new ≡ length out.old) }
 {
     let mut i = input;
     let mut k = 0;
@@ -164,7 +166,8 @@ pub fn numbers<R: Read>(
     input: Input,
     out: &mut [u32],
 ) -> io::Result<Line>
-    ensures { IfOk result (λ line. line.count ≤ length out.old) }
+    ensures ok { IfOk result (λ line. line.count ≤ length out.old) }
+    ensures err { IfErr result (λ _. length out.new ≡ length out.old) }
 {
     let mut i = input;
     let mut k = 0;
@@ -199,7 +202,8 @@ fn wide(x: u32) -> usize
 
 // The first number of the next line, which stands in the place of a count.
 pub fn single<R: Read>(from: &mut R, buf: &mut [u8], input: Input) -> io::Result<Line>
-    ensures { IfOk result (λ line. line.count ≤ 4294967295) }
+    ensures ok { IfOk result (λ line. line.count ≤ 4294967295) }
+    ensures err { IfErr result (λ _. length buf.new ≡ length buf.old) }
 {
     let mut one = [0u32; 2];
     let line = numbers(from, buf, input, &mut one)?;

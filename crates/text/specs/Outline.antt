@@ -1,4 +1,4 @@
--- The machine of crate json with its trees left out: a mode, whether a string is a name, and which brackets are open.
+-- The machine of crate json_text with its trees left out: a mode, whether a string is a name, and which brackets are open.
 -- `proofs/` shows that it goes on and refuses at each byte as the machine does; the code is this outline.
 use Rattle.std.specs.Prelude.{ℕ, suc, ◌+◌, ◌-◌, ◌*◌, ◌/◌, ◌%◌, ◌^◌, ◌<◌, ◌≡◌, List, [], ◌∷◌, Bool, true, false, ◌&&◌, leb, eqb, get_or}
 use Prim.Native.Char.{Char, code}

@@ -1,4 +1,4 @@
-// The machine of crate json with its trees left out, one byte a step.
+// The machine of crate json_text with its trees left out, one byte a step.
 ghost use Rattle.std.specs.Prelude.{◌≡◌, ◌≤◌};
 ghost use Rattle.text.specs.Class.{IsClasses};
 ghost use Rattle.text.specs.Outline.{goes, opens, closes, comma, quoted, does, step_of, begin, whole, IsMode, IsActs, Stays};

@@ -1,4 +1,4 @@
--- Loops that count k up to e: `every` and `firstWhere` over any test f, one turn at a time. b is what the code's test gave at k, and x what the loop
+-- Loops that count k up to e: `every` and `first_where` over any test f, one turn at a time. b is what the code's test gave at k, and x what the loop
 -- is to answer, which its invariant ties to what is left of the count. Assumes nothing.
 use mathlib.Core.Path.{◌≡◌, sym, ◌∙◌}
 use mathlib.Core.Bool.{Bool, true, false}

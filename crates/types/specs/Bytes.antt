@@ -1,4 +1,4 @@
--- The state of the code's UTF-8 check as that of `json`, and bytes that need none.
+-- The state of the code's UTF-8 check as that of `json_text`, and bytes that need none.
 use Rattle.std.specs.Prelude.{ℕ, ◌<◌, ◌≤◌, List, length, get_or}
 use Rattle.json_text.specs.Utf8.{Due, start, due, never}
 use Rattle.types.specs.declared.bytes.Due.{Due as State}

@@ -1,4 +1,4 @@
--- The parts of `jer`'s `firstBad` that the code picks by an enum, and what a first bad row answers.
+-- The parts of `jer`'s `first_bad` that the code picks by an enum, and what a first bad row answers.
 use Rattle.std.specs.Prelude.{ℕ, Bool, ◌&&◌, not, eqb}
 use Rattle.std.proofs.Math.Option.{Option, none, some}
 use Rattle.jer.specs.declared.Which.TheVariants.{TypeTable}

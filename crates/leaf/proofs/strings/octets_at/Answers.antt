@@ -12,7 +12,7 @@ returns-then-is_base64 c =
     let d = denoted a.s.now (a.place + 1) in
     record {
       by_index = λ ns. c.base64_octets.ensures.value ∙ ap found_of (base64-of (table a.types.now ns) a.row d (c.is_base64.ensures _ _ (c.at.ensures ns)) c.if-is_base64.true);
-      by_index_2 = λ ns h. stored_at _ _ (base64-of (table a.types.now ns) a.row d (c.is_base64.ensures _ _ (c.at.ensures ns)) c.if-is_base64.true) (c.wide-j.ensures.0 ∙ c.narrow.ensures h) c.base64_octets.ensures.stored
+      by_index_2 = λ ns h. stored_at _ _ (base64-of (table a.types.now ns) a.row d (c.is_base64.ensures _ _ (c.at.ensures ns)) c.if-is_base64.true) (c.wide-j.ensures.0 ∙ c.narrow.ensures h) c.base64_octets.ensures.stored;
     }
 
 pub returns : goal.returns
@@ -21,5 +21,5 @@ returns c =
     let d = denoted a.s.now (a.place + 1) in
     record {
       by_index = λ ns. c.hex_octets.ensures.value ∙ ap found_of (hex-of (table a.types.now ns) a.row d (c.is_base64.ensures _ _ (c.at.ensures ns)) c.if-is_base64.false);
-      by_index_2 = λ ns h. stored_at _ _ (hex-of (table a.types.now ns) a.row d (c.is_base64.ensures _ _ (c.at.ensures ns)) c.if-is_base64.false) (c.wide-j.ensures.0 ∙ c.narrow.ensures h) c.hex_octets.ensures.stored
+      by_index_2 = λ ns h. stored_at _ _ (hex-of (table a.types.now ns) a.row d (c.is_base64.ensures _ _ (c.at.ensures ns)) c.if-is_base64.false) (c.wide-j.ensures.0 ∙ c.narrow.ensures h) c.hex_octets.ensures.stored;
     }

@@ -1,4 +1,3 @@
-use Prim.Native.Nat.{◌-◌}
 use mathlib.Core.Path.{sym, ◌∙◌}
 use Rattle.lines.proofs.TakenLaws.{hex-none, hex-here, hex-more}
 use Rattle.lines.proofs.taken.is_hex.Goals as goal

@@ -1,4 +1,3 @@
-use Prim.Native.Nat.{◌-◌}
 use native.Mathlib.Omega.{arith}
 use Rattle.lines.proofs.TakenLaws.{line_none, line_here, line_more}
 use Rattle.lines.proofs.taken.line_len.Goals as goal

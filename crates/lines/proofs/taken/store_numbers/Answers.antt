@@ -1,4 +1,3 @@
-use Prim.Native.Nat.{◌-◌}
 use native.Mathlib.Omega.{arith}
 use Rattle.lines.proofs.TakenLaws.{numbers-next, numbers-stored}
 use Rattle.lines.proofs.taken.store_numbers.Goals as goal

@@ -1,4 +1,3 @@
-use Prim.Native.Nat.{◌-◌}
 use native.Mathlib.Omega.{arith}
 use Rattle.lines.proofs.TakenLaws.{octets-next, octets-stored}
 use Rattle.lines.proofs.taken.store_octets.Goals as goal

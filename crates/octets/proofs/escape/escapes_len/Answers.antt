@@ -1,4 +1,3 @@
-use Prim.Native.Nat.{◌-◌}
 use Rattle.octets.proofs.EscapeLaws.{counting-start, counting_more, counting-done}
 use Rattle.octets.proofs.escape.escapes_len.Goals as goal
 

@@ -1,4 +1,3 @@
-use Prim.Native.Nat.{◌-◌}
 use native.Mathlib.Omega.{arith}
 use Rattle.jer.specs.Write.{escapes}
 use Rattle.octets.proofs.EscapeLaws.{escapes-done, escapes-room, escapes-next}

@@ -1,5 +1,3 @@
-use Prim.Native.Nat.{◌-◌}
-use mathlib.Core.Bool.{true, false}
 use mathlib.Core.List.{[]}
 use native.Mathlib.Omega.{arith}
 use Rattle.jer.specs.Table.{table}

@@ -1,4 +1,3 @@
-use Prim.Native.Nat.{◌-◌}
 use native.Mathlib.Omega.{arith}
 use Rattle.spelled.specs.Octets.{Base64Byte}
 use Rattle.spelled.proofs.OctetLaws.{all-next, base64-none, base64-octets}

@@ -1,4 +1,3 @@
-use Prim.Native.Nat.{◌-◌}
 use native.Mathlib.Omega.{arith}
 use Rattle.spelled.specs.Octets.{HexByte}
 use Rattle.spelled.proofs.OctetLaws.{all-next, hex-octets}

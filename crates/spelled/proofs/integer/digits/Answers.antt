@@ -1,4 +1,3 @@
-use Prim.Native.Nat.{◌-◌}
 use native.Mathlib.Omega.{arith}
 use Rattle.spelled.proofs.NumberLaws.{onto_none, onto_more, few-one, few-more, few-small, few-room}
 use Rattle.spelled.proofs.integer.digits.Goals as goal

@@ -1,4 +1,3 @@
-use Prim.Native.Nat.{◌-◌}
 use native.Mathlib.Omega.{arith}
 use Rattle.spelled.proofs.AnyNumber.{digits-none, digits_more}
 use Rattle.spelled.proofs.number.digits.Goals as goal

@@ -1,4 +1,3 @@
-use Prim.Native.Nat.{◌-◌}
 use native.Mathlib.Omega.{arith}
 use Rattle.spelled.proofs.StringLaws.{selves_none, selves_more, selves_two, selves_three, selves_four, selves_join}
 use Rattle.spelled.proofs.plain.run.Goals as goal

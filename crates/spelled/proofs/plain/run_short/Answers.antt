@@ -1,4 +1,3 @@
-use Prim.Native.Nat.{◌-◌}
 use native.Mathlib.Omega.{arith}
 use Rattle.spelled.proofs.StringLaws.{selves_none, selves_more}
 use Rattle.spelled.proofs.plain.run_short.Goals as goal

@@ -1,4 +1,4 @@
-use Prim.Native.Nat.{◌+◌, ◌-◌}
+use Prim.Native.Nat.{◌+◌}
 use mathlib.Core.Path.{refl, ◌∙◌}
 use lib.ListN.{get_or, take, drop, length-set}
 use Rattle.spelled.proofs.PutLaws.{copy_start, copy_more, copy_end}

@@ -1,4 +1,4 @@
-use Prim.Native.Nat.{◌+◌, ◌-◌, ◌*◌, ◌%◌}
+use Prim.Native.Nat.{◌+◌, ◌*◌, ◌%◌}
 use mathlib.Core.Path.{refl, ◌∙◌}
 use lib.ListN.{take, drop, length-set}
 use native.Mathlib.Omega.{arith}

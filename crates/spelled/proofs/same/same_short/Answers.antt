@@ -1,4 +1,3 @@
-use Prim.Native.Nat.{◌-◌}
 use native.Mathlib.Omega.{arith}
 use Rattle.spelled.proofs.SameLaws.{same-all, same_not, short-more}
 use Rattle.spelled.proofs.same.same_short.Goals as goal
