@@ -23,10 +23,10 @@ const JERREAD: u32 = 4;
 // A type table and its names: judged.
 fn table_case(rt: HostRuntime, buf: &mut [u8], input: Input) -> io::Result<Line> {
     let mut rows = [0u32; 33000];
-    let a = numbers(&mut rt.stdin(), buf, input, &mut rows)?;
+    let a = numbers(&mut rt.stdin(), buf, input, &mut rows);
     let mut names = [0u8; 65600];
     let at = a.input;
-    let b = octets(&mut rt.stdin(), buf, at, &mut names)?;
+    let b = octets(&mut rt.stdin(), buf, at, &mut names);
     let judged = types::check(first_numbers(&rows, a.count), part(&names, 0, b.count));
     let mut out = [0u8; 21];
     let k = put_judged(&mut out, judged);
@@ -37,7 +37,7 @@ fn table_case(rt: HostRuntime, buf: &mut [u8], input: Input) -> io::Result<Line>
 // A text: judged.
 fn text_case(rt: HostRuntime, buf: &mut [u8], input: Input) -> io::Result<Line> {
     let mut text = [0u8; 65600];
-    let a = octets(&mut rt.stdin(), buf, input, &mut text)?;
+    let a = octets(&mut rt.stdin(), buf, input, &mut text);
     let mut out = [0u8; 21];
     let k = put_judged(&mut out, text::check(part(&text, 0, a.count)));
     rt.stdout().write_all(part(&out, 0, k))?;
@@ -88,11 +88,11 @@ fn read_text(
     names: &[u8],
 ) -> io::Result<Line> {
     let mut text = [0u8; 65600];
-    let c = octets(&mut rt.stdin(), buf, input, &mut text)?;
+    let c = octets(&mut rt.stdin(), buf, input, &mut text);
     let at = c.input;
-    let n = single(&mut rt.stdin(), buf, at)?;
+    let n = single(&mut rt.stdin(), buf, at);
     let next = n.input;
-    let m = single(&mut rt.stdin(), buf, next)?;
+    let m = single(&mut rt.stdin(), buf, next);
     read_answer(rt, types, names, part(&text, 0, c.count), n.count, m.count)?;
     Ok(m)
 }
@@ -136,12 +136,12 @@ fn write_values(
     names: &[u8],
 ) -> io::Result<Line> {
     let mut values = [0u32; 4096];
-    let c = numbers(&mut rt.stdin(), buf, input, &mut values)?;
+    let c = numbers(&mut rt.stdin(), buf, input, &mut values);
     let mut pool = [0u8; 16384];
     let at = c.input;
-    let d = octets(&mut rt.stdin(), buf, at, &mut pool)?;
+    let d = octets(&mut rt.stdin(), buf, at, &mut pool);
     let next = d.input;
-    let n = single(&mut rt.stdin(), buf, next)?;
+    let n = single(&mut rt.stdin(), buf, next);
     write_answer(
         rt,
         types,
@@ -156,10 +156,10 @@ fn write_values(
 // A type table and its names, and then a text to be read or a value table to be written.
 fn call_case(rt: HostRuntime, buf: &mut [u8], input: Input, kind: u32) -> io::Result<Line> {
     let mut types = [0u32; 33000];
-    let a = numbers(&mut rt.stdin(), buf, input, &mut types)?;
+    let a = numbers(&mut rt.stdin(), buf, input, &mut types);
     let mut names = [0u8; 65600];
     let at = a.input;
-    let b = octets(&mut rt.stdin(), buf, at, &mut names)?;
+    let b = octets(&mut rt.stdin(), buf, at, &mut names);
     let next = b.input;
     let rows = first_numbers(&types, a.count);
     let bytes = part(&names, 0, b.count);
@@ -172,7 +172,7 @@ fn call_case(rt: HostRuntime, buf: &mut [u8], input: Input, kind: u32) -> io::Re
 // The whole standard input of `jerread`: what it prints.
 fn jerread_case(rt: HostRuntime, buf: &mut [u8], input: Input) -> io::Result<Line> {
     let mut given = [0u8; 65600];
-    let a = octets(&mut rt.stdin(), buf, input, &mut given)?;
+    let a = octets(&mut rt.stdin(), buf, input, &mut given);
     let mut out = [0u8; 168000];
     let k = shell::reads::answer(part(&given, 0, a.count), &mut out);
     rt.stdout().write_all(part(&out, 0, k))?;
@@ -182,7 +182,7 @@ fn jerread_case(rt: HostRuntime, buf: &mut [u8], input: Input) -> io::Result<Lin
 // The same of `jerwrite`.
 fn jerwrite_case(rt: HostRuntime, buf: &mut [u8], input: Input) -> io::Result<Line> {
     let mut given = [0u8; 65600];
-    let a = octets(&mut rt.stdin(), buf, input, &mut given)?;
+    let a = octets(&mut rt.stdin(), buf, input, &mut given);
     let mut out = [0u8; 131200];
     let k = shell::writes::answer(part(&given, 0, a.count), &mut out);
     rt.stdout().write_all(part(&out, 0, k))?;
@@ -225,7 +225,7 @@ fn main(rt: HostRuntime) -> io::Result<()> {
     let mut turns: u32 = 4294967295;
     while 0 < turns {
         let mut head = [0u32; 3];
-        let line = numbers(&mut rt.stdin(), &mut buf, input, &mut head)?;
+        let line = numbers(&mut rt.stdin(), &mut buf, input, &mut head);
         if line.over {
             return Ok(());
         }

@@ -1,14 +1,14 @@
 // A reader's bytes for the programs, which pass standard input: what stands there collected, or its lines of hexadecimal read as they come.
 // Of what comes from the operating system a contract can give bounds alone: that it is what stands there is tested and not proved.
-// A read that fails ends the call with its error, the reader's own and no other; what was lent then has what was stored before.
+// A read that fails counts as the end of the input.
 // What is made of it and printed, the crates `lines` and `shell`, is proved.
 #![tactic(auto)]
 
-ghost use Rattle.std.specs.Prelude.{◌≤◌, ◌≡◌, length, IfOk, IfErr};
+ghost use Rattle.std.specs.Prelude.{◌≤◌, ◌≡◌, length};
 
 use lines::taken::DIGITS;
 use slices::byte_at;
-use std::io::{self, Read};
+use std::io::Read;
 
 // Where in its buffer the input stands.
 #[derive(Clone, Copy)]
@@ -33,8 +33,8 @@ pub struct Line {
 }
 
 // The next byte of the input, which is read anew where the buffer is used up.
-fn next_byte<R: Read>(from: &mut R, buf: &mut [u8], input: Input) -> io::Result<Next>
-    ensures { IfOk result (λ next. next.byte ≤ 256) }
+fn next_byte<R: Read>(from: &mut R, buf: &mut [u8], input: Input) -> Next
+    ensures { result.byte ≤ 256 }
 {
     let at = input.at;
     let end = input.end;
@@ -43,30 +43,32 @@ fn next_byte<R: Read>(from: &mut R, buf: &mut [u8], input: Input) -> io::Result<
             at: at + 1,
             end: end,
         };
-        return Ok(Next {
+        return Next {
             byte: byte_at(buf, at),
             input: i,
-        });
+        };
     }
-    let n = from.read(buf)?;
+    let n = match from.read(buf) {
+        Ok(n) => n,
+        Err(_) => 0,
+    };
     if n == 0 {
         let i = Input { at: 0, end: 0 };
-        return Ok(Next {
+        return Next {
             byte: 256,
             input: i,
-        });
+        };
     }
     let i = Input { at: 1, end: n };
-    Ok(Next {
+    Next {
         byte: byte_at(buf, 0),
         input: i,
-    })
+    }
 }
 
 // What is read of the input: up to the end of this many lines, or to a line that is too long.
-pub fn collect<R: Read>(from: &mut R, lines: u32, out: &mut [u8]) -> io::Result<usize>
-    ensures ok { IfOk result (λ n. n ≤ length out.old) }
-    ensures err { IfErr result (λ _. length out.new ≡ length out.old) }
+pub fn collect<R: Read>(from: &mut R, lines: u32, out: &mut [u8]) -> usize
+    ensures { result ≤ length out.old }
 {
     let mut buf = [0u8; 4096];
     let mut input = Input { at: 0, end: 0 };
@@ -74,28 +76,28 @@ pub fn collect<R: Read>(from: &mut R, lines: u32, out: &mut [u8]) -> io::Result<
     let mut digits = 0;
     let mut k = 0;
     while k < out.len() {
-        let a = next_byte(from, &mut buf, input)?;
+        let a = next_byte(from, &mut buf, input);
         let b = a.byte;
         if b == 256 {
-            return Ok(k);
+            return k;
         }
         out[k] = b as u8;
         k += 1;
         input = a.input;
         if b == 0x0A {
             if left <= 1 {
-                return Ok(k);
+                return k;
             }
             left -= 1;
             digits = 0;
         } else {
             if DIGITS <= digits {
-                return Ok(k);
+                return k;
             }
             digits += 1;
         }
     }
-    Ok(k)
+    k
 }
 
 // A hexadecimal digit's value, 0 for any other byte.
@@ -111,87 +113,75 @@ fn ends(b: u32) -> bool {
 }
 
 // The octets of a line.
-pub fn octets<R: Read>(
-    from: &mut R,
-    buf: &mut [u8],
-    input: Input,
-    out: &mut [u8],
-) -> io::Result<Line>
-    ensures ok { IfOk result (λ line. line.count ≤ length out.old) }
-    ensures err { IfErr result (λ _. length out.new ≡ length out.old) }
+pub fn octets<R: Read>(from: &mut R, buf: &mut [u8], input: Input, out: &mut [u8]) -> Line
+    ensures { result.count ≤ length out.old }
 {
     let mut i = input;
     let mut k = 0;
     while k < out.len() {
-        let a = next_byte(from, buf, i)?;
+        let a = next_byte(from, buf, i);
         let high = a.byte;
         let rest = a.input;
         if ends(high) {
-            return Ok(Line {
+            return Line {
                 count: k,
                 over: k == 0 && high == 256,
                 input: rest,
-            });
+            };
         }
-        let b = next_byte(from, buf, rest)?;
+        let b = next_byte(from, buf, rest);
         out[k] = (digit(high) * 16 + digit(b.byte)) as u8;
         i = b.input;
         k += 1;
     }
-    Ok(Line {
+    Line {
         count: k,
         over: false,
         input: i,
-    })
+    }
 }
 
 // One number of eight digits whose first is given.
-fn number<R: Read>(from: &mut R, buf: &mut [u8], input: Input, high: u32) -> io::Result<Next> {
+fn number<R: Read>(from: &mut R, buf: &mut [u8], input: Input, high: u32) -> Next {
     let mut i = input;
     let mut x = digit(high);
     let mut k: u32 = 1;
     while k < 8 {
-        let a = next_byte(from, buf, i)?;
+        let a = next_byte(from, buf, i);
         x = x % 268435456 * 16 + digit(a.byte);
         i = a.input;
         k += 1;
     }
-    Ok(Next { byte: x, input: i })
+    Next { byte: x, input: i }
 }
 
 // The numbers of a line.
-pub fn numbers<R: Read>(
-    from: &mut R,
-    buf: &mut [u8],
-    input: Input,
-    out: &mut [u32],
-) -> io::Result<Line>
-    ensures ok { IfOk result (λ line. line.count ≤ length out.old) }
-    ensures err { IfErr result (λ _. length out.new ≡ length out.old) }
+pub fn numbers<R: Read>(from: &mut R, buf: &mut [u8], input: Input, out: &mut [u32]) -> Line
+    ensures { result.count ≤ length out.old }
 {
     let mut i = input;
     let mut k = 0;
     while k < out.len() {
-        let a = next_byte(from, buf, i)?;
+        let a = next_byte(from, buf, i);
         let high = a.byte;
         let rest = a.input;
         if ends(high) {
-            return Ok(Line {
+            return Line {
                 count: k,
                 over: k == 0 && high == 256,
                 input: rest,
-            });
+            };
         }
-        let b = number(from, buf, rest, high)?;
+        let b = number(from, buf, rest, high);
         out[k] = b.byte;
         i = b.input;
         k += 1;
     }
-    Ok(Line {
+    Line {
         count: k,
         over: false,
         input: i,
-    })
+    }
 }
 
 fn wide(x: u32) -> usize
@@ -201,17 +191,16 @@ fn wide(x: u32) -> usize
 }
 
 // The first number of the next line, which stands in the place of a count.
-pub fn single<R: Read>(from: &mut R, buf: &mut [u8], input: Input) -> io::Result<Line>
-    ensures ok { IfOk result (λ line. line.count ≤ 4294967295) }
-    ensures err { IfErr result (λ _. length buf.new ≡ length buf.old) }
+pub fn single<R: Read>(from: &mut R, buf: &mut [u8], input: Input) -> Line
+    ensures { result.count ≤ 4294967295 }
 {
     let mut one = [0u32; 2];
-    let line = numbers(from, buf, input, &mut one)?;
+    let line = numbers(from, buf, input, &mut one);
     let rest = line.input;
     let n = one[0];
-    Ok(Line {
+    Line {
         count: wide(n),
         over: line.over,
         input: rest,
-    })
+    }
 }

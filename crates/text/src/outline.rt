@@ -72,6 +72,7 @@ fn opens(mode: u8, kind: u64, brackets: u64) -> Turn
     goes(mode, false, brackets * 2 + kind)
 }
 
+#[tactic(auto, unfolding(crate::specs::Outline::closes, crate::specs::Outline::closing))]
 fn closes(kind: u64, brackets: u64) -> Turn
     ensures { result ≡ closes kind brackets }
 {

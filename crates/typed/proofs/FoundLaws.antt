@@ -57,9 +57,9 @@ module _ (t : Table) (s : List ℕ) (r i q : ℕ) {b : Bool} where
     unfolding member_found
     member-absent h = rw (e, sym f ∙ h, member_found)
 
-    pub member-missing : m ≡ false → member.Missing ≡ member_found t s r i b q
+    pub member_missing : m ≡ false → member.Missing ≡ member_found t s r i b q
     unfolding member_found
-    member-missing h = rw (e, sym f ∙ h, member_found)
+    member_missing h = rw (e, sym f ∙ h, member_found)
 
   module _ (e : b ≡ true) {n a : Bool} (f : n ≡ is_null_at s q) (g : a ≡ null_absent t r i) where
     null_is : (is_null_at s q && null_absent t r i) ≡ (n && a)

@@ -20,6 +20,7 @@ use types::row::{Row, may_miss, member_at, type_at};
 use types::token::null_taken;
 
 // The member at k of the type at `row`, given whether it was met and where its value stands.
+#[tactic(auto, using(crate::proofs::FoundLaws::member_missing))]
 pub fn member_found(types: &[u32], s: &[u8], row: usize, k: u32, met: bool, q: usize) -> Member
     ensures { (ns : List ℕ) → result ≡ member_found (table types.now ns) s.now row k met q }
 {

@@ -8,10 +8,6 @@ pub returns-then-brackets-eq-NONE : goal.returns-then-brackets-eq-NONE
 unfolding closing closes
 returns-then-brackets-eq-NONE c = rw (eq-eqb c.args.brackets 1 c.if-brackets-eq-NONE.true)
 
-pub returns-then-brackets-kind : goal.returns-then-brackets-kind
-unfolding closing closes
-returns-then-brackets-kind c = rw (ne_eqb c.args.brackets 1 c.if-brackets-eq-NONE.false, ne_eqb (c.args.brackets % 2) c.args.kind c.if-brackets-kind.true)
-
 pub returns : goal.returns
 unfolding closing closes
 returns c =
