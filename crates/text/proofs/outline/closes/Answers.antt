@@ -1,3 +1,4 @@
+use native.Mathlib.Omega.{arith}
 use mathlib.Core.Path.{◌∙◌}
 use Prim.Native.Nat.{◌%◌}
 use borrow.Author.Tests.{eq-eqb, ne_eqb}
@@ -12,4 +13,4 @@ pub returns : goal.returns
 unfolding closing closes
 returns c =
     let brackets = c.args.brackets in
-    c.goes.ensures ∙ rw (ne_eqb c.args.brackets 1 c.if-brackets-eq-NONE.false, eq-eqb (brackets % 2) c.args.kind c.if-brackets-kind.false)
+    c.goes.ensures ∙ rw (ne_eqb c.args.brackets 1 c.if-brackets-eq-NONE.false, eq-eqb (brackets % 2) c.args.kind (omega arith))
