@@ -14,6 +14,9 @@ def main():
     for name, path in named:
         file = ROOT / path
         declared = file.is_file() and re.search(rf"^\s*(?:unfoldable |abbrev )?pub (?:(?:extern \"C\" )?fn |record |data )?{re.escape(name)}[ (:<]", file.read_text(), re.M)
+        # a trait's function is public without the word
+        trait_fn = rf"^impl .* for .*\{{\n(?:    .*\n|\n)*?    fn {re.escape(name)}\("
+        declared = declared or (file.suffix == ".rt" and re.search(trait_fn, file.read_text(), re.M))
         if not declared:
             wrong.append(f"{name} is not declared in {path}")
     paths = set(re.findall(r"`((?:crates|docs|examples|second|tools)/[^`\s*]+)`", page))

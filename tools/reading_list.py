@@ -53,6 +53,9 @@ def statement(path, name):
     """What a theorem states, or a function's contract, with the parameters of the modules around it."""
     text = (ROOT / path).read_text()
     if path.endswith(".rt"):
+        gives = re.search(rf"^\s*ghost {name}_gives = \{{.*?\}};$", text, re.M | re.S)
+        if gives:
+            return gives.group()
         head = re.split(r"^\s*\{$", re.split(rf"\bfn {name}[<(]", text, maxsplit=1)[1], maxsplit=1, flags=re.M)[0]
         clauses = re.search(r"^\s*(?:requires|ensures) .*", head, re.M | re.S)
         return clauses.group() if clauses else ""

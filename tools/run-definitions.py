@@ -34,18 +34,18 @@ unfoldable pub line_of : Values → List ℕ
 line_of v = 1 ∷ v.number ∷ v.first ∷ v.second ∷ []
 
 unfoldable pub of_judged : Judged → List ℕ
-of_judged judged.Good = 0 ∷ []
-of_judged (judged.Refused e) = line_of (values_of e)
+of_judged (Ok u) = 0 ∷ []
+of_judged (Err e) = line_of (values_of e)
 
 unfoldable pub of_reading : Table → Res Val → Reading → List ℕ
 of_reading t (no f) x = line_of (values_of f)
-of_reading t (ok v) (reading.Refused e) = line_of (values_of e)
-of_reading t (ok v) (reading.Read n m) = 0 ∷ (row_numbers t v ++ pool_of v)
+of_reading t (ok v) (Err e) = line_of (values_of e)
+of_reading t (ok v) (Ok c) = 0 ∷ (row_numbers t v ++ pool_of v)
 
 unfoldable pub of_writing : Res (List ℕ) → Writing → List ℕ
 of_writing (no f) x = line_of (values_of f)
-of_writing (ok s) (writing.Refused e) = line_of (values_of e)
-of_writing (ok s) (writing.Written n) = 0 ∷ s
+of_writing (ok s) (Err e) = line_of (values_of e)
+of_writing (ok s) (Ok n) = 0 ∷ s
 
 unfoldable pub run_table : List ℕ → List ℕ → List ℕ
 run_table rows names = of_judged (table_judged (record { rows = rows; names = names }))
@@ -167,8 +167,7 @@ PRELUDE = "use Rattle.std.specs.Prelude.{ℕ, ◌≡◌, refl, List, [], ◌∷�
 
 def write_modules(specs, chosen):
     uses, unfold = header()
-    declared = "Rattle.jer.specs.declared"
-    extra = [f"use {declared}.{t}.{{{t}}}\nuse {declared}.{t}.TheVariants as {t.lower()}" for t in ("Judged", "Reading", "Writing")]
+    extra = ["use Rattle.std.specs.Prelude.{Ok, Err}", "use Rattle.jer.specs.Answer.{Judged, Reading, Writing}"]
     types = ["use Rattle.jer.specs.Table.{Table}", "use Rattle.jer.specs.Value.{Val}", "use Rattle.jer.specs.Answer.{Res, ok, no, Values, values_of}"]
     runs = "\n".join(uses)
     (specs / "Runs.antt").write_text(PRELUDE + runs + "\n" + "\n".join(extra + types) + "\n" + RUNS)

@@ -1,5 +1,7 @@
 -- Demand 1 for the calls from C: two results that a contract allows are equal, in the number returned and in every number and byte lent; and a
 -- refused call leaves `rows`, `pool` and `text` as they were. `amounts`, where the refusal is told, is the one exception.
+use Rattle.std.specs.Prelude.{Err, Ok}
+use Rattle.jer.specs.Answer.{Judged, Reading, Readings, Writing}
 use Prim.Native.Nat.{ℕ}
 use mathlib.Core.Path.{◌≡◌, sym, ap, ◌∙◌}
 use mathlib.Core.List.{List}
@@ -8,12 +10,6 @@ use Rattle.jer.specs.declared.Which.TheVariants.{TypeTable, ValueTable}
 use Rattle.jer.specs.declared.Limit.TheVariants.{HouseSize, LentRoom}
 use Rattle.jer.specs.declared.Refusal.{Refusal}
 use Rattle.jer.specs.declared.Refusal.TheVariants.{AtByte, AtRow, Amounts}
-use Rattle.jer.specs.declared.Judged.{Judged}
-use Rattle.jer.specs.declared.Reading.{Reading}
-use Rattle.jer.specs.declared.Reading.TheVariants as reading
-use Rattle.jer.specs.declared.Readings.{Readings}
-use Rattle.jer.specs.declared.Writing.{Writing}
-use Rattle.jer.specs.declared.Writing.TheVariants as writing
 use Rattle.jer.specs.Table.{Table}
 use Rattle.jer.specs.Answer.{values_of}
 use Rattle.jer.specs.CallClauses.{ReadCall, WriteCall}
@@ -62,13 +58,13 @@ unfolding of_reading
 read_untouched_from-c {t} {s} {rows} {pool} {r = r} {rows' = rows'} {pool' = pool'} x h = go x.answer x.call x.number
   where
     go : (a : Reading) → ReadCall t s rows pool a rows' pool' → r ≡ (of_reading a).number → (rows' ≡ rows) × (pool' ≡ pool)
-    go (reading.Read n m) c e = absurd (h e)
-    go (reading.Refused f) c e = read_untouched t s rows pool f rows' pool' c
+    go (Ok z) c e = absurd (h e)
+    go (Err f) c e = read_untouched t s rows pool f rows' pool' c
 
 pub write_untouched_from-c : {t : Table} {ns pool text amounts : List ℕ} {r : ℕ} {text' amounts' : List ℕ} → WriteFromC t ns pool text amounts r text' amounts' → (r ≡ 0 → ⊥) → text' ≡ text
 unfolding of_writing
 write_untouched_from-c {t} {ns} {pool} {text} {r = r} {text' = text'} x h = go x.answer x.call x.number
   where
     go : (a : Writing) → WriteCall t ns pool text a text' → r ≡ (of_writing a).number → text' ≡ text
-    go (writing.Written n) c e = absurd (h e)
-    go (writing.Refused f) c e = write_untouched t ns pool text f text' c
+    go (Ok n) c e = absurd (h e)
+    go (Err f) c e = write_untouched t ns pool text f text' c

@@ -1,13 +1,7 @@
 -- What a call from C returns and what it leaves in `amounts`: a number with two amounts, for each answer of `jer`.
+use Rattle.std.specs.Prelude.{Err, Ok}
+use Rattle.jer.specs.Answer.{Judged, Reading, Readings, Writing}
 use Rattle.std.specs.Prelude.{ℕ, ◌≡◌, List, [], ◌∷◌}
-use Rattle.jer.specs.declared.Judged.{Judged}
-use Rattle.jer.specs.declared.Judged.TheVariants as judged
-use Rattle.jer.specs.declared.Reading.{Reading}
-use Rattle.jer.specs.declared.Reading.TheVariants as reading
-use Rattle.jer.specs.declared.Readings.{Readings}
-use Rattle.jer.specs.declared.Readings.TheVariants as readings
-use Rattle.jer.specs.declared.Writing.{Writing}
-use Rattle.jer.specs.declared.Writing.TheVariants as writing
 use Rattle.jer.specs.Table.{Table}
 use Rattle.jer.specs.Answer.{Values, values, values_of}
 use Rattle.jer.specs.CallClauses.{TableCall, ReadCall, WriteCall}
@@ -17,23 +11,23 @@ use Rattle.jer.specs.Each.{EachCall}
 
 -- a good type table: no amounts
 unfoldable pub of_table : Judged → Values
-of_table judged.Good = values 0 0 0
-of_table (judged.Refused e) = values_of e
+of_table (Ok tt) = values 0 0 0
+of_table (Err e) = values_of e
 
 -- a text that was read: value rows and pool bytes
 unfoldable pub of_reading : Reading → Values
-of_reading (reading.Read n m) = values 0 n m
-of_reading (reading.Refused e) = values_of e
+of_reading (Ok c) = values 0 c.rows c.pool
+of_reading (Err e) = values_of e
 
 -- many texts: how many are answered
 unfoldable pub of_readings : Readings → Values
-of_readings (readings.Answered n) = values 0 n 0
-of_readings (readings.Refused e) = values_of e
+of_readings (Ok n) = values 0 n 0
+of_readings (Err e) = values_of e
 
 -- a text that was written: its bytes
 unfoldable pub of_writing : Writing → Values
-of_writing (writing.Written n) = values 0 n 0
-of_writing (writing.Refused e) = values_of e
+of_writing (Ok n) = values 0 n 0
+of_writing (Err e) = values_of e
 
 -- `amounts` afterwards: its first two numbers are replaced; where it has room for less than two, nothing is stored
 unfoldable pub amounts_after : List ℕ → ℕ → ℕ → List ℕ

@@ -7,7 +7,7 @@ ghost use Rattle.jer.specs.Answer.{values_of};
 ghost use Rattle.jer.specs.Table.{table};
 ghost use Rattle.capi.specs.Answers.{amounts_after, amounts_by, TableFromC, ReadFromC, EachFromC, WriteFromC};
 
-use jer::{Judged, Reading, Readings, Refusal, Writing, report};
+use jer::{Counts, Refusal, Reported};
 use reading::each::read_each;
 
 // Stores two amounts, if there is room for both.
@@ -25,7 +25,7 @@ fn refused(amounts: &mut [u64], e: Refusal) -> u32
     ensures value { result ≡ (values_of e).number }
     ensures amounts_after { amounts.new ≡ amounts_by amounts.old (values_of e) }
 {
-    let t = report(e);
+    let t = Reported::from(e);
     told(amounts, t.first, t.second);
     t.number
 }
@@ -35,8 +35,8 @@ pub fn attrywind_check_table(types: &[u32], names: &[u8], amounts: &mut [u64]) -
     ensures { TableFromC (table types.now names.now) amounts.old result amounts.new }
 {
     match types::check(types, names) {
-        Judged::Refused(e) => refused(amounts, e),
-        Judged::Good => {
+        Err(e) => refused(amounts, e),
+        Ok(()) => {
             told(amounts, 0, 0);
             0
         }
@@ -55,9 +55,9 @@ pub fn attrywind_read(
     ensures { ReadFromC (table types.now names.now) text.now rows.old pool.old amounts.old result rows.new pool.new amounts.new }
 {
     match reading::read(types, names, text, rows, pool) {
-        Reading::Refused(e) => refused(amounts, e),
-        Reading::Read { rows: n, pool: m } => {
-            told(amounts, n as u64, m as u64);
+        Err(e) => refused(amounts, e),
+        Ok(c) => {
+            told(amounts, c.rows as u64, c.pool as u64);
             0
         }
     }
@@ -77,8 +77,8 @@ pub fn attrywind_read_each(
     ensures { EachFromC (table types.now names.now) texts.now ends.now rows.old pool.old tells.old amounts.old result rows.new pool.new tells.new amounts.new }
 {
     match read_each(types, names, texts, ends, rows, pool, tells) {
-        Readings::Refused(e) => refused(amounts, e),
-        Readings::Answered(n) => {
+        Err(e) => refused(amounts, e),
+        Ok(n) => {
             told(amounts, n as u64, 0);
             0
         }
@@ -97,8 +97,8 @@ pub fn attrywind_write(
     ensures { WriteFromC (table types.now names.now) values.now pool.now text.old amounts.old result text.new amounts.new }
 {
     match writing::write(types, names, values, pool, text) {
-        Writing::Refused(e) => refused(amounts, e),
-        Writing::Written(n) => {
+        Err(e) => refused(amounts, e),
+        Ok(n) => {
             told(amounts, n as u64, 0);
             0
         }

@@ -2,23 +2,35 @@
 // then the cases, each some lines of hexadecimal; second/README.md says which, and how each is answered.
 #![tactic(auto)]
 
-use jer::{Reading, Writing};
+use jer::{Counts, Refusal};
 use lines::shown::{put_judged, put_reading, put_writing};
-use lines::taken::first_numbers;
 use slices::part;
 use std::io::{self, Write};
 use stdin::{Input, Line, numbers, octets, single};
 
-// Kinds of parts; any other is of inputs to `jerwrite`.
-const TABLE: u32 = 0;
+// What the cases of a part are given to.
+#[derive(Clone, Copy)]
+enum Part {
+    Table,
+    Text,
+    Read,
+    Write,
+    JerRead,
+    JerWrite,
+}
 
-const TEXT: u32 = 1;
-
-const READ: u32 = 2;
-
-const WRITE: u32 = 3;
-
-const JERREAD: u32 = 4;
+impl From<u32> for Part {
+    fn from(kind: u32) -> Part {
+        match kind {
+            0 => Part::Table,
+            1 => Part::Text,
+            2 => Part::Read,
+            3 => Part::Write,
+            4 => Part::JerRead,
+            _ => Part::JerWrite,
+        }
+    }
+}
 
 // A type table and its names: judged.
 fn table_case(rt: HostRuntime, buf: &mut [u8], input: Input) -> io::Result<Line> {
@@ -27,7 +39,7 @@ fn table_case(rt: HostRuntime, buf: &mut [u8], input: Input) -> io::Result<Line>
     let mut names = [0u8; 65600];
     let at = a.input;
     let b = octets(&mut rt.stdin(), buf, at, &mut names);
-    let judged = types::check(first_numbers(&rows, a.count), part(&names, 0, b.count));
+    let judged = types::check(part(&rows, 0, a.count), part(&names, 0, b.count));
     let mut out = [0u8; 21];
     let k = put_judged(&mut out, judged);
     rt.stdout().write_all(part(&out, 0, k))?;
@@ -69,7 +81,7 @@ fn read_in(
     pool: &mut [u8],
     n: usize,
     m: usize,
-) -> Reading {
+) -> Result<Counts, Refusal> {
     if rows.len() < n {
         return reading::read(types, names, text, rows, pool);
     }
@@ -120,7 +132,7 @@ fn write_in(
     pool: &[u8],
     text: &mut [u8],
     n: usize,
-) -> Writing {
+) -> Result<usize, Refusal> {
     if text.len() < n {
         return writing::write(types, names, values, pool, text);
     }
@@ -146,7 +158,7 @@ fn write_values(
         rt,
         types,
         names,
-        first_numbers(&values, c.count),
+        part(&values, 0, c.count),
         part(&pool, 0, d.count),
         n.count,
     )?;
@@ -154,19 +166,19 @@ fn write_values(
 }
 
 // A type table and its names, and then a text to be read or a value table to be written.
-fn call_case(rt: HostRuntime, buf: &mut [u8], input: Input, kind: u32) -> io::Result<Line> {
+fn call_case(rt: HostRuntime, buf: &mut [u8], input: Input, kind: Part) -> io::Result<Line> {
     let mut types = [0u32; 33000];
     let a = numbers(&mut rt.stdin(), buf, input, &mut types);
     let mut names = [0u8; 65600];
     let at = a.input;
     let b = octets(&mut rt.stdin(), buf, at, &mut names);
     let next = b.input;
-    let rows = first_numbers(&types, a.count);
+    let rows = part(&types, 0, a.count);
     let bytes = part(&names, 0, b.count);
-    if kind == READ {
-        return read_text(rt, buf, next, rows, bytes);
+    match kind {
+        Part::Read => read_text(rt, buf, next, rows, bytes),
+        _ => write_values(rt, buf, next, rows, bytes),
     }
-    write_values(rt, buf, next, rows, bytes)
 }
 
 // The whole standard input of `jerread`: what it prints.
@@ -190,13 +202,13 @@ fn jerwrite_case(rt: HostRuntime, buf: &mut [u8], input: Input) -> io::Result<Li
 }
 
 // Answers the next case of a part.
-fn one(rt: HostRuntime, buf: &mut [u8], input: Input, kind: u32) -> io::Result<Line> {
+fn one(rt: HostRuntime, buf: &mut [u8], input: Input, kind: Part) -> io::Result<Line> {
     match kind {
-        TABLE => table_case(rt, buf, input),
-        TEXT => text_case(rt, buf, input),
-        READ | WRITE => call_case(rt, buf, input, kind),
-        JERREAD => jerread_case(rt, buf, input),
-        _ => jerwrite_case(rt, buf, input),
+        Part::Table => table_case(rt, buf, input),
+        Part::Text => text_case(rt, buf, input),
+        Part::Read | Part::Write => call_case(rt, buf, input, kind),
+        Part::JerRead => jerread_case(rt, buf, input),
+        Part::JerWrite => jerwrite_case(rt, buf, input),
     }
 }
 
@@ -205,33 +217,29 @@ fn cases(
     rt: HostRuntime,
     buf: &mut [u8],
     input: Input,
-    kind: u32,
+    kind: Part,
     count: u32,
 ) -> io::Result<Input> {
     let mut at = input;
-    let mut left = count;
-    while 0 < left {
+    for _ in 0..count {
         let line = one(rt, buf, at, kind)?;
         at = line.input;
-        left -= 1;
     }
     Ok(at)
 }
 
-// Nothing says that the input ends: the loop counts its turns down from a number that no run uses up.
+// Nothing says that the input ends: the loop takes no more turns than a number that no run uses up.
 fn main(rt: HostRuntime) -> io::Result<()> {
     let mut buf = [0u8; 65536];
     let mut input = Input { at: 0, end: 0 };
-    let mut turns: u32 = 4294967295;
-    while 0 < turns {
+    for _ in 0..u32::MAX {
         let mut head = [0u32; 3];
         let line = numbers(&mut rt.stdin(), &mut buf, input, &mut head);
         if line.over {
             return Ok(());
         }
         let at = line.input;
-        input = cases(rt, &mut buf, at, head[0], head[1])?;
-        turns -= 1;
+        input = cases(rt, &mut buf, at, Part::from(head[0]), head[1])?;
     }
     Ok(())
 }

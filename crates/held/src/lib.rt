@@ -1,6 +1,5 @@
-// A reader that holds the lent text together with its place, for the outermost tokens. Each function over it is thin: it takes the
-// struct apart and calls a covered function on the slice and the number. `outermost`, whose parameter is a plain slice, stands above, and
-// serves `reading::read`.
+// A reader that holds the lent text together with its place, for the outermost tokens. `outermost`, whose parameter is a
+// plain slice, stands above, and serves `reading::read`.
 #![tactic(auto)]
 
 ghost use Rattle.std.specs.Prelude.{◌≡◌};
@@ -15,34 +14,29 @@ pub struct Reader<'a> {
     pub at: usize,
 }
 
-// A reader at the text's start.
-pub fn new<'a>(src: &'a [u8]) -> Reader<'a>
-    ensures { (result.src ≡ src.entry) × (result.at ≡ 0) }
-{
-    Reader { src, at: 0 }
-}
+impl<'a> Reader<'a> {
+    // A reader at the text's start.
+    pub fn new(src: &'a [u8]) -> Reader<'a>
+        ensures { (result.src ≡ src.entry) × (result.at ≡ 0) }
+    {
+        Reader { src, at: 0 }
+    }
 
-// The place of the next token.
-fn token_at(s: &[u8], p: usize) -> usize
-    ensures { result ≡ past_space s.now p }
-{
-    let c = Cursor { at: p };
-    let d = c.skip_space(s);
-    d.at
-}
-
-// Past white space.
-pub fn to_token<'a>(r: Reader<'a>) -> Reader<'a>
-    ensures { (result.src ≡ r.entry.src) × (result.at ≡ past_space r.entry.src.now r.entry.at) }
-{
-    let at = token_at(r.src, r.at);
-    Reader { src: r.src, at }
+    // Past white space.
+    pub fn to_token(self) -> Reader<'a>
+        ensures { (result.src ≡ self.entry.src) × (result.at ≡ past_space self.entry.src.now self.entry.at) }
+    {
+        let cursor = Cursor { at: self.at }.skip_space(self.src);
+        Reader {
+            src: self.src,
+            at: cursor.at,
+        }
+    }
 }
 
 // The place of the outermost token of a text, its length if there is none. Callers need no walk.
 pub fn outermost(s: &[u8]) -> usize
     ensures { result ≡ past_space s.now 0 }
 {
-    let r = to_token(new(s));
-    r.at
+    Reader::new(s).to_token().at
 }

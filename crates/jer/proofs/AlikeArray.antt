@@ -3,7 +3,7 @@ use Prim.Native.Nat.{ℕ, zero, suc, ◌+◌, ◌≤◌}
 use mathlib.Core.Path.{◌≡◌, refl}
 use mathlib.Core.List.{List, [], ◌∷◌}
 use mathlib.Core.Bool.{true, ◌&&◌}
-use mathlib.Core.Option.{Option, none, some}
+use Rattle.std.specs.Prelude.{Option, None, Some}
 use native.Mathlib.Omega.{arith}
 use lib.Dec.{eqb}
 use Rattle.jer.specs.Table.{Table, SEQUENCE-OF, kind_of, extensible, is_array, element_of, count_of, type_at, may_miss, open_unwrapped}
@@ -49,16 +49,16 @@ module _ (t : Table) (r o u : ℕ) where
   unfolding missing_element
   missing-same i = go (null_value t (type_at t r i)) (same_test (open_unwrapped t (type_at t r i)) (same_cause _ o u) (same_cause _ o u))
     where
-      go : (x : Option Val) {y z : Res Val} → SameAnswer y z → SameAnswer {A = Val} (elim x [ some v ↦ ok v | none ↦ y ]) (elim x [ some v ↦ ok v | none ↦ z ])
-      go none h = h
-      go (some v) h = same_value
+      go : (x : Option Val) {y z : Res Val} → SameAnswer y z → SameAnswer {A = Val} (elim x [ Some v ↦ ok v | None ↦ y ]) (elim x [ Some v ↦ ok v | None ↦ z ])
+      go None h = h
+      go (Some v) h = same_value
 
-  no-element-same : (i : ℕ) {x y : Res Parts} → SameAnswer x y → SameAnswer (read_element t r o i none x) (read_element t r u i none y)
+  no-element-same : (i : ℕ) {x y : Res Parts} → SameAnswer x y → SameAnswer (read_element t r o i None x) (read_element t r u i None y)
   unfolding read_element
   no-element-same i h = same_test (may_miss t r i) (same-absent h) (same-present (missing-same i) h)
 
   element-same : (i : ℕ) (e f : Element) {x y : Res Parts} → e.is_null ≡ f.is_null → SameAnswer (e.means (type_at t r i)) (f.means (type_at t r i)) → SameAnswer x y
-      → SameAnswer (read_element t r o i (some e) x) (read_element t r u i (some f) y)
+      → SameAnswer (read_element t r o i (Some e) x) (read_element t r u i (Some f) y)
   unfolding read_element
   element-same i e f z m h = rw (z, read_element) (same_test (f.is_null && may_miss t r i) (same-absent h) (same-present m h))
 

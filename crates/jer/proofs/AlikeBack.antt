@@ -1,7 +1,7 @@
 -- Respelling can be undone: the relation is symmetric, and every tree is a respelling of itself.
 use Prim.Native.Nat.{ℕ}
 use mathlib.Core.Path.{sym}
-use mathlib.Core.Option.{Option}
+use Rattle.std.specs.Prelude.{Option}
 use Rattle.json_text.specs.Tree.{Json, jnull, jbool, jint, jreal, jstr, jarr, jobj, Items, inil, icons, Members, mnil, mcons}
 use Rattle.jer.specs.Table.{Table}
 use Rattle.jer.specs.Moved.{Moved, null, boolean, number, real, string, array, object, MovedItems, no_item, item, MovedMembers, no_member, member}

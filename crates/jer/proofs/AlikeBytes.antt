@@ -2,7 +2,7 @@
 use Prim.Native.Nat.{ℕ, suc, ◌+◌, ◌≤◌}
 use mathlib.Core.Path.{◌≡◌, refl, ◌∙◌}
 use mathlib.Core.List.{List, [], ◌∷◌, ◌++◌}
-use mathlib.Core.Option.{none}
+use Rattle.std.specs.Prelude.{None}
 use native.Mathlib.Omega.{arith}
 use lib.ListN.{length}
 use Rattle.json_text.specs.Bytes.{past}
@@ -51,7 +51,7 @@ value-place (members x) = refl
 one-tree : {d : ℕ} {j k : Json} (s : List ℕ) → Text d j s → Text d k s → j ≡ k
 one-tree {d} {j} {k} s x y = cc (takes_text d j s x, takes_text d k s y)
 
-pub skipped-bytes : {t : Table} {i j : Json} (s : List ℕ) → first_bad t ≡ none → Text 32 j s → length s ≤ 65536 → Skips t i 0 j → Replaceable t s i
+pub skipped-bytes : {t : Table} {i j : Json} (s : List ℕ) → first_bad t ≡ None → Text 32 j s → length s ≤ 65536 → Skips t i 0 j → Replaceable t s i
 skipped-bytes {t} {i} {j} s good x l h =
     let g = valid_sane t good in
     let c = text-splits t i 32 h x in

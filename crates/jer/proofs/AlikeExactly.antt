@@ -1,5 +1,6 @@
 -- Demand 2, the other way: only respellings are read as the same value. With `respelled-reads`, two trees of which one is read are respellings
 -- of one another exactly if the other is read as the same value.
+use Rattle.jer.specs.declared.Token.TheVariants as tok
 use Prim.Native.Nat.{ℕ}
 use mathlib.Core.Path.{◌≡◌, refl, sym, ◌∙◌}
 use mathlib.Core.List.{List}
@@ -9,7 +10,7 @@ use lib.Dec.{eqb}
 use borrow.Author.Tests.{eqb-true, not-true}
 use Rattle.json_text.specs.Tree.{Json, jnull, jbool, jint, jreal, jstr, jarr, jobj, Items, inil, icons, Members, mnil, mcons}
 use Rattle.jer.specs.declared.Cause.TheVariants.{BadNumber}
-use Rattle.jer.specs.Table.{Table, BOOLEAN, INTEGER, SEQUENCE, SEQUENCE-OF, CHOICE, kind_of, is_array, is_unwrapped, element_of, count_of, t_boolean, t_number, t_string, t_array, t_object}
+use Rattle.jer.specs.Table.{Table, BOOLEAN, INTEGER, SEQUENCE, SEQUENCE-OF, CHOICE, kind_of, is_array, is_unwrapped, element_of, count_of}
 use Rattle.jer.specs.Value.{Val, v_bool, v_seq, v_list}
 use Rattle.jer.specs.Answer.{ok, bind, at}
 use Rattle.jer.specs.Read.{read_int, read_string, unwrapping, read_elements, read_items, read_array, read_braces, read, elements, entries}
@@ -37,7 +38,7 @@ module _ (t : Table) (r : ℕ) (w : is_unwrapped t r ≡ false) (v : Val) where
   unfolding read unwrapping
   bool_plain p b e = (at-kind t r BOOLEAN p (ok (v_bool b)) v (rw (w, unwrapping) at e)).1
 
-  bool_case : {k : Json} (p : ℕ) (b : Bool) → Shape t_boolean k → read (jbool p b) t r ≡ ok v → read k t r ≡ ok v → Respelled t r (jbool p b) k
+  bool_case : {k : Json} (p : ℕ) (b : Bool) → Shape tok.Boolean k → read (jbool p b) t r ≡ ok v → read k t r ≡ ok v → Respelled t r (jbool p b) k
   bool_case p b (is_bool {p = q} {b = c}) e f = let z : b ≡ c = cc (bool_plain p b e, bool_plain q c f) in rw z (spell.moved moved.boolean)
 
   int-plain : (p : ℕ) (m : Bool) (n : ℕ) → read (jint p m n) t r ≡ ok v → read_int p m n ≡ ok v
@@ -48,7 +49,7 @@ module _ (t : Table) (r : ℕ) (w : is_unwrapped t r ≡ false) (v : Val) where
   unfolding read unwrapping
   real-plain p e = refused (at-kind t r INTEGER p (at BadNumber p) v (rw (w, unwrapping) at e)).1
 
-  int-case : {k : Json} (p : ℕ) (m : Bool) (n : ℕ) → Shape t_number k → read (jint p m n) t r ≡ ok v → read k t r ≡ ok v → Respelled t r (jint p m n) k
+  int-case : {k : Json} (p : ℕ) (m : Bool) (n : ℕ) → Shape tok.Number k → read (jint p m n) t r ≡ ok v → read k t r ≡ ok v → Respelled t r (jint p m n) k
   int-case p m n (is_int {p = q} {n = o} {m = l}) e f = number-only t r p q m l n o v (int-plain p m n e) (int-plain q l o f)
   int-case p m n (is_real {p = q}) e f = real-plain q f
 
@@ -56,7 +57,7 @@ module _ (t : Table) (r : ℕ) (w : is_unwrapped t r ≡ false) (v : Val) where
   unfolding read unwrapping
   string-plain p s e = rw (w, unwrapping) at e
 
-  string-case : {k : Json} (p : ℕ) (s : List ℕ) → Shape t_string k → read (jstr p s) t r ≡ ok v → read k t r ≡ ok v → Respelled t r (jstr p s) k
+  string-case : {k : Json} (p : ℕ) (s : List ℕ) → Shape tok.String k → read (jstr p s) t r ≡ ok v → read k t r ≡ ok v → Respelled t r (jstr p s) k
   string-case p s (is_string {p = q} {s = u}) e f = string-only t r p q s u v (string-plain p s e) (string-plain q u f)
 
   -- ---- arrays
@@ -77,7 +78,7 @@ module _ (t : Table) (r : ℕ) (w : is_unwrapped t r ≡ false) (v : Val) where
       let z : b.val ≡ a.val = cc (a.then, b.then) in
       spell.elements k (elements-only t n r p q (count_of t r) 0 is js a.val h (omega arith) a.first (rw z at b.first))
 
-  brackets-case : {k : Json} (p : ℕ) (is : Items) → ((r : ℕ) → Only t (jnull 0) r) → OnlyItems t is → Shape t_array k → read (jarr p is) t r ≡ ok v → read k t r ≡ ok v → Respelled t r (jarr p is) k
+  brackets-case : {k : Json} (p : ℕ) (is : Items) → ((r : ℕ) → Only t (jnull 0) r) → OnlyItems t is → Shape tok.Array k → read (jarr p is) t r ≡ ok v → read k t r ≡ ok v → Respelled t r (jarr p is) k
   unfolding read_array
   brackets-case p is n h (is_brackets {p = q} {is = js}) e f =
       go (eqb (kind_of t r) SEQUENCE-OF) refl (is_array t r) refl (sym (brackets_as t r p is w) ∙ e) (sym (brackets_as t r q js w) ∙ f)
@@ -89,7 +90,7 @@ module _ (t : Table) (r : ℕ) (w : is_unwrapped t r ≡ false) (v : Val) where
 
   -- ---- objects
 
-  braces-case : {k : Json} (p : ℕ) (ms : Members) → OnlyMembers t ms → Shape t_object k → read (jobj p ms) t r ≡ ok v → read k t r ≡ ok v → Respelled t r (jobj p ms) k
+  braces-case : {k : Json} (p : ℕ) (ms : Members) → OnlyMembers t ms → Shape tok.Object k → read (jobj p ms) t r ≡ ok v → read k t r ≡ ok v → Respelled t r (jobj p ms) k
   unfolding read_braces
   braces-case p ms h (is_braces {p = q} {ms = ns}) e f =
       go (eqb (kind_of t r) CHOICE) refl (eqb (kind_of t r) SEQUENCE && not (is_array t r)) refl (sym (braces_as t r p ms w) ∙ e) (sym (braces_as t r q ns w) ∙ f)

@@ -1,14 +1,15 @@
 -- What one result reads, the other reads too: laws of results, and arrays with nulls at the end.
+use Rattle.jer.specs.declared.Token.TheVariants as tok
 use Prim.Native.Nat.{ℕ, zero, suc, ◌+◌, ◌≤◌, ◌<◌}
 use mathlib.Core.Path.{◌≡◌, refl, ap, ◌∙◌}
 use mathlib.Core.List.{List, [], ◌∷◌}
 use mathlib.Core.Bool.{Bool, true, false, ◌&&◌}
-use mathlib.Core.Option.{Option, none, some}
+use Rattle.std.specs.Prelude.{Option, None, Some}
 use native.Mathlib.Omega.{arith}
 use lib.Dec.{eqb}
 use borrow.Author.Tests.{eqb-true}
 use Rattle.json_text.specs.Tree.{jnull}
-use Rattle.jer.specs.Table.{Table, NULL, kind_of, extensible, is_unwrapped, count_of, type_at, may_miss, t_null, alternative, open_unwrapped}
+use Rattle.jer.specs.Table.{Table, NULL, kind_of, extensible, is_unwrapped, count_of, type_at, may_miss, alternative, open_unwrapped}
 use Rattle.jer.specs.Value.{Val, v_null, v_choice, vcons, Parts, absent, present}
 use Rattle.jer.specs.Answer.{Res, ok, bind}
 use Rattle.jer.specs.Read.{Element, with_absent, with_present, null_value, missing_element, read_element, surplus, read_elements, read_items, null?, read}
@@ -65,15 +66,15 @@ items_kept r (more h t) = keeps-bind h (λ v. keeps-map (vcons v) (items_kept r 
 -- ---- null and a missing element
 
 -- the null value is what null is read as
-pub value-of-null : (t : Table) (r p : ℕ) (v : Val) → null_value t r ≡ some v → read (jnull p) t r ≡ ok v
+pub value-of-null : (t : Table) (r p : ℕ) (v : Val) → null_value t r ≡ Some v → read (jnull p) t r ≡ ok v
 unfolding null_value token_in bind
 value-of-null t r p v =
-    cases (is_unwrapped t r) (λ w. chosen (alternative t r t_null) refl w) (λ w. cases (eqb (kind_of t r) NULL) (λ k e. null-read t r p (eqb-true _ _ k) ∙ ap ok (found e)) (λ k e. nothing e))
+    cases (is_unwrapped t r) (λ w. chosen (alternative t r tok.Null) refl w) (λ w. cases (eqb (kind_of t r) NULL) (λ k e. null-read t r p (eqb-true _ _ k) ∙ ap ok (found e)) (λ k e. nothing e))
   where
-    chosen : (x : Option ℕ) → alternative t r t_null ≡ x → is_unwrapped t r ≡ true → ◌≡◌ {A = Option Val} (elim x [ none ↦ none | some i ↦ some (v_choice i v_null) ]) (some v) → read (jnull p) t r ≡ ok v
-    chosen none a w e = nothing e
-    chosen (some i) a w e =
-        let k = null-kind t (type_at t r i) (alternative-some t r t_null i a).1 in
+    chosen : (x : Option ℕ) → alternative t r tok.Null ≡ x → is_unwrapped t r ≡ true → ◌≡◌ {A = Option Val} (elim x [ None ↦ None | Some i ↦ Some (v_choice i v_null) ]) (Some v) → read (jnull p) t r ≡ ok v
+    chosen None a w e = nothing e
+    chosen (Some i) a w e =
+        let k = null-kind t (type_at t r i) (alternative-some t r tok.Null i a).1 in
         picked_as (jnull p) t r i w a (wrapped t _ NULL k (λ z. omega arith)) ∙ rw (null-read t (type_at t r i) p k) (ap ok (found e))
 
 module _ (t : Table) (r o u i : ℕ) where
@@ -86,8 +87,8 @@ module _ (t : Table) (r o u i : ℕ) where
   null-added = record { keeps = λ v. go (null_value t (type_at t r i)) refl v }
     where
       go : (x : Option Val) → null_value t (type_at t r i) ≡ x → (v : Val) → missing_element t r o i ≡ ok v → read (jnull u) t (type_at t r i) ≡ ok v
-      go none n v e = refused-both (open_unwrapped t (type_at t r i)) _ _ (rw (n, missing_element) at e)
-      go (some w) n v e = value-of-null t (type_at t r i) u v (n ∙ ap some (got (rw (n, missing_element) at e)))
+      go None n v e = refused-both (open_unwrapped t (type_at t r i)) _ _ (rw (n, missing_element) at e)
+      go (Some w) n v e = value-of-null t (type_at t r i) u v (n ∙ ap Some (got (rw (n, missing_element) at e)))
 
 -- ---- elements in member order
 

@@ -1,9 +1,10 @@
 -- Trees that differ only in places are read alike at every row.
+use Rattle.jer.specs.declared.Token.TheVariants as tok
 use Prim.Native.Nat.{ℕ, suc}
 use mathlib.Core.Path.{◌≡◌, refl}
-use mathlib.Core.Option.{some}
+use Rattle.std.specs.Prelude.{Some}
 use Rattle.json_text.specs.Tree.{Json, jnull, jbool, jint, jreal, jstr, jarr, jobj, Items, Members}
-use Rattle.jer.specs.Table.{Table, BOOLEAN, INTEGER, NULL, t_null, t_boolean, t_number, t_string, t_array, t_object, token_code, code_of, same_token, type_at}
+use Rattle.jer.specs.Table.{Table, BOOLEAN, INTEGER, NULL, token_code, code_of, same_token, type_at}
 use Rattle.jer.specs.Read.{null?, read, elements, entries}
 use Rattle.jer.specs.Moved.{Moved, null, boolean, number, real, string, array, object, MovedItems, no_item, item, MovedMembers, no_member, member, token_in}
 use Rattle.jer.specs.Skipped.{SameAnswer, same_value}
@@ -15,7 +16,7 @@ use Rattle.jer.proofs.AlikeObject.{Twin, twin, braces-same}
 
 -- ---- tokens
 
-pub null-token : (j : Json) → null? j ≡ same_token (some (token_in j)) (some t_null)
+pub null-token : (j : Json) → null? j ≡ same_token (Some (token_in j)) (Some tok.Null)
 unfolding null? token_in same_token code_of token_code
 null-token (jnull p) = refl
 null-token (jbool p b) = refl
@@ -49,13 +50,13 @@ module _ (t : Table) (g : Sane t) where
     unfolding read
 
     pub moved_same : {j k : Json} → Moved j k → (r : ℕ) → SameAnswer (read j t r) (read k t r)
-    moved_same (null {p = p} {q = q}) r = unwrapping-same t p q t_null _ _ (λ r. kind-same t p q NULL r same_value) r
-    moved_same (boolean {p = p} {q = q}) r = unwrapping-same t p q t_boolean _ _ (λ r. kind-same t p q BOOLEAN r same_value) r
-    moved_same (number {p = p} {q = q} {n = n} {m = m}) r = unwrapping-same t p q t_number _ _ (λ r. kind-same t p q INTEGER r (int_same t p q m n)) r
-    moved_same (real {p = p} {q = q}) r = unwrapping-same t p q t_number _ _ (λ r. kind-same t p q INTEGER r (same_cause _ p q)) r
-    moved_same (string {p = p} {q = q} {s = s}) r = unwrapping-same t p q t_string _ _ (string-same t p q s) r
-    moved_same (array {p = p} {q = q} h) r = unwrapping-same t p q t_array _ _ (λ r. array_same t r p q (moved-items h _) (moved-elements h r 0)) r
-    moved_same (object {p = p} {q = q} h) r = unwrapping-same t p q t_object _ _ (λ r. braces-same t r p q g (moved-entries h r)) r
+    moved_same (null {p = p} {q = q}) r = unwrapping-same t p q tok.Null _ _ (λ r. kind-same t p q NULL r same_value) r
+    moved_same (boolean {p = p} {q = q}) r = unwrapping-same t p q tok.Boolean _ _ (λ r. kind-same t p q BOOLEAN r same_value) r
+    moved_same (number {p = p} {q = q} {n = n} {m = m}) r = unwrapping-same t p q tok.Number _ _ (λ r. kind-same t p q INTEGER r (int_same t p q m n)) r
+    moved_same (real {p = p} {q = q}) r = unwrapping-same t p q tok.Number _ _ (λ r. kind-same t p q INTEGER r (same_cause _ p q)) r
+    moved_same (string {p = p} {q = q} {s = s}) r = unwrapping-same t p q tok.String _ _ (string-same t p q s) r
+    moved_same (array {p = p} {q = q} h) r = unwrapping-same t p q tok.Array _ _ (λ r. array_same t r p q (moved-items h _) (moved-elements h r 0)) r
+    moved_same (object {p = p} {q = q} h) r = unwrapping-same t p q tok.Object _ _ (λ r. braces-same t r p q g (moved-entries h r)) r
 
     moved-items : {is js : Items} → MovedItems is js → (r : ℕ) → Each (ReadAlike r) (elements is t) (elements js t)
     moved-items no_item r = end

@@ -1,12 +1,13 @@
 -- Objects with members in any order: which names are met, and what is found under them.
+use Rattle.std.specs.Prelude.{is_some}
 use Prim.Native.Nat.{ℕ, zero, suc, ◌+◌, ◌≤◌, ◌<◌}
 use mathlib.Core.Path.{◌≡◌, refl, sym, ◌∙◌}
 use mathlib.Core.List.{List, [], ◌∷◌}
 use mathlib.Core.Bool.{Bool, true, false, ◌&&◌, ◌||◌, not}
-use mathlib.Core.Option.{Option, none, some}
+use Rattle.std.specs.Prelude.{Option, None, Some}
 use native.Mathlib.Omega.{arith}
 use Rattle.json_text.specs.Tree.{Json, jnull, Members, mnil, mcons}
-use Rattle.jer.specs.Table.{Table, extensible, count_of, optional, type_at, name_at, may_miss, addition, same_bytes, position, is_some, null_taken}
+use Rattle.jer.specs.Table.{Table, extensible, count_of, optional, type_at, name_at, may_miss, addition, same_bytes, position, null_taken}
 use Rattle.jer.specs.Value.{v_seq, Parts}
 use Rattle.jer.specs.Answer.{Res, ok, bind}
 use Rattle.jer.specs.Read.{Entry, lookup, names_good, null_absent, read_member, read_members, read_object, null?, read, entries}
@@ -25,12 +26,12 @@ abbrev pub entry_of : Table → ℕ → List ℕ → Json → Entry
 entry_of t p s j = record { place = p; name = s; is_null = null? j; means = λ r. read j t r }
 
 pub data Holds (t : Table) : Option Json → Option Entry → Type 0 where
-  empty : Holds t none none
-  holds : {p : ℕ} {s : List ℕ} {j : Json} → Holds t (some j) (some (entry_of t p s j))
+  empty : Holds t None None
+  holds : {p : ℕ} {s : List ℕ} {j : Json} → Holds t (Some j) (Some (entry_of t p s j))
 
 -- one member more, looked at by its name: it is found, or what is found without it
 pub data Ahead (t : Table) (s : List ℕ) (p : ℕ) (u : List ℕ) (j : Json) (ms : Members) : Type 0 where
-  same : u ≡ s → held (mcons p u j ms) s ≡ some j → ((xs : List Entry) → lookup s (entry_of t p u j ∷ xs) ≡ some (entry_of t p u j)) → Ahead t s p u j ms
+  same : u ≡ s → held (mcons p u j ms) s ≡ Some j → ((xs : List Entry) → lookup s (entry_of t p u j ∷ xs) ≡ Some (entry_of t p u j)) → Ahead t s p u j ms
   other : held (mcons p u j ms) s ≡ held ms s → ((xs : List Entry) → lookup s (entry_of t p u j ∷ xs) ≡ lookup s xs) → Ahead t s p u j ms
 
 pub ahead : (t : Table) (s : List ℕ) (p : ℕ) (u : List ℕ) (j : Json) (ms : Members) → Ahead t s p u j ms
@@ -54,59 +55,59 @@ held_found t s (mcons p u j ms) = go (ahead t s p u j ms) (held_found t s ms)
 
 -- nothing that was met is held by what follows
 abbrev Apart : List Entry → Members → Type 0
-Apart xs ms = (s : List ℕ) (e : Entry) → lookup s xs ≡ some e → held ms s ≡ none
+Apart xs ms = (s : List ℕ) (e : Entry) → lookup s xs ≡ Some e → held ms s ≡ None
 
 -- what was met before, or else what is found later
 unfoldable either : Option Entry → Option Entry → Option Entry
-either none y = y
-either (some e) y = some e
+either None y = y
+either (Some e) y = Some e
 
-either-none : (x : Option Entry) → x ≡ either x none
+either-none : (x : Option Entry) → x ≡ either x None
 unfolding either
-either-none none = refl
-either-none (some e) = refl
+either-none None = refl
+either-none (Some e) = refl
 
 record Meets (t : Table) (r : ℕ) (xs : List Entry) (ms : Members) : Type 0 where
   list : List Entry
   good : names_good t r xs (entries ms t) ≡ ok list
-  finds : (s : List ℕ) → (position t r s ≡ none → ⊥) → lookup s list ≡ either (lookup s xs) (lookup s (entries ms t))
+  finds : (s : List ℕ) → (position t r s ≡ None → ⊥) → lookup s list ≡ either (lookup s xs) (lookup s (entries ms t))
 
 module _ (t : Table) (r p : ℕ) (u : List ℕ) (j : Json) (ms : Members) (xs : List Entry) where
-  not-met : Apart xs (mcons p u j ms) → lookup u xs ≡ none
+  not-met : Apart xs (mcons p u j ms) → lookup u xs ≡ None
   unfolding held
   not-met a = go (lookup u xs) refl
     where
-      go : (x : Option Entry) → lookup u xs ≡ x → x ≡ none
-      go none w = refl
-      go (some e) w = absurd (let h : some j ≡ none = rw (same_bytes-refl u, held) at (a u e w) in nothing (sym h))
+      go : (x : Option Entry) → lookup u xs ≡ x → x ≡ None
+      go None w = refl
+      go (Some e) w = absurd (let h : Some j ≡ None = rw (same_bytes-refl u, held) at (a u e w) in nothing (sym h))
 
-  apart-known : held ms u ≡ none → Apart xs (mcons p u j ms) → Apart (entry_of t p u j ∷ xs) ms
+  apart-known : held ms u ≡ None → Apart xs (mcons p u j ms) → Apart (entry_of t p u j ∷ xs) ms
   apart-known h a s e w = go (ahead t s p u j ms)
     where
-      go : Ahead t s p u j ms → held ms s ≡ none
+      go : Ahead t s p u j ms → held ms s ≡ None
       go (same v k l) = rw v at h
       go (other k l) = sym k ∙ a s e (sym (l xs) ∙ w)
 
   apart-unknown : Apart xs (mcons p u j ms) → Apart xs ms
   apart-unknown a s e w = go (ahead t s p u j ms)
     where
-      go : Ahead t s p u j ms → held ms s ≡ none
+      go : Ahead t s p u j ms → held ms s ≡ None
       go (same v k l) = nothing (sym (a s e w) ∙ k)
       go (other k l) = sym k ∙ a s e w
 
-  meets-known : (i : ℕ) → position t r u ≡ some i → Apart xs (mcons p u j ms) → Meets t r (entry_of t p u j ∷ xs) ms → Meets t r xs (mcons p u j ms)
-  unfolding names_good is_some either read
+  meets-known : (i : ℕ) → position t r u ≡ Some i → Apart xs (mcons p u j ms) → Meets t r (entry_of t p u j ∷ xs) ms → Meets t r xs (mcons p u j ms)
+  unfolding names_good either read
   meets-known i k a m = record { list = m.list; good = rw (k, not-met a, names_good) m.good; finds = λ s n. m.finds s n ∙ go s (ahead t s p u j ms) }
     where
       go : (s : List ℕ) → Ahead t s p u j ms → either (lookup s (entry_of t p u j ∷ xs)) (lookup s (entries ms t)) ≡ either (lookup s xs) (lookup s (entry_of t p u j ∷ entries ms t))
-      go s (same v k l) = let n : lookup s xs ≡ none = rw v at (not-met a) in rw (l xs, n, l (entries ms t))
+      go s (same v k l) = let n : lookup s xs ≡ None = rw v at (not-met a) in rw (l xs, n, l (entries ms t))
       go s (other k l) = rw (l xs, l (entries ms t))
 
-  meets-unknown : position t r u ≡ none → extensible t r ≡ true → Meets t r xs ms → Meets t r xs (mcons p u j ms)
+  meets-unknown : position t r u ≡ None → extensible t r ≡ true → Meets t r xs ms → Meets t r xs (mcons p u j ms)
   unfolding names_good read
   meets-unknown k x m = record { list = m.list; good = rw (k, x, names_good) m.good; finds = λ s n. m.finds s n ∙ go s n (ahead t s p u j ms) }
     where
-      go : (s : List ℕ) → (position t r s ≡ none → ⊥) → Ahead t s p u j ms → either (lookup s xs) (lookup s (entries ms t)) ≡ either (lookup s xs) (lookup s (entry_of t p u j ∷ entries ms t))
+      go : (s : List ℕ) → (position t r s ≡ None → ⊥) → Ahead t s p u j ms → either (lookup s xs) (lookup s (entries ms t)) ≡ either (lookup s xs) (lookup s (entry_of t p u j ∷ entries ms t))
       go s n (same v _ l) = absurd (n (rw v at k))
       go s n (other _ l) = rw (l (entries ms t))
 
@@ -144,19 +145,19 @@ abbrev pub MemberKept : Table → ℕ → ℕ → Option Json → Option Json �
 MemberKept t r i x y = (e f : Option Entry) → Holds t x e → Holds t y f → (o u : ℕ) (v w : Res Parts) → Keeps v w → Keeps (read_member t r o i e v) (read_member t r u i f w)
 
 module _ (t : Table) (r i : ℕ) where
-  pub present-kept : (j k : Json) → null? j ≡ null? k → Keeps (read j t (type_at t r i)) (read k t (type_at t r i)) → MemberKept t r i (some j) (some k)
+  pub present-kept : (j k : Json) → null? j ≡ null? k → Keeps (read j t (type_at t r i)) (read k t (type_at t r i)) → MemberKept t r i (Some j) (Some k)
   unfolding read_member
   present-kept j k z h e f holds holds o u v w rest = rw (z, read_member) (keeps-test (null? k && null_absent t r i) (keeps-absent rest) (keeps-present h rest))
 
-  pub absent-kept : MemberKept t r i none none
+  pub absent-kept : MemberKept t r i None None
   unfolding read_member
   absent-kept e f empty empty o u v w rest = keeps-test (may_miss t r i) (keeps-absent rest) (keeps_same (same_cause _ o u))
 
-  pub null-left : (p : ℕ) → null_absent t r i ≡ true → MemberKept t r i (some (jnull p)) none
+  pub null-left : (p : ℕ) → null_absent t r i ≡ true → MemberKept t r i (Some (jnull p)) None
   unfolding read_member null?
   null-left p a e f holds empty o u v w rest = rw (a, null_misses t r i a, read_member) (keeps-absent rest)
 
-  pub null-right : (q : ℕ) → null_absent t r i ≡ true → MemberKept t r i none (some (jnull q))
+  pub null-right : (q : ℕ) → null_absent t r i ≡ true → MemberKept t r i None (Some (jnull q))
   unfolding read_member null?
   null-right q a e f empty holds o u v w rest = rw (a, null_misses t r i a, read_member) (keeps-absent rest)
 

@@ -1,15 +1,16 @@
 -- Objects whose members are read alike, if the type knows them: as SEQUENCE and as wrapped CHOICE.
+use Rattle.std.specs.Prelude.{is_some}
 use Prim.Native.Nat.{ℕ, zero, suc, ◌+◌}
 use mathlib.Core.Path.{◌≡◌, refl}
 use mathlib.Core.List.{List, ◌∷◌}
 use mathlib.Core.Bool.{Bool, true, false, ◌&&◌, not}
-use mathlib.Core.Option.{Option, none, some}
+use Rattle.std.specs.Prelude.{Option, None, Some}
 use native.Mathlib.Omega.{arith}
 use lib.Dec.{eqb}
 use borrow.Author.Tests.{eqb-true}
 use Rattle.jer.specs.declared.Cause.TheVariants.{OtherKind}
 use Rattle.jer.specs.declared.Refusal.{Refusal}
-use Rattle.jer.specs.Table.{Table, SEQUENCE, CHOICE, kind_of, is_type, extensible, is_array, count_of, type_at, name_at, may_miss, same_bytes, position, is_some}
+use Rattle.jer.specs.Table.{Table, SEQUENCE, CHOICE, kind_of, is_type, extensible, is_array, count_of, type_at, name_at, may_miss, same_bytes, position}
 use Rattle.jer.specs.Value.{Val, v_seq, Parts}
 use Rattle.jer.specs.Answer.{Res, ok, no, bind, at, number_of}
 use Rattle.jer.specs.Read.{Meaning, Entry, lookup, names_good, null_absent, read_member, read_members, read_object, read_chosen, read_choice, read_braces}
@@ -24,7 +25,7 @@ use Rattle.jer.proofs.AlikeArray.{same-absent, same-present}
 module _ (t : Table) (r : ℕ) where
   -- two meanings under the name s that the row r reads alike, if it knows the name
   abbrev pub Named : List ℕ → Bool → Bool → Meaning → Meaning → Type 0
-  Named s z y m n = (i : ℕ) → position t r s ≡ some i → (z ≡ y) × SameAnswer (m (type_at t r i)) (n (type_at t r i))
+  Named s z y m n = (i : ℕ) → position t r s ≡ Some i → (z ≡ y) × SameAnswer (m (type_at t r i)) (n (type_at t r i))
 
   pub data Twin : Entry → Entry → Type 0 where
     twin : {p q : ℕ} {s : List ℕ} {z y : Bool} {m n : Meaning} → Named s z y m n
@@ -33,8 +34,8 @@ module _ (t : Table) (r : ℕ) where
   -- ---- looking a name up
 
   data Looked (s : List ℕ) : Option Entry → Option Entry → Type 0 where
-    nothing : Looked s none none
-    found : {e f : Entry} → Named s e.is_null f.is_null e.means f.means → Looked s (some e) (some f)
+    nothing : Looked s None None
+    found : {e f : Entry} → Named s e.is_null f.is_null e.means f.means → Looked s (Some e) (Some f)
 
   looked : (s : List ℕ) {es fs : List Entry} → Each Twin es fs → Looked s (lookup s es) (lookup s fs)
   unfolding lookup
@@ -53,7 +54,6 @@ module _ (t : Table) (r : ℕ) where
     refused : {e f : Refusal} → number_of e ≡ number_of f → Met (no e) (no f)
 
   seen_same : (s : List ℕ) {xs ys : List Entry} → Each Twin xs ys → is_some (lookup s xs) ≡ is_some (lookup s ys)
-  unfolding is_some
   seen_same s {xs} {ys} h = go (looked s h)
     where
       go : {x y : Option Entry} → Looked s x y → is_some x ≡ is_some y
@@ -65,17 +65,17 @@ module _ (t : Table) (r : ℕ) where
   unfolding names_good number_of
   name-met es fs {e} {f} {xs} {ys} (twin {s = s} h) m skip keep = go (position t r s) refl
     where
-      skipping : (c : Bool) → extensible t r ≡ c → position t r s ≡ none → Met (names_good t r xs (e ∷ es)) (names_good t r ys (f ∷ fs))
+      skipping : (c : Bool) → extensible t r ≡ c → position t r s ≡ None → Met (names_good t r xs (e ∷ es)) (names_good t r ys (f ∷ fs))
       skipping true x w = rw (w, x, names_good) skip
       skipping false x w = rw (w, x, names_good) (refused refl)
 
-      keeping : (c : Bool) → is_some (lookup s ys) ≡ c → (i : ℕ) → position t r s ≡ some i → Met (names_good t r xs (e ∷ es)) (names_good t r ys (f ∷ fs))
+      keeping : (c : Bool) → is_some (lookup s ys) ≡ c → (i : ℕ) → position t r s ≡ Some i → Met (names_good t r xs (e ∷ es)) (names_good t r ys (f ∷ fs))
       keeping true x i w = rw (w, seen_same s m, x, names_good) (refused refl)
       keeping false x i w = rw (w, seen_same s m, x, names_good) keep
 
       go : (x : Option ℕ) → position t r s ≡ x → Met (names_good t r xs (e ∷ es)) (names_good t r ys (f ∷ fs))
-      go none w = skipping (extensible t r) refl w
-      go (some i) w = keeping (is_some (lookup s ys)) refl i w
+      go None w = skipping (extensible t r) refl w
+      go (Some i) w = keeping (is_some (lookup s ys)) refl i w
 
   names-met : {es fs xs ys : List Entry} → Each Twin es fs → Each Twin xs ys → Met (names_good t r xs es) (names_good t r ys fs)
   unfolding names_good
@@ -84,7 +84,7 @@ module _ (t : Table) (r : ℕ) where
 
   -- ---- members in table order
 
-  member-same : (o u i : ℕ) {x y : Option Entry} {v w : Res Parts} → position t r (name_at t r i) ≡ some i → Looked (name_at t r i) x y → SameAnswer v w
+  member-same : (o u i : ℕ) {x y : Option Entry} {v w : Res Parts} → position t r (name_at t r i) ≡ Some i → Looked (name_at t r i) x y → SameAnswer v w
       → SameAnswer (read_member t r o i x v) (read_member t r u i y w)
   unfolding read_member
   member-same o u i a nothing h = same_test (may_miss t r i) (same-absent h) (same_cause _ o u)
@@ -112,9 +112,9 @@ module _ (t : Table) (r : ℕ) where
   unfolding read_chosen
   chosen-same o u {e} {f} (twin {s = s} h) = go (position t r s) h
     where
-      go : (x : Option ℕ) → ((i : ℕ) → x ≡ some i → (e.is_null ≡ f.is_null) × SameAnswer (e.means (type_at t r i)) (f.means (type_at t r i))) → SameAnswer (read_chosen t r o e x) (read_chosen t r u f x)
-      go none k = same_test (extensible t r) (same_cause _ o u) (same_cause _ _ _)
-      go (some i) k = same_map _ (k i refl).1
+      go : (x : Option ℕ) → ((i : ℕ) → x ≡ Some i → (e.is_null ≡ f.is_null) × SameAnswer (e.means (type_at t r i)) (f.means (type_at t r i))) → SameAnswer (read_chosen t r o e x) (read_chosen t r u f x)
+      go None k = same_test (extensible t r) (same_cause _ o u) (same_cause _ _ _)
+      go (Some i) k = same_map _ (k i refl).1
 
   choice-same : (o u : ℕ) {es fs : List Entry} → Each Twin es fs → SameAnswer (read_choice t r o es) (read_choice t r u fs)
   unfolding read_choice

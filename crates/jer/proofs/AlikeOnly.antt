@@ -1,16 +1,18 @@
 -- Trees that are read as the same value are respellings of one another: leaves and UNWRAPPED choices.
+use Rattle.jer.specs.declared.Token.{Token}
+use Rattle.jer.specs.declared.Token.TheVariants as tok
 use Prim.Native.Nat.{ℕ, zero, suc, ◌-◌, ◌^◌, ◌≤◌, ◌<◌}
 use mathlib.Core.Path.{◌≡◌, refl, sym, ap, ◌∙◌}
 use mathlib.Core.List.{List}
 use mathlib.Core.Bool.{Bool, true, false}
-use mathlib.Core.Option.{Option, none, some}
+use Rattle.std.specs.Prelude.{Option, None, Some}
 use native.Mathlib.Omega.{arith}
 use lib.Dec.{ltb, leb}
 use borrow.Author.Tests.{ltb-true, leb-true}
 use Rattle.json_text.specs.Bytes.{pick}
 use Rattle.json_text.specs.Tree.{Json, jnull, jbool, jint, jreal, jstr, jarr, jobj, Items, inil, icons, Members}
 use Rattle.json_text.proofs.SoundRows.{pick-within, only, ◌⨾◌}
-use Rattle.jer.specs.Table.{Table, ENUMERATED, OCTET-STRING, UTF8String, kind_of, extensible, is_unwrapped, type_at, position, Token, t_null, t_boolean, t_number, t_string, t_array, t_object, alternative}
+use Rattle.jer.specs.Table.{Table, ENUMERATED, OCTET-STRING, UTF8String, kind_of, extensible, is_unwrapped, type_at, position, alternative}
 use Rattle.jer.specs.Value.{Val, v_int, v_bytes, v_choice}
 use Rattle.jer.specs.Answer.{ok}
 use Rattle.jer.specs.Read.{read_int, read_item, read_octets, octets_of, read_string, picked, unwrapping, read}
@@ -27,13 +29,13 @@ use Rattle.jer.proofs.AlikeRead.{picked_as}
 -- ---- trees by their tokens
 
 pub data Shape : Token → Json → Type 0 where
-  is_null : {p : ℕ} → Shape t_null (jnull p)
-  is_bool : {p : ℕ} {b : Bool} → Shape t_boolean (jbool p b)
-  is_int : {p n : ℕ} {m : Bool} → Shape t_number (jint p m n)
-  is_real : {p : ℕ} → Shape t_number (jreal p)
-  is_string : {p : ℕ} {s : List ℕ} → Shape t_string (jstr p s)
-  is_brackets : {p : ℕ} {is : Items} → Shape t_array (jarr p is)
-  is_braces : {p : ℕ} {ms : Members} → Shape t_object (jobj p ms)
+  is_null : {p : ℕ} → Shape tok.Null (jnull p)
+  is_bool : {p : ℕ} {b : Bool} → Shape tok.Boolean (jbool p b)
+  is_int : {p n : ℕ} {m : Bool} → Shape tok.Number (jint p m n)
+  is_real : {p : ℕ} → Shape tok.Number (jreal p)
+  is_string : {p : ℕ} {s : List ℕ} → Shape tok.String (jstr p s)
+  is_brackets : {p : ℕ} {is : Items} → Shape tok.Array (jarr p is)
+  is_braces : {p : ℕ} {ms : Members} → Shape tok.Object (jobj p ms)
 
 pub shape : (j : Json) → Shape (token_in j) j
 unfolding token_in
@@ -92,7 +94,7 @@ module _ (t : Table) (r p q : ℕ) (m l : Bool) (n o : ℕ) where
 -- ---- strings
 
 -- one position has one name
-pub same_name : (t : Table) (r : ℕ) (s u : List ℕ) (i : ℕ) → position t r s ≡ some i → position t r u ≡ some i → s ≡ u
+pub same_name : (t : Table) (r : ℕ) (s u : List ℕ) (i : ℕ) → position t r s ≡ Some i → position t r u ≡ Some i → s ≡ u
 same_name t r s u i a b = sym (same_bytes-eq _ _ (position_some t r s i a).1) ∙ same_bytes-eq _ _ (position_some t r u i b).1
 
 module _ (t : Table) (r p q : ℕ) (s u : List ℕ) (v : Val) where
@@ -101,15 +103,15 @@ module _ (t : Table) (r p q : ℕ) (s u : List ℕ) (v : Val) where
 
   item-only : (x y : Option ℕ) → position t r s ≡ x → position t r u ≡ y → read_item t r p x ≡ ok v → read_item t r q y ≡ ok v → Respelled t r (jstr p s) (jstr q u)
   unfolding read_item
-  item-only none y a b e f = refused-both (extensible t r) _ _ e
-  item-only (some i) none a b e f = refused-both (extensible t r) _ _ f
-  item-only (some i) (some j) a b e f = let z : i ≡ j = cc in same-string (same_name t r s u i a (rw (← z) at b))
+  item-only None y a b e f = refused-both (extensible t r) _ _ e
+  item-only (Some i) None a b e f = refused-both (extensible t r) _ _ f
+  item-only (Some i) (Some j) a b e f = let z : i ≡ j = cc in same-string (same_name t r s u i a (rw (← z) at b))
 
   octets-only : (x y : Option (List ℕ)) → octets_of t r s ≡ x → octets_of t r u ≡ y → kind_of t r ≡ OCTET-STRING → read_octets p x ≡ ok v → read_octets q y ≡ ok v → Respelled t r (jstr p s) (jstr q u)
   unfolding read_octets
-  octets-only none y a b k e f = refused e
-  octets-only (some x) none a b k e f = refused f
-  octets-only (some x) (some y) a b k e f = spell.letter_case k (let z : x ≡ y = cc in a ∙ ap some z ∙ sym b)
+  octets-only None y a b k e f = refused e
+  octets-only (Some x) None a b k e f = refused f
+  octets-only (Some x) (Some y) a b k e f = spell.letter_case k (let z : x ≡ y = cc in a ∙ ap Some z ∙ sym b)
 
   item-string : kind_of t r ≡ ENUMERATED → read_string t q u r ≡ read_item t r q (position t r u)
   unfolding read_string pick
@@ -149,12 +151,12 @@ OnlyItems t (icons j is) = ((r : ℕ) → Only t j r) × OnlyItems t is
 record Picked (t : Table) (r : ℕ) (j : Json) (v : Val) : Type 0 where
   at : ℕ
   inner : Val
-  picks : alternative t r (token_in j) ≡ some at
+  picks : alternative t r (token_in j) ≡ Some at
   plain : is_unwrapped t (type_at t r at) ≡ false
   reads : read j t (type_at t r at) ≡ ok inner
   gives : v_choice at inner ≡ v
 
-not-picked : {C : Type 0} (j : Json) (t : Table) (r : ℕ) (v : Val) → is_unwrapped t r ≡ true → alternative t r (token_in j) ≡ none → read j t r ≡ ok v → C
+not-picked : {C : Type 0} (j : Json) (t : Table) (r : ℕ) (v : Val) → is_unwrapped t r ≡ true → alternative t r (token_in j) ≡ None → read j t r ≡ ok v → C
 unfolding read unwrapping picked token_in
 not-picked (jnull p) t r v w a e = refused-both (extensible t r) _ _ (rw (w, a, unwrapping) at e)
 not-picked (jbool p b) t r v w a e = refused-both (extensible t r) _ _ (rw (w, a, unwrapping) at e)
@@ -168,8 +170,8 @@ read-picks : (t : Table) (g : Sane t) (r : ℕ) (j : Json) (v : Val) → is_unwr
 read-picks t g r j v w e = go (alternative t r (token_in j)) refl
   where
     go : (x : Option ℕ) → alternative t r (token_in j) ≡ x → Picked t r j v
-    go none a = not-picked j t r v w a e
-    go (some i) a =
+    go None a = not-picked j t r v w a e
+    go (Some i) a =
         let u = g.plain r i w (alternative-some t r (token_in j) i a).0 in
         let k = steps (read j t (type_at t r i)) _ v (sym (picked_as j t r i w a u) ∙ e) in
         record { at = i; inner = k.val; picks = a; plain = u; reads = k.first; gives = got k.then }

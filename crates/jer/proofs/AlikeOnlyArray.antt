@@ -1,11 +1,12 @@
 -- Arrays that are read as the same value are respellings of one another.
+use Rattle.jer.specs.declared.Token.TheVariants as tok
 use Prim.Native.Nat.{ℕ, zero, suc, ◌+◌, ◌<◌}
 use mathlib.Core.Path.{◌≡◌, refl, sym, ◌∙◌}
 use mathlib.Core.Bool.{true, ◌&&◌}
-use mathlib.Core.Option.{Option, none, some}
+use Rattle.std.specs.Prelude.{Option, None, Some}
 use native.Mathlib.Omega.{arith}
 use Rattle.json_text.specs.Tree.{Json, jnull, Items, inil, icons, place_of}
-use Rattle.jer.specs.Table.{Table, extensible, count_of, type_at, may_miss, t_null, open_unwrapped}
+use Rattle.jer.specs.Table.{Table, extensible, count_of, type_at, may_miss, open_unwrapped}
 use Rattle.jer.specs.Value.{Val, Vals, vnil, vcons, Parts, absent, present}
 use Rattle.jer.specs.Answer.{Res, ok}
 use Rattle.jer.specs.Read.{Element, null_value, missing_element, read_element, surplus, read_elements, read_items, null?, read, elements}
@@ -25,8 +26,8 @@ use Rattle.jer.proofs.AlikeOnly.{Shape, is_null, shape, Only, OnlyItems}
 
 -- ---- null
 
-pub null-shape : (j : Json) → null? j ≡ true → Shape t_null j
-null-shape j e = rw (same_token-eq (token_in j) t_null (sym (null-token j) ∙ e)) at (shape j)
+pub null-shape : (j : Json) → null? j ≡ true → Shape tok.Null j
+null-shape j e = rw (same_token-eq (token_in j) tok.Null (sym (null-token j) ∙ e)) at (shape j)
 
 -- ---- SEQUENCE OF
 
@@ -75,25 +76,25 @@ data Took (t : Table) (r i : ℕ) (e : Element) (rest : Res Parts) : Parts → T
 
 data Missed (t : Table) (r i : ℕ) (rest : Res Parts) : Parts → Type 0 where
   no_value : {qs : Parts} → rest ≡ ok qs → Missed t r i rest (absent qs)
-  nulls_value : {v : Val} {qs : Parts} → null_value t (type_at t r i) ≡ some v → rest ≡ ok qs → Missed t r i rest (present v qs)
+  nulls_value : {v : Val} {qs : Parts} → null_value t (type_at t r i) ≡ Some v → rest ≡ ok qs → Missed t r i rest (present v qs)
 
 module _ (t : Table) (r o i : ℕ) (rest : Res Parts) (ps : Parts) where
-  took : (e : Element) → read_element t r o i (some e) rest ≡ ok ps → Took t r i e rest ps
+  took : (e : Element) → read_element t r o i (Some e) rest ≡ ok ps → Took t r i e rest ps
   unfolding read_element
   took e =
       cases (e.is_null && may_miss t r i)
       (λ w. with_absent_lem (Took t r i e rest) rest ps (λ qs h. as_absent ((both _ _).0 w).0 h))
       (λ w. with_present_lem (Took t r i e rest) _ rest ps (λ v qs g h. as_present g h))
 
-  missing-null : (v : Val) → missing_element t r o i ≡ ok v → null_value t (type_at t r i) ≡ some v
+  missing-null : (v : Val) → missing_element t r o i ≡ ok v → null_value t (type_at t r i) ≡ Some v
   unfolding missing_element
   missing-null v e = go (null_value t (type_at t r i)) refl
     where
-      go : (x : Option Val) → null_value t (type_at t r i) ≡ x → null_value t (type_at t r i) ≡ some v
-      go none n = refused-both (open_unwrapped t (type_at t r i)) _ _ (rw (n, missing_element) at e)
-      go (some w) n = let z : ok w ≡ ok v = rw (n, missing_element) at e in cc
+      go : (x : Option Val) → null_value t (type_at t r i) ≡ x → null_value t (type_at t r i) ≡ Some v
+      go None n = refused-both (open_unwrapped t (type_at t r i)) _ _ (rw (n, missing_element) at e)
+      go (Some w) n = let z : ok w ≡ ok v = rw (n, missing_element) at e in cc
 
-  missed : read_element t r o i none rest ≡ ok ps → Missed t r i rest ps
+  missed : read_element t r o i None rest ≡ ok ps → Missed t r i rest ps
   unfolding read_element
   missed =
       cases (may_miss t r i)
@@ -101,7 +102,7 @@ module _ (t : Table) (r o i : ℕ) (rest : Res Parts) (ps : Parts) where
       (λ w. with_present_lem (Missed t r i rest) _ rest ps (λ v qs g h. nulls_value (missing-null v g) h))
 
 -- two nulls
-pub nulls : {t : Table} {r : ℕ} {j k : Json} → Shape t_null j → Shape t_null k → Respelled t r j k
+pub nulls : {t : Table} {r : ℕ} {j k : Json} → Shape tok.Null j → Shape tok.Null k → Respelled t r j k
 nulls is_null is_null = spell.moved moved.null
 
 -- an element as the typed reading meets it
@@ -114,11 +115,11 @@ module _ (t : Table) (r i : ℕ) where
   both-elements j k is js h hs (as_absent a e) (as_absent b f) = spell.element (nulls (null-shape j a) (null-shape k b)) (hs _ e f)
   both-elements j k is js h hs (as_present a e) (as_present b f) = spell.element (h k _ a b) (hs _ e f)
 
-  module _ (null-only : (k : Json) (v : Val) → null_value t (type_at t r i) ≡ some v → read k t (type_at t r i) ≡ ok v → Shape t_null k) (l : i < count_of t r) where
-    dropped : {j : Json} (is : Items) → Shape t_null j → RespelledElements t r (suc i) is inil → RespelledElements t r i (icons j is) inil
+  module _ (null-only : (k : Json) (v : Val) → null_value t (type_at t r i) ≡ Some v → read k t (type_at t r i) ≡ ok v → Shape tok.Null k) (l : i < count_of t r) where
+    dropped : {j : Json} (is : Items) → Shape tok.Null j → RespelledElements t r (suc i) is inil → RespelledElements t r i (icons j is) inil
     dropped is is_null h = spell.null_dropped l h
 
-    added : {k : Json} (js : Items) → Shape t_null k → RespelledElements t r (suc i) inil js → RespelledElements t r i inil (icons k js)
+    added : {k : Json} (js : Items) → Shape tok.Null k → RespelledElements t r (suc i) inil js → RespelledElements t r i inil (icons k js)
     added js is_null h = spell.null_added l h
 
     first-element : {x y : Res Parts} {ps : Parts} (j : Json) (is : Items) → ((qs : Parts) → x ≡ ok qs → y ≡ ok qs → RespelledElements t r (suc i) is inil)
@@ -137,7 +138,7 @@ unfolding surplus read
 surplus-only t r j is ps = cases (extensible t r) (λ w e. w) (λ w e. refused e)
 
 module _ (t : Table) (null-only : (r : ℕ) → Only t (jnull 0) r) (r o u : ℕ) where
-  null-tree : (i : ℕ) (k : Json) (v : Val) → null_value t (type_at t r i) ≡ some v → read k t (type_at t r i) ≡ ok v → Shape t_null k
+  null-tree : (i : ℕ) (k : Json) (v : Val) → null_value t (type_at t r i) ≡ Some v → read k t (type_at t r i) ≡ ok v → Shape tok.Null k
   unfolding token_in
   null-tree i k v e f = rw (← respelled_token (null-only (type_at t r i) k v (value-of-null t (type_at t r i) 0 v e) f)) at (shape k)
 

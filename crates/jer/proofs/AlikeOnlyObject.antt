@@ -1,12 +1,14 @@
 -- Objects that are read as the same value are respellings of one another.
+use Rattle.std.specs.Prelude.{is_some}
+use Rattle.jer.specs.declared.Token.TheVariants as tok
 use Prim.Native.Nat.{ℕ, zero, suc, ◌+◌}
 use mathlib.Core.Path.{◌≡◌, refl, sym, ◌∙◌}
 use mathlib.Core.List.{List, [], ◌∷◌}
 use mathlib.Core.Bool.{true, false, ◌&&◌}
-use mathlib.Core.Option.{Option, none, some}
+use Rattle.std.specs.Prelude.{Option, None, Some}
 use native.Mathlib.Omega.{arith}
 use Rattle.json_text.specs.Tree.{Json, jobj, Members, mnil, mcons}
-use Rattle.jer.specs.Table.{Table, SEQUENCE, CHOICE, kind_of, extensible, is_array, is_unwrapped, count_of, type_at, name_at, may_miss, position, is_some, t_null}
+use Rattle.jer.specs.Table.{Table, SEQUENCE, CHOICE, kind_of, extensible, is_array, is_unwrapped, count_of, type_at, name_at, may_miss, position}
 use Rattle.jer.specs.Value.{Val, v_choice, Parts, absent, present}
 use Rattle.jer.specs.Answer.{Res, ok}
 use Rattle.jer.specs.Read.{Entry, lookup, names_good, null_absent, read_member, read_members, read_object, read_chosen, read_choice, null?, read, entries}
@@ -26,48 +28,48 @@ abbrev pub OnlyMembers : Table → Members → Type 0
 OnlyMembers t mnil = Unit {0}
 OnlyMembers t (mcons p s j ms) = ((r : ℕ) → Only t j r) × OnlyMembers t ms
 
-held-only : (t : Table) (ms : Members) → OnlyMembers t ms → (s : List ℕ) (j : Json) → held ms s ≡ some j → (r : ℕ) → Only t j r
+held-only : (t : Table) (ms : Members) → OnlyMembers t ms → (s : List ℕ) (j : Json) → held ms s ≡ Some j → (r : ℕ) → Only t j r
 unfolding held
 held-only t mnil h s j e r = nothing e
 held-only t (mcons p u i ms) h s j e r = go (ahead t s p u i ms) (λ f. held-only t ms h.1 s j f r)
   where
-    go : Ahead t s p u i ms → (held ms s ≡ some j → Only t j r) → Only t j r
+    go : Ahead t s p u i ms → (held ms s ≡ Some j → Only t j r) → Only t j r
     go (same v k l) ih = rw (found (sym k ∙ e)) at (h.0 r)
     go (other k l) ih = ih (sym k ∙ e)
 
 -- ---- the names of an object that is read
 
 data Named (t : Table) (r p : ℕ) (s : List ℕ) (j : Json) (ms : Members) (xs list : List Entry) : Type 0 where
-  known : {i : ℕ} → position t r s ≡ some i → lookup s xs ≡ none → names_good t r (entry_of t p s j ∷ xs) (entries ms t) ≡ ok list → Named t r p s j ms xs list
-  unknown : position t r s ≡ none → extensible t r ≡ true → names_good t r xs (entries ms t) ≡ ok list → Named t r p s j ms xs list
+  known : {i : ℕ} → position t r s ≡ Some i → lookup s xs ≡ None → names_good t r (entry_of t p s j ∷ xs) (entries ms t) ≡ ok list → Named t r p s j ms xs list
+  unknown : position t r s ≡ None → extensible t r ≡ true → names_good t r xs (entries ms t) ≡ ok list → Named t r p s j ms xs list
 
 module _ (t : Table) (r : ℕ) where
   named : (p : ℕ) (s : List ℕ) (j : Json) (ms : Members) (xs list : List Entry) → names_good t r xs (entries (mcons p s j ms) t) ≡ ok list → Named t r p s j ms xs list
-  unfolding names_good read is_some
+  unfolding names_good read
   named p s j ms xs list e = go (position t r s) refl
     where
-      absence : (x : Option Entry) → is_some x ≡ false → x ≡ none
-      absence none w = refl
-      absence (some f) w = cc
+      absence : (x : Option Entry) → is_some x ≡ false → x ≡ None
+      absence None w = refl
+      absence (Some f) w = cc
 
       go : (x : Option ℕ) → position t r s ≡ x → Named t r p s j ms xs list
-      go none w = cases (extensible t r) (λ x f. unknown w x f) (λ x f. refused f) (rw (w, names_good) at e)
-      go (some i) w = cases (is_some (lookup s xs)) (λ x f. refused f) (λ x f. known w (absence (lookup s xs) x) f) (rw (w, names_good) at e)
+      go None w = cases (extensible t r) (λ x f. unknown w x f) (λ x f. refused f) (rw (w, names_good) at e)
+      go (Some i) w = cases (is_some (lookup s xs)) (λ x f. refused f) (λ x f. known w (absence (lookup s xs) x) f) (rw (w, names_good) at e)
 
   -- a name that was met is not held again
-  not-again : (ms : Members) (xs list : List Entry) → names_good t r xs (entries ms t) ≡ ok list → (u : List ℕ) (i : ℕ) → position t r u ≡ some i → (f : Entry) → lookup u xs ≡ some f → held ms u ≡ none
+  not-again : (ms : Members) (xs list : List Entry) → names_good t r xs (entries ms t) ≡ ok list → (u : List ℕ) (i : ℕ) → position t r u ≡ Some i → (f : Entry) → lookup u xs ≡ Some f → held ms u ≡ None
   unfolding held
   not-again mnil xs list e u i k f m = refl
   not-again (mcons p s j ms) xs list e u i k f m =
       go (named p s j ms xs list e) (ahead t u p s j ms) (λ ys c. not-again ms ys list c u i k f)
     where
-      go : Named t r p s j ms xs list → Ahead t u p s j ms → ((ys : List Entry) → names_good t r ys (entries ms t) ≡ ok list → lookup u ys ≡ some f → held ms u ≡ none) → held (mcons p s j ms) u ≡ none
+      go : Named t r p s j ms xs list → Ahead t u p s j ms → ((ys : List Entry) → names_good t r ys (entries ms t) ≡ ok list → lookup u ys ≡ Some f → held ms u ≡ None) → held (mcons p s j ms) u ≡ None
       go (known a b c) (same v _ _) ih = nothing (sym b ∙ (rw (← v) at m))
       go (known a b c) (other v l) ih = v ∙ ih (entry_of t p s j ∷ xs) c (l xs ∙ m)
       go (unknown a b c) (same v _ _) ih = nothing (sym (rw v at a) ∙ k)
       go (unknown a b c) (other v l) ih = v ∙ ih xs c m
 
-  found_first : (p : ℕ) (s : List ℕ) (j : Json) (xs : List Entry) → lookup s (entry_of t p s j ∷ xs) ≡ some (entry_of t p s j)
+  found_first : (p : ℕ) (s : List ℕ) (j : Json) (xs : List Entry) → lookup s (entry_of t p s j ∷ xs) ≡ Some (entry_of t p s j)
   unfolding lookup
   found_first p s j xs = rw (same_bytes-refl s, lookup)
 
@@ -83,9 +85,9 @@ module _ (t : Table) (r : ℕ) where
 
 -- what a member was read as, of which the object holds x
 data Took (t : Table) (r i : ℕ) (rest : Res Parts) : Option Json → Parts → Type 0 where
-  gone : {qs : Parts} → rest ≡ ok qs → Took t r i rest none (absent qs)
-  nulled : {j : Json} {qs : Parts} → Shape t_null j → null_absent t r i ≡ true → rest ≡ ok qs → Took t r i rest (some j) (absent qs)
-  here : {j : Json} {v : Val} {qs : Parts} → read j t (type_at t r i) ≡ ok v → rest ≡ ok qs → Took t r i rest (some j) (present v qs)
+  gone : {qs : Parts} → rest ≡ ok qs → Took t r i rest None (absent qs)
+  nulled : {j : Json} {qs : Parts} → Shape tok.Null j → null_absent t r i ≡ true → rest ≡ ok qs → Took t r i rest (Some j) (absent qs)
+  here : {j : Json} {v : Val} {qs : Parts} → read j t (type_at t r i) ≡ ok v → rest ≡ ok qs → Took t r i rest (Some j) (present v qs)
 
 -- the two objects' member, and what the members after it were read as
 record SameMember (t : Table) (r i : ℕ) (x y : Option Json) (v w : Res Parts) : Type 0 where
@@ -97,19 +99,19 @@ record SameMember (t : Table) (r i : ℕ) (x y : Option Json) (v w : Res Parts) 
 module _ (t : Table) (r i : ℕ) where
   took : {x : Option Json} {e : Option Entry} (o : ℕ) (rest : Res Parts) (ps : Parts) → Holds t x e → read_member t r o i e rest ≡ ok ps → Took t r i rest x ps
   unfolding read_member
-  took o rest ps empty = cases (may_miss t r i) (λ w. with_absent_lem (Took t r i rest none) rest ps (λ qs h. gone h)) (λ w f. refused f)
+  took o rest ps empty = cases (may_miss t r i) (λ w. with_absent_lem (Took t r i rest None) rest ps (λ qs h. gone h)) (λ w f. refused f)
   took o rest ps (holds {j = j}) =
       cases (null? j && null_absent t r i)
-      (λ w. with_absent_lem (Took t r i rest (some j)) rest ps (λ qs h. let b = (both _ _).0 w in nulled (null-shape j b.0) b.1 h))
-      (λ w. with_present_lem (Took t r i rest (some j)) _ rest ps (λ v qs g h. here g h))
+      (λ w. with_absent_lem (Took t r i rest (Some j)) rest ps (λ qs h. let b = (both _ _).0 w in nulled (null-shape j b.0) b.1 h))
+      (λ w. with_present_lem (Took t r i rest (Some j)) _ rest ps (λ v qs g h. here g h))
 
-  null-left : {j : Json} → Shape t_null j → null_absent t r i ≡ true → RespelledMember t r i (some j) none
+  null-left : {j : Json} → Shape tok.Null j → null_absent t r i ≡ true → RespelledMember t r i (Some j) None
   null-left is_null a = spell.null_left a
 
-  null-right : {k : Json} → Shape t_null k → null_absent t r i ≡ true → RespelledMember t r i none (some k)
+  null-right : {k : Json} → Shape tok.Null k → null_absent t r i ≡ true → RespelledMember t r i None (Some k)
   null-right is_null a = spell.null_right a
 
-  member-only : {x y : Option Json} {v w : Res Parts} {ps : Parts} → ((j : Json) → x ≡ some j → Only t j (type_at t r i)) → Took t r i v x ps → Took t r i w y ps → SameMember t r i x y v w
+  member-only : {x y : Option Json} {v w : Res Parts} {ps : Parts} → ((j : Json) → x ≡ Some j → Only t j (type_at t r i)) → Took t r i v x ps → Took t r i w y ps → SameMember t r i x y v w
   member-only h (gone a) (gone b) = record { member = spell.absent; rest = _; left = a; right = b }
   member-only h (gone a) (nulled n c b) = record { member = null-right n c; rest = _; left = a; right = b }
   member-only h (nulled n c a) (gone b) = record { member = null-left n c; rest = _; left = a; right = b }
@@ -147,7 +149,7 @@ object-only t r o u ms ns v h k a e f =
 
 -- the one member of an object that a choice reads
 data Chosen (t : Table) (r : ℕ) : Members → Val → Type 0 where
-  one_member : {a i : ℕ} {s : List ℕ} {j : Json} {v : Val} → position t r s ≡ some i → read j t (type_at t r i) ≡ ok v → Chosen t r (mcons a s j mnil) (v_choice i v)
+  one_member : {a i : ℕ} {s : List ℕ} {j : Json} {v : Val} → position t r s ≡ Some i → read j t (type_at t r i) ≡ ok v → Chosen t r (mcons a s j mnil) (v_choice i v)
 
 one-member : (t : Table) (r o : ℕ) (ms : Members) (v : Val) → read_choice t r o (entries ms t) ≡ ok v → Chosen t r ms v
 unfolding read_choice read_chosen read
@@ -155,8 +157,8 @@ one-member t r o mnil v e = refused e
 one-member t r o (mcons a s j mnil) v e = go (position t r s) refl e
   where
     go : (x : Option ℕ) → position t r s ≡ x → read_chosen t r o (entry_of t a s j) x ≡ ok v → Chosen t r (mcons a s j mnil) v
-    go none w e = refused-both (extensible t r) _ _ e
-    go (some i) w e = let k = steps (read j t (type_at t r i)) _ v e in rw (← got k.then) (one_member w k.first)
+    go None w e = refused-both (extensible t r) _ _ e
+    go (Some i) w e = let k = steps (read j t (type_at t r i)) _ v e in rw (← got k.then) (one_member w k.first)
 one-member t r o (mcons a s j (mcons b u k ms)) v e = refused e
 
 pub choice-only : (t : Table) (r o u : ℕ) (ms ns : Members) (v : Val) → OnlyMembers t ms → kind_of t r ≡ CHOICE → is_unwrapped t r ≡ false → read_choice t r o (entries ms t) ≡ ok v

@@ -3,7 +3,7 @@ use Prim.Native.Nat.{ℕ}
 use mathlib.Core.Path.{◌≡◌, sym, ◌∙◌}
 use mathlib.Core.List.{List}
 use mathlib.Core.Bool.{true, false}
-use mathlib.Core.Option.{some}
+use Rattle.std.specs.Prelude.{Some}
 use native.Mathlib.Omega.{arith}
 use borrow.Author.Tests.{eq-eqb, ne_eqb}
 use Rattle.json_text.specs.Bytes.{pick}
@@ -53,7 +53,7 @@ module _ (t : Table) (r p : ℕ) where
   choice_as ms k w = braces_as ms w ∙ rw (eq-eqb _ _ k, read_braces)
 
 -- the token picks the alternative
-pub picked_as : (j : Json) (t : Table) (r i : ℕ) → is_unwrapped t r ≡ true → alternative t r (token_in j) ≡ some i → is_unwrapped t (type_at t r i) ≡ false
+pub picked_as : (j : Json) (t : Table) (r i : ℕ) → is_unwrapped t r ≡ true → alternative t r (token_in j) ≡ Some i → is_unwrapped t (type_at t r i) ≡ false
     → read j t r ≡ bind (read j t (type_at t r i)) (λ v. ok (v_choice i v))
 unfolding read unwrapping picked token_in
 picked_as (jnull p) t r i w a u = rw (w, a, u, unwrapping)

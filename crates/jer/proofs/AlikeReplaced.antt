@@ -2,7 +2,7 @@
 use Prim.Native.Nat.{ℕ, suc, ◌+◌}
 use mathlib.Core.Path.{◌≡◌, refl}
 use mathlib.Core.List.{List, [], ◌∷◌, ◌++◌}
-use mathlib.Core.Option.{Option, none, some}
+use Rattle.std.specs.Prelude.{Option, None, Some}
 use native.Mathlib.Omega.{arith}
 use Rattle.json_text.specs.Bytes.{past}
 use Rattle.json_text.specs.Tree.{Json, jarr, jobj, Items, inil, icons, Members, mnil, mcons}
@@ -89,8 +89,8 @@ moved-member : (t : Table) (r p q : ℕ) (s : List ℕ) {j k : Json} {ms ns : Me
 moved-member t r p q s {j} {k} {ms} {ns} h hs = go (position t r s) refl
   where
     go : (x : Option ℕ) → position t r s ≡ x → SkipAlikeMembers t r (mcons p s j ms) (mcons q s k ns)
-    go none w = skip.unknown w hs
-    go (some i) w = skip.known w (skip.moved h) hs
+    go None w = skip.unknown w hs
+    go (Some i) w = skip.known w (skip.moved h) hs
 
 moved-members : {t : Table} {r : ℕ} {ms ns : Members} → MovedMembers ms ns → SkipAlikeMembers t r ms ns
 moved-members moved.no_member = skip.no_member

@@ -1,12 +1,13 @@
 -- Demand 2 on trees: what a tree is read as, it is read as with other options of its sender.
+use Rattle.jer.specs.declared.Token.TheVariants as tok
 use Prim.Native.Nat.{ℕ}
 use mathlib.Core.Path.{◌≡◌, refl}
 use mathlib.Core.List.{List}
 use mathlib.Core.Bool.{Bool, true, false}
-use mathlib.Core.Option.{Option, some}
+use Rattle.std.specs.Prelude.{Option, Some}
 use native.Mathlib.Omega.{arith}
 use Rattle.json_text.specs.Tree.{Json, jint, jstr, jarr, jobj, Items, Members, mnil, mcons, place_of}
-use Rattle.jer.specs.Table.{Table, INTEGER, OCTET-STRING, SEQUENCE, SEQUENCE-OF, CHOICE, kind_of, is_array, is_unwrapped, element_of, count_of, type_at, position, alternative, t_number}
+use Rattle.jer.specs.Table.{Table, INTEGER, OCTET-STRING, SEQUENCE, SEQUENCE-OF, CHOICE, kind_of, is_array, is_unwrapped, element_of, count_of, type_at, position, alternative}
 use Rattle.jer.specs.Value.{Val, v_int, v_choice}
 use Rattle.jer.specs.Answer.{ok}
 use Rattle.jer.specs.Read.{read_int, octets_of, read_chosen, read_choice, null?, read, elements}
@@ -47,7 +48,7 @@ zero-read p false = refl
 module _ (t : Table) (g : Sane t) (r : ℕ) where
   zero-case : (p q : ℕ) (m n : Bool) → Keeps (read (jint p m 0) t r) (read (jint q n 0) t r)
   unfolding read
-  zero-case p q m n = keeps_same (unwrapping-same t p q t_number _ _ (λ r. kind-same t p q INTEGER r (rw (zero-read p m, zero-read q n) same_value)) r)
+  zero-case p q m n = keeps_same (unwrapping-same t p q tok.Number _ _ (λ r. kind-same t p q INTEGER r (rw (zero-read p m, zero-read q n) same_value)) r)
 
   octets-case : (p q : ℕ) (s u : List ℕ) → kind_of t r ≡ OCTET-STRING → octets_of t r s ≡ octets_of t r u → Keeps (read (jstr p s) t r) (read (jstr q u) t r)
   octets-case p q s u c e = rw (octets_as t r p s c, octets_as t r q u c, e) (keeps_same (octets-same t p q (octets_of t r u)))
@@ -62,12 +63,12 @@ module _ (t : Table) (g : Sane t) (r : ℕ) where
       → Keeps (read (jobj p ms) t r) (read (jobj q ns) t r)
   members-case p q ms ns c a m n h = rw (object_as t r p ms c a, object_as t r q ns c a) (object-kept t r p q ms ns m n h)
 
-  chosen-case : (p q a b i : ℕ) (s : List ℕ) (j k : Json) → kind_of t r ≡ CHOICE → is_unwrapped t r ≡ false → position t r s ≡ some i → Keeps (read j t (type_at t r i)) (read k t (type_at t r i))
+  chosen-case : (p q a b i : ℕ) (s : List ℕ) (j k : Json) → kind_of t r ≡ CHOICE → is_unwrapped t r ≡ false → position t r s ≡ Some i → Keeps (read j t (type_at t r i)) (read k t (type_at t r i))
       → Keeps (read (jobj p (mcons a s j mnil)) t r) (read (jobj q (mcons b s k mnil)) t r)
   unfolding read read_choice read_chosen
   chosen-case p q a b i s j k c w e h = rw (choice_as t r p (mcons a s j mnil) c w, choice_as t r q (mcons b s k mnil) c w, e) (keeps-map (v_choice i) h)
 
-  picked-case : (i : ℕ) (j k : Json) → is_unwrapped t r ≡ true → alternative t r (token_in j) ≡ some i → token_in j ≡ token_in k → Keeps (read j t (type_at t r i)) (read k t (type_at t r i))
+  picked-case : (i : ℕ) (j k : Json) → is_unwrapped t r ≡ true → alternative t r (token_in j) ≡ Some i → token_in j ≡ token_in k → Keeps (read j t (type_at t r i)) (read k t (type_at t r i))
       → Keeps (read j t r) (read k t r)
   picked-case i j k c a e h =
       let u = g.plain r i c (alternative-some t r (token_in j) i a).0 in

@@ -1,13 +1,14 @@
 -- Answers that agree but for places: laws of results, leaves and UNWRAPPED choices.
+use Rattle.jer.specs.declared.Token.{Token}
 use Prim.Native.Nat.{ℕ, zero, suc, ◌^◌}
 use mathlib.Core.Path.{refl}
 use mathlib.Core.List.{List, [], ◌∷◌}
 use mathlib.Core.Bool.{Bool, true, false, ◌&&◌}
-use mathlib.Core.Option.{Option, none, some}
+use Rattle.std.specs.Prelude.{Option, None, Some}
 use lib.Dec.{eqb, ltb, leb}
 use Rattle.json_text.specs.Bytes.{Row, on, pick}
 use Rattle.jer.specs.declared.Cause.{Cause}
-use Rattle.jer.specs.Table.{Table, ENUMERATED, OCTET-STRING, UTF8String, kind_of, extensible, is_unwrapped, type_at, position, Token, alternative}
+use Rattle.jer.specs.Table.{Table, ENUMERATED, OCTET-STRING, UTF8String, kind_of, extensible, is_unwrapped, type_at, position, alternative}
 use Rattle.jer.specs.Value.{Val}
 use Rattle.jer.specs.Answer.{Res, ok, bind, at, number_of}
 use Rattle.jer.specs.Read.{Meaning, read_int, read_item, read_octets, octets_of, read_string, at_kind, picked, unwrapping}
@@ -50,13 +51,13 @@ module _ (t : Table) (p q : ℕ) where
 
   item-same : (r : ℕ) (x : Option ℕ) → SameAnswer (read_item t r p x) (read_item t r q x)
   unfolding read_item
-  item-same r none = same_test (extensible t r) (same_cause _ p q) (same_cause _ p q)
-  item-same r (some i) = same_value
+  item-same r None = same_test (extensible t r) (same_cause _ p q) (same_cause _ p q)
+  item-same r (Some i) = same_value
 
   pub octets-same : (x : Option (List ℕ)) → SameAnswer (read_octets p x) (read_octets q x)
   unfolding read_octets
-  octets-same none = same_cause _ p q
-  octets-same (some os) = same_value
+  octets-same None = same_cause _ p q
+  octets-same (Some os) = same_value
 
   nothing-same : (k : ℕ) (c : Cause) → SameAnswer {A = Val} (pick k [] (at c p)) (pick k [] (at c q))
   unfolding pick
@@ -77,8 +78,8 @@ module _ (t : Table) (p q : ℕ) where
 
   picked_same : (f g : Meaning) (r : ℕ) → ((r : ℕ) → SameAnswer (f r) (g r)) → (x : Option ℕ) → SameAnswer (picked t r p f x) (picked t r q g x)
   unfolding picked
-  picked_same f g r h none = same_test (extensible t r) (same_cause _ p q) (same_cause _ p q)
-  picked_same f g r h (some i) = same_map _ (h (type_at t r i))
+  picked_same f g r h None = same_test (extensible t r) (same_cause _ p q) (same_cause _ p q)
+  picked_same f g r h (Some i) = same_map _ (h (type_at t r i))
 
   pub unwrapping-same : (k : Token) (f g : Meaning) → ((r : ℕ) → SameAnswer (f r) (g r)) → (r : ℕ) → SameAnswer (unwrapping t k p f r) (unwrapping t k q g r)
   unfolding unwrapping

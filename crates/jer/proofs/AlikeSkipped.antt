@@ -3,7 +3,7 @@ use Prim.Native.Nat.{ℕ}
 use mathlib.Core.Path.{◌≡◌, refl, sym, ◌∙◌}
 use mathlib.Core.List.{List}
 use mathlib.Core.Bool.{true, false}
-use mathlib.Core.Option.{some}
+use Rattle.std.specs.Prelude.{Some}
 use native.Mathlib.Omega.{arith}
 use Rattle.json_text.specs.Tree.{Json, jarr, jobj, Items, Members}
 use Rattle.jer.specs.Table.{Table, SEQUENCE-OF, kind_of, is_array, is_unwrapped, element_of, count_of, type_at, position, alternative}
@@ -42,13 +42,13 @@ module _ (t : Table) (g : Sane t) where
   members-case : (r p q : ℕ) (ms ns : Members) → is_unwrapped t r ≡ false → Each (Twin t r) (entries ms t) (entries ns t) → SameAnswer (read (jobj p ms) t r) (read (jobj q ns) t r)
   members-case r p q ms ns c h = rw (braces_as t r p ms c, braces_as t r q ns c) (braces-same t r p q g h)
 
-  picked-case : (r i : ℕ) (j k : Json) → is_unwrapped t r ≡ true → alternative t r (token_in j) ≡ some i → token_in j ≡ token_in k → SameAnswer (read j t (type_at t r i)) (read k t (type_at t r i))
+  picked-case : (r i : ℕ) (j k : Json) → is_unwrapped t r ≡ true → alternative t r (token_in j) ≡ Some i → token_in j ≡ token_in k → SameAnswer (read j t (type_at t r i)) (read k t (type_at t r i))
       → SameAnswer (read j t r) (read k t r)
   picked-case r i j k c a e h =
       let u = g.plain r i c (alternative-some t r (token_in j) i a).0 in
       rw (picked_as j t r i c a u, picked_as k t r i c (rw e at a) u) (same_map (v_choice i) h)
 
-  known-case : {r p q i : ℕ} {s : List ℕ} (j k : Json) → position t r s ≡ some i → token_in j ≡ token_in k → SameAnswer (read j t (type_at t r i)) (read k t (type_at t r i))
+  known-case : {r p q i : ℕ} {s : List ℕ} (j k : Json) → position t r s ≡ Some i → token_in j ≡ token_in k → SameAnswer (read j t (type_at t r i)) (read k t (type_at t r i))
       → Twin t r record { place = p; name = s; is_null = null? j; means = λ r. read j t r } record { place = q; name = s; is_null = null? k; means = λ r. read k t r }
   known-case {i = i} j k a e h = twin (λ n b. let c : i ≡ n = found (sym a ∙ b) in (same-null j k e, rw c at h))
 

@@ -1,11 +1,12 @@
 -- The number in a row's field 0, and the kind that it is read and written as: what the form of a number keeps.
+use Rattle.std.specs.Prelude.{is_some}
 use Prim.Native.Nat.{ℕ, ◌<◌}
 use mathlib.Core.Path.{◌≡◌, refl, sym, ap, ◌∙◌}
 use mathlib.Core.Bool.{Bool, true, false, false≢true}
 use lib.Dec.{eqb}
 use borrow.Author.Tests.{eqb-true}
 use Rattle.json_text.specs.Bytes.{pick}
-use Rattle.jer.specs.Table.{Table, CHOICE, carries, type_kind, is_some, tag_of, form_of, kind_of, is_type}
+use Rattle.jer.specs.Table.{Table, CHOICE, carries, type_kind, tag_of, form_of, kind_of, is_type}
 
 -- how a row uses its fields
 pub form_layout : (n : ℕ) → (carries (form_of n)).layout ≡ (carries n).layout
@@ -55,7 +56,7 @@ module _ (t : Table) (r : ℕ) where
 
 -- a type's row is not taken for that of an absent member
 pub type-present : (t : Table) (r : ℕ) → is_type t r ≡ true → eqb (tag_of t r) 15 ≡ false
-unfolding is_type type_kind carries pick is_some
+unfolding is_type type_kind carries pick
 type-present t r h = go (eqb (tag_of t r) 15) refl
   where
     go : (c : Bool) → eqb (tag_of t r) 15 ≡ c → c ≡ false

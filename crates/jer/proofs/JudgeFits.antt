@@ -3,7 +3,7 @@ use Prim.Native.Nat.{ℕ, zero, suc, ◌+◌, ◌-◌, ◌*◌, ◌/◌, ◌%◌
 use mathlib.Core.Path.{◌≡◌, refl, sym, ap, ◌∙◌}
 use mathlib.Core.List.{List, [], ◌∷◌}
 use mathlib.Core.Bool.{Bool, true, false, ◌&&◌, ◌||◌, not}
-use mathlib.Core.Option.{Option, none, some}
+use Rattle.std.specs.Prelude.{Option, None, Some}
 use native.Mathlib.Omega.{arith}
 use native.Mathlib.Nat.{mul-add-div_right, mul-add-mod_self_right, mod-eq_of_lt, div-eq_of_lt}
 use lib.Dec.{eqb, ltb, leb, lit<}
@@ -237,8 +237,8 @@ module _ (t : Table) (pool : List ℕ) (os : Octets pool) where
 
   -- the parts of a value with at most d brackets open
   data Inside : ℕ → Option Taker → Type 0 where
-    no_bracket : {d : ℕ} → Inside d none
-    bracket : {d : ℕ} {f : Taker} → Sound d f → Inside (suc d) (some f)
+    no_bracket : {d : ℕ} → Inside d None
+    bracket : {d : ℕ} {f : Taker} → Sound d f → Inside (suc d) (Some f)
 
   bracket_sound : {d : ℕ} {i : Option Taker} (r : ℕ) (ws : List ValueRow) (q o : ℕ) (good : Bool) (F : Taker → Took Val) → Inside d i
       → ((e : ℕ) (f : Taker) → Sound e f → good ≡ true → After (Taken (suc e) r ws q o) (F f)) → After (Taken d r ws q o) (in_bracket i good q F)

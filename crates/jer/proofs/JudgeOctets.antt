@@ -2,7 +2,7 @@
 use Prim.Native.Nat.{ℕ, ◌+◌, ◌*◌, ◌/◌, ◌%◌, ◌≤◌, ◌<◌}
 use mathlib.Core.List.{List, [], ◌∷◌}
 use mathlib.Core.Bool.{Bool, true, false}
-use mathlib.Core.Option.{Option, none, some}
+use Rattle.std.specs.Prelude.{Option, None, Some}
 use native.Mathlib.Omega.{arith}
 use native.Mathlib.Nat.{div-add-mod', mod-lt}
 use lib.Dec.{eqb, lit<}
@@ -12,19 +12,19 @@ use Rattle.jer.specs.Fits.{Octets, no_octets, octet}
 
 -- P of what there is, if there is anything
 abbrev pub Holds : {A : Type 0} → (A → Type 0) → Option A → Type 0
-Holds P none = Unit {0}
-Holds P (some a) = P a
+Holds P None = Unit {0}
+Holds P (Some a) = P a
 
 holds-also : {A B : Type 0} (P : A → Type 0) (Q : B → Type 0) (x : Option A) (f : A → Option B) → Holds P x → ((a : A) → P a → Holds Q (f a)) → Holds Q (also x f)
 unfolding also
-holds-also P Q none f h k = tt
-holds-also P Q (some a) f h k = k a h
+holds-also P Q None f h k = tt
+holds-also P Q (Some a) f h k = k a h
 
 -- ---- hexadecimal
 
 hex-small : (b : ℕ) → Holds (λ x. x ≤ 15) (hex_value b)
 unfolding hex_value
-hex-small b = pick-within (Holds (λ x. x ≤ 15)) b _ none ((λ i. omega arith) ⨾ (λ i. omega arith) ⨾ (λ i. omega arith) ⨾ tt) tt
+hex-small b = pick-within (Holds (λ x. x ≤ 15)) b _ None ((λ i. omega arith) ⨾ (λ i. omega arith) ⨾ (λ i. omega arith) ⨾ tt) tt
 
 -- the value of a digit, and what follows
 with_hex : (b : ℕ) (f : ℕ → Option (List ℕ)) → ((x : ℕ) → x ≤ 15 → Holds Octets (f x)) → Holds Octets (also (hex_value b) f)
@@ -40,7 +40,7 @@ unhex-octets (a ∷ b ∷ s) = with_hex a _ (λ x h. with_hex b _ (λ y k. holds
 
 base64-small : (b : ℕ) → Holds (λ x. x ≤ 63) (base64_value b)
 unfolding base64_value
-base64-small b = pick-within (Holds (λ x. x ≤ 63)) b _ none ((λ i. omega arith) ⨾ (λ i. omega arith) ⨾ (λ i. omega arith) ⨾ (λ i. omega arith) ⨾ (λ i. omega arith) ⨾ tt) tt
+base64-small b = pick-within (Holds (λ x. x ≤ 63)) b _ None ((λ i. omega arith) ⨾ (λ i. omega arith) ⨾ (λ i. omega arith) ⨾ (λ i. omega arith) ⨾ (λ i. omega arith) ⨾ tt) tt
 
 with_base64 : (b : ℕ) (f : ℕ → Option (List ℕ)) → ((x : ℕ) → x ≤ 63 → Holds Octets (f x)) → Holds Octets (also (base64_value b) f)
 with_base64 b f = holds-also (λ x. x ≤ 63) Octets (base64_value b) f (base64-small b)
@@ -68,7 +68,7 @@ last-octets a b c d = with_base64 a _ (λ x h. with_base64 b _ (λ y k. pads (eq
         | true ↦ only_if (eqb (y % 16) 0) ((x * 4 + y / 16) ∷ [])
         | false ↦ also (base64_value c) (λ z. only_if (eqb (z % 4) 0) ((x * 4 + y / 16) ∷ (y % 16 * 16 + z / 4) ∷ []))
       ]
-      | false ↦ also (base64_value c) (λ z. also (base64_value d) (λ w. some ((x * 4 + y / 16) ∷ (y % 16 * 16 + z / 4) ∷ (z % 4 * 64 + w) ∷ [])))
+      | false ↦ also (base64_value c) (λ z. also (base64_value d) (λ w. Some ((x * 4 + y / 16) ∷ (y % 16 * 16 + z / 4) ∷ (z % 4 * 64 + w) ∷ [])))
     ])
     pads true true x y h k = if_octets _ _ (octet (octet_1 x y h k) no_octets)
     pads true false x y h k = with_base64 c _ (λ z m. if_octets _ _ (octet (octet_1 x y h k) (octet (octet_2 y z m) no_octets)))

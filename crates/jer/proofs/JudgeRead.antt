@@ -1,9 +1,13 @@
 -- What is read from a JSON text is a well-formed value.
+use Rattle.std.specs.Prelude.{is_some}
+use Rattle.jer.specs.declared.Token.{Token}
+use Rattle.jer.specs.declared.Token.TheVariants as tok
+use Rattle.jer.specs.declared.Carried.{Carried}
 use Prim.Native.Nat.{ℕ, zero, suc, ◌+◌, ◌-◌, ◌^◌, ◌<◌}
 use mathlib.Core.Path.{◌≡◌, refl}
 use mathlib.Core.List.{List, [], ◌∷◌}
 use mathlib.Core.Bool.{Bool, true, false, ◌&&◌, not}
-use mathlib.Core.Option.{Option, none, some}
+use Rattle.std.specs.Prelude.{Option, None, Some}
 use native.Mathlib.Omega.{arith}
 use lib.Dec.{eqb, ltb, leb}
 use borrow.Author.Tests.{ltb-true, eqb-true}
@@ -12,7 +16,7 @@ use Rattle.json_text.specs.Utf8.{utf8}
 use Rattle.json_text.specs.Grammar.{Value, literal_null, literal_true, literal_false, whole, real, string, no_elements, no_members, members, Padded, padded, Elements, last_element, more_elements, Named, last_member, more_members}
 use Rattle.json_text.specs.Grammar as grammar
 use Rattle.json_text.proofs.SoundRows.{pick-within, only, ◌⨾◌}
-use Rattle.jer.specs.Table.{Table, BOOLEAN, INTEGER, ENUMERATED, NULL, OCTET-STRING, SEQUENCE, SEQUENCE-OF, CHOICE, Carried, carries, kind_of, marked, extensible, is_base64, is_array, is_unwrapped, element_of, count_of, type_at, name_at, may_miss, same_bytes, position, Token, t_null, t_boolean, t_number, t_string, t_array, t_object, token_pick, token_of, alternative, is_some, open_unwrapped}
+use Rattle.jer.specs.Table.{Table, BOOLEAN, INTEGER, ENUMERATED, NULL, OCTET-STRING, SEQUENCE, SEQUENCE-OF, CHOICE, carries, kind_of, marked, extensible, is_base64, is_array, is_unwrapped, element_of, count_of, type_at, name_at, may_miss, same_bytes, position, token_pick, token_of, alternative, open_unwrapped}
 use Rattle.jer.specs.Value.{Val, v_null, v_choice, Parts}
 use Rattle.jer.specs.declared.Cause.TheVariants.{UnknownName, RepeatedName}
 use Rattle.jer.specs.Answer.{Res, ok, no, bind, at}
@@ -63,16 +67,16 @@ module _ (t : Table) (d : ℕ) where
   item-fits r p s k = go (position t r s) refl
     where
       go : (x : Option ℕ) → position t r s ≡ x → Gives (Fits t d r) (read_item t r p x)
-      go none e = gives_if (Fits t d r) (extensible t r) _ _ (λ c. tt) (λ c. tt)
-      go (some i) e = f_leaf (f_enum k (position_some t r s i e).0)
+      go None e = gives_if (Fits t d r) (extensible t r) _ _ (λ c. tt) (λ c. tt)
+      go (Some i) e = f_leaf (f_enum k (position_some t r s i e).0)
 
   octets-fits : (r p : ℕ) (s : List ℕ) → kind_of t r ≡ OCTET-STRING → Gives (Fits t d r) (read_octets p (octets_of t r s))
   unfolding read_octets octets_of
   octets-fits r p s k = go (is_base64 t r)
     where
       of : (x : Option (List ℕ)) → Holds Octets x → Gives (Fits t d r) (read_octets p x)
-      of none h = tt
-      of (some os) h = f_leaf (f_octets k h)
+      of None h = tt
+      of (Some os) h = f_leaf (f_octets k h)
 
       go : (c : Bool) → Gives (Fits t d r) (read_octets p (elim c [ true ↦ unbase64 s | false ↦ unhex s ]))
       go true = of (unbase64 s) (unbase64-octets s)
@@ -87,25 +91,25 @@ module _ (t : Table) (d : ℕ) where
 
 -- ---- null
 
-null-plain : (k : ℕ) → (carries k).token ≡ some t_null → k ≡ NULL
+null-plain : (k : ℕ) → (carries k).token ≡ Some tok.Null → k ≡ NULL
 unfolding carries
 null-plain k =
-    pick-within (λ (x : Carried). x.token ≡ some t_null → k ≡ NULL) k _ _
+    pick-within (λ (x : Carried). x.token ≡ Some tok.Null → k ≡ NULL) k _ _
     ((λ i e. cc) ⨾ (λ i e. cc) ⨾ (λ i e. cc) ⨾ (λ i e. only i) ⨾ (λ i e. cc) ⨾ (λ i e. cc) ⨾ (λ i e. cc) ⨾ (λ i e. cc) ⨾ (λ i e. cc) ⨾ (λ i e. cc) ⨾ tt)
     (λ e. cc)
 
-null-marked : (k : ℕ) → (carries k).other ≡ some t_null → k ≡ NULL
+null-marked : (k : ℕ) → (carries k).other ≡ Some tok.Null → k ≡ NULL
 unfolding carries
 null-marked k =
-    pick-within (λ (x : Carried). x.other ≡ some t_null → k ≡ NULL) k _ _
+    pick-within (λ (x : Carried). x.other ≡ Some tok.Null → k ≡ NULL) k _ _
     ((λ i e. cc) ⨾ (λ i e. cc) ⨾ (λ i e. cc) ⨾ (λ i e. only i) ⨾ (λ i e. cc) ⨾ (λ i e. cc) ⨾ (λ i e. cc) ⨾ (λ i e. cc) ⨾ (λ i e. cc) ⨾ (λ i e. cc) ⨾ tt)
     (λ e. cc)
 
-pub null-kind : (t : Table) (r : ℕ) → token_of t r ≡ some t_null → kind_of t r ≡ NULL
+pub null-kind : (t : Table) (r : ℕ) → token_of t r ≡ Some tok.Null → kind_of t r ≡ NULL
 unfolding token_of token_pick
 null-kind t r = go (marked t r 1)
   where
-    go : (b : Bool) → token_pick b (carries (kind_of t r)).other (carries (kind_of t r)).token ≡ some t_null → kind_of t r ≡ NULL
+    go : (b : Bool) → token_pick b (carries (kind_of t r)).other (carries (kind_of t r)).token ≡ Some tok.Null → kind_of t r ≡ NULL
     go true e = null-marked (kind_of t r) e
     go false e = null-plain (kind_of t r) e
 
@@ -113,16 +117,16 @@ null-value : (t : Table) (d r : ℕ) → Holds (Fits t d r) (null_value t r)
 unfolding null_value
 null-value t d r = go (is_unwrapped t r) refl
   where
-    chosen : (x : Option ℕ) → is_unwrapped t r ≡ true → alternative t r t_null ≡ x → Holds (Fits t d r) (elim x as (λ _. Option Val) [ none ↦ none | some i ↦ some (v_choice i v_null) ])
-    chosen none c e = tt
-    chosen (some i) c e = let a = alternative-some t r t_null i e in f_unwrapped c a.0 (f_leaf (f_null (null-kind t (type_at t r i) a.1)))
+    chosen : (x : Option ℕ) → is_unwrapped t r ≡ true → alternative t r tok.Null ≡ x → Holds (Fits t d r) (elim x as (λ _. Option Val) [ None ↦ None | Some i ↦ Some (v_choice i v_null) ])
+    chosen None c e = tt
+    chosen (Some i) c e = let a = alternative-some t r tok.Null i e in f_unwrapped c a.0 (f_leaf (f_null (null-kind t (type_at t r i) a.1)))
 
-    itself : (c : Bool) → eqb (kind_of t r) NULL ≡ c → Holds (Fits t d r) (elim c as (λ _. Option Val) [ true ↦ some v_null | false ↦ none ])
+    itself : (c : Bool) → eqb (kind_of t r) NULL ≡ c → Holds (Fits t d r) (elim c as (λ _. Option Val) [ true ↦ Some v_null | false ↦ None ])
     itself true e = f_leaf (f_null (eqb-true _ _ e))
     itself false e = tt
 
     go : (c : Bool) → is_unwrapped t r ≡ c → Holds (Fits t d r) (null_value t r)
-    go true c = rw (c, null_value) (chosen (alternative t r t_null) c refl)
+    go true c = rw (c, null_value) (chosen (alternative t r tok.Null) c refl)
     go false c = rw (c, null_value) (itself (eqb (kind_of t r) NULL) refl)
 
 -- ---- parts
@@ -166,19 +170,19 @@ module _ (t : Table) (d : ℕ) where
   missing-fits r o i = go (null_value t (type_at t r i)) refl (null-value t d (type_at t r i))
     where
       go : (x : Option Val) → null_value t (type_at t r i) ≡ x → Holds (Fits t d (type_at t r i)) x → Gives (Fits t d (type_at t r i)) (missing_element t r o i)
-      go (some v) e h = rw (e, missing_element) h
-      go none e h = rw (e, missing_element) (gives_if (Fits t d (type_at t r i)) (open_unwrapped t (type_at t r i)) _ _ (λ c. tt) (λ c. tt))
+      go (Some v) e h = rw (e, missing_element) h
+      go None e h = rw (e, missing_element) (gives_if (Fits t d (type_at t r i)) (open_unwrapped t (type_at t r i)) _ _ (λ c. tt) (λ c. tt))
 
   surplus-fits : (r i : ℕ) (es : List Element) → i ≡ count_of t r → Gives (FitsParts t d r i) (surplus t r es)
   unfolding surplus
   surplus-fits r i [] l = no_member l
   surplus-fits r i (e ∷ es) l = gives_if (FitsParts t d r i) (extensible t r) _ _ (λ c. no_member l) (λ c. tt)
 
-  no-element : (r o i : ℕ) (rest : Res Parts) → i < count_of t r → Gives (FitsParts t d r (suc i)) rest → Gives (FitsParts t d r i) (read_element t r o i none rest)
+  no-element : (r o i : ℕ) (rest : Res Parts) → i < count_of t r → Gives (FitsParts t d r (suc i)) rest → Gives (FitsParts t d r i) (read_element t r o i None rest)
   unfolding read_element
   no-element r o i rest l h = gives_if (FitsParts t d r i) (may_miss t r i) _ _ (λ m. absent-fits r i rest l m h) (λ m. present-fits r i _ rest l (missing-fits r o i) h)
 
-  an_element : (r o i : ℕ) (e : Element) (rest : Res Parts) → i < count_of t r → Means e.means → Gives (FitsParts t d r (suc i)) rest → Gives (FitsParts t d r i) (read_element t r o i (some e) rest)
+  an_element : (r o i : ℕ) (e : Element) (rest : Res Parts) → i < count_of t r → Means e.means → Gives (FitsParts t d r (suc i)) rest → Gives (FitsParts t d r i) (read_element t r o i (Some e) rest)
   unfolding read_element
   an_element r o i e rest l m h =
       gives_if (FitsParts t d r i) (e.is_null && may_miss t r i) _ _ (λ c. let p = simp both at c in absent-fits r i rest l p.1 h) (λ c. present-fits r i _ rest l (m (type_at t r i)) h)
@@ -205,7 +209,7 @@ module _ (t : Table) (d : ℕ) where
   lookup-means s [] h = tt
   lookup-means s (e ∷ es) (entry m h) = go (same_bytes e.name s) (lookup-means s es h)
     where
-      go : (c : Bool) → Holds EntryMeans (lookup s es) → Holds EntryMeans (elim c as (λ _. Option Entry) [ true ↦ some e | false ↦ lookup s es ])
+      go : (c : Bool) → Holds EntryMeans (lookup s es) → Holds EntryMeans (elim c as (λ _. Option Entry) [ true ↦ Some e | false ↦ lookup s es ])
       go true k = m
       go false k = k
 
@@ -215,11 +219,11 @@ module _ (t : Table) (d : ℕ) where
   names-fit r met (e ∷ es) h (entry m k) = go (position t r e.name) (names-fit r met es h k) (names-fit r (e ∷ met) es (entry m h) k)
     where
       go : (x : Option ℕ) → Gives AllEntries (names_good t r met es) → Gives AllEntries (names_good t r (e ∷ met) es) → Gives AllEntries (elim x as (λ _. Res (List Entry)) [
-        | none ↦ elim (extensible t r) [ true ↦ names_good t r met es | false ↦ at UnknownName e.place ]
-        | some i ↦ elim (is_some (lookup e.name met)) [ true ↦ at RepeatedName e.place | false ↦ names_good t r (e ∷ met) es ]
+        | None ↦ elim (extensible t r) [ true ↦ names_good t r met es | false ↦ at UnknownName e.place ]
+        | Some i ↦ elim (is_some (lookup e.name met)) [ true ↦ at RepeatedName e.place | false ↦ names_good t r (e ∷ met) es ]
       ])
-      go none a b = gives_if AllEntries (extensible t r) _ _ (λ c. a) (λ c. tt)
-      go (some i) a b = gives_if AllEntries (is_some (lookup e.name met)) _ _ (λ c. tt) (λ c. b)
+      go None a b = gives_if AllEntries (extensible t r) _ _ (λ c. a) (λ c. tt)
+      go (Some i) a b = gives_if AllEntries (is_some (lookup e.name met)) _ _ (λ c. tt) (λ c. b)
 
   null-absent : (r i : ℕ) → null_absent t r i ≡ true → may_miss t r i ≡ true
   unfolding null_absent may_miss
@@ -227,8 +231,8 @@ module _ (t : Table) (d : ℕ) where
 
   member-fits : (r o i : ℕ) (x : Option Entry) (rest : Res Parts) → i < count_of t r → Holds EntryMeans x → Gives (FitsParts t d r (suc i)) rest → Gives (FitsParts t d r i) (read_member t r o i x rest)
   unfolding read_member
-  member-fits r o i none rest l m h = gives_if (FitsParts t d r i) (may_miss t r i) _ _ (λ c. absent-fits r i rest l c h) (λ c. tt)
-  member-fits r o i (some e) rest l m h =
+  member-fits r o i None rest l m h = gives_if (FitsParts t d r i) (may_miss t r i) _ _ (λ c. absent-fits r i rest l c h) (λ c. tt)
+  member-fits r o i (Some e) rest l m h =
       gives_if (FitsParts t d r i) (e.is_null && null_absent t r i) _ _ (λ c. let p = simp both at c in absent-fits r i rest l (null-absent r i p.1) h) (λ c. present-fits r i _ rest l (m (type_at t r i)) h)
 
   members-fit : (r o : ℕ) (es : List Entry) (i n : ℕ) → i + n ≡ count_of t r → AllEntries es → Gives (FitsParts t d r i) (read_members t r o es i n)
@@ -249,8 +253,8 @@ module _ (t : Table) (d : ℕ) where
   chosen-fits r o e m k c = go (position t r e.name) refl
     where
       go : (x : Option ℕ) → position t r e.name ≡ x → Gives (Fits t (suc d) r) (read_chosen t r o e x)
-      go none w = gives_if (Fits t (suc d) r) (extensible t r) _ _ (λ _. tt) (λ _. tt)
-      go (some i) w = gives-bind (Fits t d (type_at t r i)) (Fits t (suc d) r) _ _ (m (type_at t r i)) (λ v f. f_wrapped k c (position_some t r e.name i w).0 f)
+      go None w = gives_if (Fits t (suc d) r) (extensible t r) _ _ (λ _. tt) (λ _. tt)
+      go (Some i) w = gives-bind (Fits t d (type_at t r i)) (Fits t (suc d) r) _ _ (m (type_at t r i)) (λ v f. f_wrapped k c (position_some t r e.name i w).0 f)
 
   choice-fits : (r o : ℕ) (es : List Entry) → AllEntries es → kind_of t r ≡ CHOICE → is_unwrapped t r ≡ false → Gives (Fits t (suc d) r) (read_choice t r o es)
   unfolding read_choice
@@ -274,38 +278,38 @@ module _ (t : Table) (g : Sane t) where
       gives_if (Fits t d r) (is_unwrapped t r) _ _ (λ c. go c (alternative t r k) refl) (λ c. h r c)
     where
       go : is_unwrapped t r ≡ true → (x : Option ℕ) → alternative t r k ≡ x → Gives (Fits t d r) (picked t r p plain x)
-      go c none w = gives_if (Fits t d r) (extensible t r) _ _ (λ _. tt) (λ _. tt)
-      go c (some i) w =
+      go c None w = gives_if (Fits t d r) (extensible t r) _ _ (λ _. tt) (λ _. tt)
+      go c (Some i) w =
           let l = (alternative-some t r k i w).0 in
           gives-bind (Fits t d (type_at t r i)) (Fits t d r) _ _ (h (type_at t r i) (g.plain r i c l)) (λ v f. f_unwrapped c l f)
 
   null-read : (d p : ℕ) → Means t d (read (jnull p) t)
   unfolding read
-  null-read d p = unwrapping-fits d t_null p _ (λ r c. at-kind t d r NULL p _ (λ k. f_leaf (f_null k)))
+  null-read d p = unwrapping-fits d tok.Null p _ (λ r c. at-kind t d r NULL p _ (λ k. f_leaf (f_null k)))
 
   bool_read : (d p : ℕ) (b : Bool) → Means t d (read (jbool p b) t)
   unfolding read
-  bool_read d p b = unwrapping-fits d t_boolean p _ (λ r c. at-kind t d r BOOLEAN p _ (λ k. f_leaf (f_bool k)))
+  bool_read d p b = unwrapping-fits d tok.Boolean p _ (λ r c. at-kind t d r BOOLEAN p _ (λ k. f_leaf (f_bool k)))
 
   int-read : (d p : ℕ) (m : Bool) (n : ℕ) → Means t d (read (jint p m n) t)
   unfolding read
-  int-read d p m n = unwrapping-fits d t_number p _ (λ r c. at-kind t d r INTEGER p _ (λ k. int-fits t d r p m n k))
+  int-read d p m n = unwrapping-fits d tok.Number p _ (λ r c. at-kind t d r INTEGER p _ (λ k. int-fits t d r p m n k))
 
   real_read : (d p : ℕ) → Means t d (read (jreal p) t)
   unfolding read
-  real_read d p = unwrapping-fits d t_number p _ (λ r c. at-kind t d r INTEGER p _ (λ k. tt))
+  real_read d p = unwrapping-fits d tok.Number p _ (λ r c. at-kind t d r INTEGER p _ (λ k. tt))
 
   string-read : (d p : ℕ) (s : List ℕ) → utf8 s ≡ true → Means t d (read (jstr p s) t)
   unfolding read
-  string-read d p s u = unwrapping-fits d t_string p _ (λ r c. string-fits t d p s u r)
+  string-read d p s u = unwrapping-fits d tok.String p _ (λ r c. string-fits t d p s u r)
 
   array-read : (d p : ℕ) (is : Items) → AllElements t d (elements is t) → Means t (suc d) (read (jarr p is) t)
   unfolding read
-  array-read d p is h = unwrapping-fits (suc d) t_array p _ (λ r c. array-fits t d p (elements is t) h r)
+  array-read d p is h = unwrapping-fits (suc d) tok.Array p _ (λ r c. array-fits t d p (elements is t) h r)
 
   braces-read : (d p : ℕ) (ms : Members) → AllEntries t d (entries ms t) → Means t (suc d) (read (jobj p ms) t)
   unfolding read
-  braces-read d p ms h = unwrapping-fits (suc d) t_object p _ (λ r c. braces-fit t d p (entries ms t) h r c)
+  braces-read d p ms h = unwrapping-fits (suc d) tok.Object p _ (λ r c. braces-fit t d p (entries ms t) h r c)
 
   mutual
     unfolding elements

@@ -3,7 +3,7 @@ use Prim.Native.Nat.{ℕ, zero, suc, ◌+◌, ◌-◌, ◌/◌, ◌%◌, ◌^◌
 use mathlib.Core.Path.{◌≡◌, refl, sym, ap, ◌∙◌}
 use mathlib.Core.List.{List, [], ◌∷◌, ◌++◌, append_assoc}
 use mathlib.Core.Bool.{Bool, true, false, ◌||◌, not}
-use mathlib.Core.Option.{Option, some}
+use Rattle.std.specs.Prelude.{Option, Some}
 use native.Mathlib.Omega.{arith}
 use native.Mathlib.Nat.{div-add-mod'}
 use lib.Dec.{eqb}
@@ -97,15 +97,15 @@ module _ (i : Option Taker) (t : Table) (pool : List ℕ) (r : ℕ) (ws : List V
 -- ---- rows with parts
 
 module _ (f : Taker) (t : Table) (pool : List ℕ) (r : ℕ) (us : List ValueRow) (q o : ℕ) where
-  row_seq : (a n : ℕ) → kind_of t r ≡ SEQUENCE → take_row (some f) t pool r (row (tag_of t r) a 0 n) us q o ≡ take_sequence t r (row (tag_of t r) a 0 n) us q o f
+  row_seq : (a n : ℕ) → kind_of t r ≡ SEQUENCE → take_row (Some f) t pool r (row (tag_of t r) a 0 n) us q o ≡ take_sequence t r (row (tag_of t r) a 0 n) us q o f
   unfolding take_row pick in_bracket
   row_seq a n k = rw (eq-eqb (tag_of t r) (tag_of t r) refl, take_row) (rw k)
 
-  row_list : (a n : ℕ) → kind_of t r ≡ SEQUENCE-OF → take_row (some f) t pool r (row (tag_of t r) a 0 n) us q o ≡ take_list t r (row (tag_of t r) a 0 n) us q o f
+  row_list : (a n : ℕ) → kind_of t r ≡ SEQUENCE-OF → take_row (Some f) t pool r (row (tag_of t r) a 0 n) us q o ≡ take_list t r (row (tag_of t r) a 0 n) us q o f
   unfolding take_row pick in_bracket
   row_list a n k = rw (eq-eqb (tag_of t r) (tag_of t r) refl, take_row) (rw k)
 
-  row-choice : (a n : ℕ) → kind_of t r ≡ CHOICE → a < count_of t r → take_row (some f) t pool r (row (tag_of t r) a 0 n) us q o ≡ take_choice t r (row (tag_of t r) a 0 n) us q o f
+  row-choice : (a n : ℕ) → kind_of t r ≡ CHOICE → a < count_of t r → take_row (Some f) t pool r (row (tag_of t r) a 0 n) us q o ≡ take_choice t r (row (tag_of t r) a 0 n) us q o f
   unfolding take_row pick in_bracket
   row-choice a n k h = rw (eq-eqb (tag_of t r) (tag_of t r) refl, take_row) (rw k (rw (lt-ltb a (count_of t r) h, in_bracket)))
 

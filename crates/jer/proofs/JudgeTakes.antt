@@ -3,7 +3,7 @@ use Prim.Native.Nat.{ℕ, zero, suc, ◌+◌, ◌≤◌}
 use mathlib.Core.Path.{◌≡◌, refl, sym, ap, ◌∙◌}
 use mathlib.Core.List.{List, ◌++◌}
 use mathlib.Core.Bool.{true, false}
-use mathlib.Core.Option.{Option, none, some}
+use Rattle.std.specs.Prelude.{Option, None, Some}
 use native.Mathlib.Omega.{arith}
 use lib.ListN.{length, take, drop, length-append}
 use lib.Seq.{take-take, take-add, take-append_seam, drop_at, drop-drop}
@@ -45,8 +45,8 @@ module _ (pool : List ℕ) (o : ℕ) (s u : List ℕ) where
 
 -- what takes the parts of a value
 unfoldable pub inner : ℕ → Table → List ℕ → Option Taker
-inner zero t pool = none
-inner (suc d) t pool = some (λ e us p u. take_value d t pool e us p u)
+inner zero t pool = None
+inner (suc d) t pool = Some (λ e us p u. take_value d t pool e us p u)
 
 module _ (t : Table) (pool : List ℕ) where
   take_with_lem : (d r : ℕ) (ws : List ValueRow) (q o : ℕ) → take_value d t pool r ws q o ≡ take_with (inner d t pool) t pool r ws q o

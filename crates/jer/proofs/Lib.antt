@@ -66,3 +66,4 @@ pub mod MeansReads
 pub mod CutTested
 pub mod Whole
 pub mod Absent
+pub mod Counted

@@ -3,7 +3,7 @@ use Prim.Native.Nat.{ℕ, ◌*◌, ◌≤◌}
 use mathlib.Core.Path.{◌≡◌, refl, ◌∙◌}
 use mathlib.Core.List.{List}
 use mathlib.Core.Bool.{Bool, true, false}
-use mathlib.Core.Option.{Option, none, some}
+use Rattle.std.specs.Prelude.{Option, None, Some}
 use native.Mathlib.Omega.{arith}
 use lib.Dec.{leb}
 use lib.ListN.{length}
@@ -30,13 +30,13 @@ use Rattle.jer.proofs.SpellCalls.{read-text}
 pub never : {A : Type 0} → ◌≡◌ {A = ℕ} 0 1 → A
 never z = absurd (omega arith)
 
-pub good-table : (t u : Table) → good_table t ≡ ok u → first_bad t ≡ none
+pub good-table : (t u : Table) → good_table t ≡ ok u → first_bad t ≡ None
 unfolding good_table table_of
 good-table t u h = go (first_bad t) refl h
   where
-    go : (o : Option ℕ) → first_bad t ≡ o → table_of t o ≡ ok u → first_bad t ≡ none
-    go none e w = e
-    go (some r) e w = never (cc)
+    go : (o : Option ℕ) → first_bad t ≡ o → table_of t o ≡ ok u → first_bad t ≡ None
+    go None e w = e
+    go (Some r) e w = never (cc)
 
 -- a text that is judged good is a JSON text of the house size
 record GoodText (s : List ℕ) (j : Json) : Type 0 where
@@ -79,7 +79,7 @@ means-bounds {t} m = whole-bounds (valid_sane t m.good) m.text m.value
 
 -- what a table that is written has: a good type table, a value, and its text
 pub record Says (t : Table) (ns pool bs : List ℕ) : Type 0 where
-  pub good : first_bad t ≡ none
+  pub good : first_bad t ≡ None
   pub value : Val
   pub judged : judge t ns pool ≡ ok value
   pub text : bs ≡ write value t 0
@@ -92,6 +92,6 @@ says t ns pool bs e =
     record { good = good-table t a.val a.first; value = b.val; judged = b.first; text = cc b.then }
 
 -- a table of a value is written as its text
-pub said : (t : Table) (ns pool : List ℕ) (v : Val) → first_bad t ≡ none → judge t ns pool ≡ ok v → write_text t ns pool ≡ ok (write v t 0)
+pub said : (t : Table) (ns pool : List ℕ) (v : Val) → first_bad t ≡ None → judge t ns pool ≡ ok v → write_text t ns pool ≡ ok (write v t 0)
 unfolding write_text good_table table_of bind
 said t ns pool v good j = rw (good, good_table) (rw (j, bind))

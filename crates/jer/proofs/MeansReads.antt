@@ -1,9 +1,11 @@
 -- Judging and reading by the grammar are judging and reading by the machine; and what a reading may be refused by.
+use Rattle.std.specs.Prelude.{Err}
+use Rattle.jer.specs.Answer.{Judged}
 use Prim.Native.Nat.{ℕ, ◌*◌, ◌≤◌}
 use mathlib.Core.Path.{◌≡◌, refl, sym, ◌∙◌}
 use mathlib.Core.List.{List}
 use mathlib.Core.Bool.{Bool, true, false, ◌&&◌}
-use mathlib.Core.Option.{Option, none, some}
+use Rattle.std.specs.Prelude.{Option, None, Some}
 use native.Mathlib.Omega.{arith}
 use lib.Dec.{eqb, leb}
 use lib.ListN.{length}
@@ -20,8 +22,6 @@ use Rattle.jer.specs.declared.Which.{Which}
 use Rattle.jer.specs.declared.Which.TheVariants.{TypeTable, ValueTable}
 use Rattle.jer.specs.declared.Refusal.{Refusal}
 use Rattle.jer.specs.declared.Refusal.TheVariants.{AtByte, AtRow}
-use Rattle.jer.specs.declared.Judged.{Judged}
-use Rattle.jer.specs.declared.Judged.TheVariants.{Refused}
 use Rattle.jer.specs.Table.{Table}
 use Rattle.jer.specs.Valid.{first_bad}
 use Rattle.jer.specs.Value.{Val}
@@ -41,7 +41,7 @@ use Rattle.jer.proofs.Whole.{whole-at}
 -- a text that is judged, by its tree or its refusal
 data Found (s : List ℕ) : Res Json → Type 0 where
   found : {j : Json} → length s ≤ 65536 → Text 32 j s → Found s (ok j)
-  not : {c : Cause} {p : ℕ} → Judges s (Refused (AtByte c p)) → Found s (no (AtByte c p))
+  not : {c : Cause} {p : ℕ} → Judges s (Err (AtByte c p)) → Found s (no (AtByte c p))
 
 text-found : (s : List ℕ) → Found s (good_text s)
 unfolding good_text tree_of parse
@@ -77,20 +77,20 @@ pub text-reads : (t : Table) (s : List ℕ) → Reads t s (read_text t s)
 unfolding read_text good_table table_of bind
 text-reads t s = table (first_bad t) refl
   where
-    judged : first_bad t ≡ none → (x : Res Json) → Found s x → Reads t s (bind x (λ j. read_whole t j))
+    judged : first_bad t ≡ None → (x : Res Json) → Found s x → Reads t s (bind x (λ j. read_whole t j))
     judged e (ok j) (found l h) = typed e l h refl
     judged e (no f) (not h) = bad_text e h
 
     table : (o : Option ℕ) → first_bad t ≡ o → Reads t s (read_text t s)
-    table (some r) e = rw (e, good_table) (bad_table e)
-    table none e = rw (e, good_table) (judged e (good_text s) (text-found s))
+    table (Some r) e = rw (e, good_table) (bad_table e)
+    table None e = rw (e, good_table) (judged e (good_text s) (text-found s))
 
 -- a refused text has no tree
-refused-text : (s : List ℕ) (e : Refusal) → Judges s (Refused e) → good_text s ≡ no e
+refused-text : (s : List ℕ) (e : Refusal) → Judges s (Err e) → good_text s ≡ no e
 unfolding text_judged judged_by
 refused-text s e h = go (good_text s) (judges-text h)
   where
-    go : (x : Res Json) → Refused e ≡ judged_by x → x ≡ no e
+    go : (x : Res Json) → Err e ≡ judged_by x → x ≡ no e
     go (ok j) w = never (cc)
     go (no f) w = cc
 
@@ -114,7 +114,7 @@ read-refusal {t} {s} {e} h = go (no e) h refl
     at (ok v) fine w = never (cc)
     at (no f) (place {c} {p}) w = let q : e ≡ AtByte c p = cc in rw q at_byte
 
-    bad : (f : Refusal) → Judges s (Refused f) → ReadRefusal f
+    bad : (f : Refusal) → Judges s (Err f) → ReadRefusal f
     bad f (long l) = at_byte
     bad f (broken l k) = at_byte
     bad f (deep l k) = at_byte
@@ -161,5 +161,5 @@ write-refusal t ns pool e h = table (first_bad t) h
         whole false w = let f : e ≡ AtRow ValueTable q = cc in rw f at_row
 
     table : (o : Option ℕ) → bind (table_of t o) (λ u. bind (judge t ns pool) (λ v. ok (write v t 0))) ≡ no e → WriteRefusal e
-    table (some r) w = let f : e ≡ AtRow TypeTable r = cc in rw f at_row
-    table none w = taken (take_value 32 t pool 0 (rows_in ns) 0 0) w
+    table (Some r) w = let f : e ≡ AtRow TypeTable r = cc in rw f at_row
+    table None w = taken (take_value 32 t pool 0 (rows_in ns) 0 0) w

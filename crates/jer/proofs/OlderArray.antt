@@ -1,14 +1,15 @@
 -- Arrays: what an older table makes of the elements of a sequence and of the items of a list.
+use Rattle.jer.specs.declared.Token.TheVariants as tok
 use Prim.Native.Nat.{ℕ, zero, suc, ◌+◌, ◌≤◌, ◌<◌}
 use mathlib.Core.Path.{◌≡◌, refl, sym, ◌∙◌}
 use mathlib.Core.List.{List, ◌∷◌}
 use mathlib.Core.Bool.{Bool, true, false, ◌&&◌}
-use mathlib.Core.Option.{Option, none, some}
+use Rattle.std.specs.Prelude.{Option, None, Some}
 use native.Mathlib.Omega.{arith}
 use lib.Dec.{eqb}
 use borrow.Author.Tests.{eqb-true}
 use Rattle.jer.specs.declared.Cause.TheVariants.{OtherKind, Unknown}
-use Rattle.jer.specs.Table.{Table, NULL, SEQUENCE-OF, kind_of, extensible, is_array, is_unwrapped, element_of, count_of, type_at, may_miss, t_null, open_unwrapped}
+use Rattle.jer.specs.Table.{Table, NULL, SEQUENCE-OF, kind_of, extensible, is_array, is_unwrapped, element_of, count_of, type_at, may_miss, open_unwrapped}
 use Rattle.jer.specs.Value.{Val, v_null, v_seq, v_list, v_choice, Vals, vcons, Parts}
 use Rattle.jer.specs.Answer.{Res, ok, bind, at}
 use Rattle.jer.specs.Read.{Element, null_value, missing_element, read_element, surplus, read_elements, read_items, read_array}
@@ -22,10 +23,10 @@ use Rattle.jer.proofs.OlderChoice.{refused-both, null-agrees, chosen-known, chos
 
 -- the null value of the newer type, and of the older one at b
 pub data NullFound (old : Table) (b : ℕ) : Option Val → Option Val → Type 0 where
-  of_null : NullFound old b (some v_null) (some v_null)
-  of_known : {i : ℕ} → i < count_of old b → NullFound old b (some (v_choice i v_null)) (some (v_choice i v_null))
-  of_added : {i : ℕ} → count_of old b ≤ i → open_unwrapped old b ≡ true → NullFound old b (some (v_choice i v_null)) none
-  no_null : NullFound old b none none
+  of_null : NullFound old b (Some v_null) (Some v_null)
+  of_known : {i : ℕ} → i < count_of old b → NullFound old b (Some (v_choice i v_null)) (Some (v_choice i v_null))
+  of_added : {i : ℕ} → count_of old b ≤ i → open_unwrapped old b ≡ true → NullFound old b (Some (v_choice i v_null)) None
+  no_null : NullFound old b None None
 
 module _ {new old : Table} {R : ℕ → ℕ → Type 0} (pair : ByAdditions new old R) {a b : ℕ} (r : R a b) where
   null-found : NullFound old b (null_value new a) (null_value old b)
@@ -33,22 +34,22 @@ module _ {new old : Table} {R : ℕ → ℕ → Type 0} (pair : ByAdditions new 
   null-found = go (is_unwrapped old b) refl
     where
       unwrapped : {x y : Option ℕ} → Found (count_of old b) (count_of new a) x y → is_unwrapped old b ≡ true
-          → NullFound old b (elim x [ none ↦ none | some i ↦ some (v_choice i v_null) ]) (elim y [ none ↦ none | some i ↦ some (v_choice i v_null) ])
+          → NullFound old b (elim x [ None ↦ None | Some i ↦ Some (v_choice i v_null) ]) (elim y [ None ↦ None | Some i ↦ Some (v_choice i v_null) ])
       unwrapped (known l) w = of_known l
       unwrapped (added l u) w = of_added l (rw (w, pair.grown a b r (omega arith)))
       unwrapped neither w = no_null
 
-      other : (c : Bool) → NullFound old b (elim c [ true ↦ some v_null | false ↦ none ]) (elim c [ true ↦ some v_null | false ↦ none ])
+      other : (c : Bool) → NullFound old b (elim c [ true ↦ Some v_null | false ↦ None ]) (elim c [ true ↦ Some v_null | false ↦ None ])
       other true = of_null
       other false = no_null
 
       go : (c : Bool) → is_unwrapped old b ≡ c → NullFound old b (null_value new a) (null_value old b)
-      go true w = rw (unwrapped-same pair r, w, null_value) (unwrapped (alternative-found pair r t_null) w)
+      go true w = rw (unwrapped-same pair r, w, null_value) (unwrapped (alternative-found pair r tok.Null) w)
       go false w = rw (unwrapped-same pair r, w, null_value) (rw (kind-same pair r) (other (eqb (kind_of old b) NULL)))
 
   -- the newer's null value, or else f, beside the older's, or else g
   null-value-agrees : {x y : Option Val} (o : ℕ) (f g : Res Val) (v : Val) → NullFound old b x y → (open_unwrapped old b ≡ true → g ≡ at Unknown o) → (f ≡ ok v → ⊥)
-      → elim x as (λ x. Res Val) [ some u ↦ ok u | none ↦ f ] ≡ ok v → AgreesAt old b (elim y as (λ x. Res Val) [ some u ↦ ok u | none ↦ g ]) v
+      → elim x as (λ x. Res Val) [ Some u ↦ ok u | None ↦ f ] ≡ ok v → AgreesAt old b (elim y as (λ x. Res Val) [ Some u ↦ ok u | None ↦ g ]) v
   unfolding bind
   null-value-agrees o f g v of_null h n e = null-agrees old b v e
   null-value-agrees o f g v (of_known {i = i} l) h n e = chosen-known pair {m = λ q. ok v_null} {n = λ q. ok v_null} a b i r l (λ c d s. null-agrees old d) v e
@@ -64,7 +65,7 @@ module _ {new old : Table} {R : ℕ → ℕ → Type 0} (pair : ByAdditions new 
 
   -- ---- elements in member order
 
-  none-agrees : (o i n : ℕ) (u w : Res Parts) → i < count_of old b → PartsAgree old b (suc i) n u w → PartsAgree old b i (suc n) (read_element new a o i none u) (read_element old b o i none w)
+  none-agrees : (o i n : ℕ) (u w : Res Parts) → i < count_of old b → PartsAgree old b (suc i) n u w → PartsAgree old b i (suc n) (read_element new a o i None u) (read_element old b o i None w)
   unfolding read_element
   none-agrees o i n u w l h ps e =
       cases (may_miss old b i)
@@ -73,7 +74,7 @@ module _ {new old : Table} {R : ℕ → ℕ → Type 0} (pair : ByAdditions new 
       (rw (miss-same pair r i l, read_element) at e)
 
   element-agrees : {e f : Element} (o i n : ℕ) (u w : Res Parts) → i < count_of old b → TwinElement old R e f → PartsAgree old b (suc i) n u w
-      → PartsAgree old b i (suc n) (read_element new a o i (some e) u) (read_element old b o i (some f) w)
+      → PartsAgree old b i (suc n) (read_element new a o i (Some e) u) (read_element old b o i (Some f) w)
   unfolding read_element
   element-agrees o i n u w l (twin_element {z = z} t) h ps e =
       cases (z && may_miss old b i)

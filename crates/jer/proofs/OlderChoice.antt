@@ -1,16 +1,17 @@
 -- Leaves and choices: what an older table makes of them.
+use Rattle.jer.specs.declared.Token.{Token}
 use Prim.Native.Nat.{ℕ, zero, suc, ◌^◌, ◌≤◌, ◌<◌}
 use mathlib.Core.Path.{◌≡◌, refl}
 use mathlib.Core.List.{List, [], ◌∷◌}
 use mathlib.Core.Bool.{Bool, true, false, ◌&&◌}
-use mathlib.Core.Option.{Option, none, some}
+use Rattle.std.specs.Prelude.{Option, None, Some}
 use native.Mathlib.Omega.{arith}
 use lib.Dec.{eqb, ltb, leb}
 use borrow.Author.Tests.{lt-ltb, le-ltb}
 use Rattle.json_text.specs.Bytes.{Row, on, pick}
 use Rattle.jer.specs.declared.Cause.TheVariants.{Unknown}
 use Rattle.jer.specs.declared.Refusal.{Refusal}
-use Rattle.jer.specs.Table.{Table, ENUMERATED, OCTET-STRING, UTF8String, kind_of, extensible, is_unwrapped, count_of, type_at, Token}
+use Rattle.jer.specs.Table.{Table, ENUMERATED, OCTET-STRING, UTF8String, kind_of, extensible, is_unwrapped, count_of, type_at}
 use Rattle.jer.specs.Value.{Val, v_bool, v_int, v_null, v_bytes, v_choice}
 use Rattle.jer.specs.Answer.{Res, ok, no, bind, at}
 use Rattle.jer.specs.Read.{Meaning, read_int, read_item, read_octets, octets_of, read_string, at_kind, picked, unwrapping}
@@ -40,8 +41,8 @@ module _ (old : Table) (b : ℕ) (v : Val) where
 
   octets-agree : (p : ℕ) (x : Option (List ℕ)) → read_octets p x ≡ ok v → AgreesAt old b (read_octets p x) v
   unfolding read_octets
-  octets-agree p none e = refused e
-  octets-agree p (some s) e = bytes-agree s e
+  octets-agree p None e = refused e
+  octets-agree p (Some s) e = bytes-agree s e
 
   number-agrees : (n : ℕ) → ok (v_int n) ≡ ok v → AgreesAt old b (ok (v_int n)) v
   unfolding cut lacks

@@ -1,28 +1,31 @@
 -- Paired rows of a newer and an older table: what is equal in both, and what a name or a token finds in each.
 -- None of these laws asks that the tables be good.
+use Rattle.std.specs.Prelude.{is_some}
+use Rattle.jer.specs.declared.Token.{Token}
+use Rattle.jer.specs.declared.Token.TheVariants as tok
 use Prim.Native.Nat.{ℕ, zero, suc, ◌+◌, ◌≤◌, ◌<◌}
 use mathlib.Core.Path.{◌≡◌, refl, sym, ◌∙◌}
 use mathlib.Core.List.{List}
 use mathlib.Core.Bool.{Bool, true, false, ◌&&◌, ◌||◌}
-use mathlib.Core.Option.{Option, none, some}
+use Rattle.std.specs.Prelude.{Option, None, Some}
 use native.Mathlib.Omega.{arith}
 use lib.Dec.{eqb}
-use Rattle.jer.specs.Table.{Table, NULL, kind_of, BASE64, ARRAY, UNWRAPPED, EXTENSIBLE, marked, extensible, is_base64, is_array, is_unwrapped, count_of, addition, may_miss, first_where, position, Token, t_null, token_of, alternative, is_some, can_be_null, open_unwrapped, null_taken}
+use Rattle.jer.specs.Table.{Table, NULL, kind_of, BASE64, ARRAY, UNWRAPPED, EXTENSIBLE, marked, extensible, is_base64, is_array, is_unwrapped, count_of, addition, may_miss, first_where, position, token_of, alternative, can_be_null, open_unwrapped, null_taken}
 use Rattle.jer.specs.Cut.{ByAdditions}
 
 -- What a search finds among all n members of the newer type, and the same search among the m of the older one.
 pub data Found (m n : ℕ) : Option ℕ → Option ℕ → Type 0 where
-  known : {i : ℕ} → i < m → Found m n (some i) (some i)
-  added : {i : ℕ} → m ≤ i → i < n → Found m n (some i) none
-  neither : Found m n none none
+  known : {i : ℕ} → i < m → Found m n (Some i) (Some i)
+  added : {i : ℕ} → m ≤ i → i < n → Found m n (Some i) None
+  neither : Found m n None None
 
 -- past the older's members
-found-added : (f : ℕ → Bool) (i k m n : ℕ) → m ≤ i → i + k ≡ n → Found m n (first_where f i k) none
+found-added : (f : ℕ → Bool) (i k m n : ℕ) → m ≤ i → i + k ≡ n → Found m n (first_where f i k) None
 unfolding first_where
 found-added f i zero m n l e = neither
 found-added f i (suc k) m n l e = go (f i) refl (found-added f (suc i) k m n (omega arith) (omega arith))
   where
-    go : (c : Bool) → f i ≡ c → Found m n (first_where f (suc i) k) none → Found m n (first_where f i (suc k)) none
+    go : (c : Bool) → f i ≡ c → Found m n (first_where f (suc i) k) None → Found m n (first_where f i (suc k)) None
     go true w ih = rw (w, first_where) (added l (omega arith))
     go false w ih = rw (w, first_where) ih
 
@@ -40,7 +43,6 @@ first_found f g i (suc j) (suc k) m n p q l same = go (f i) refl (first_found f 
 -- whether null is taken, by what the token null finds: an alternative is added only if the choice is extensible
 found-null : {m n : ℕ} {x y : Option ℕ} (null unwrapped grows : Bool) → Found m n x y → (m < n → grows ≡ true)
     → ((null || (unwrapped && is_some x)) || (unwrapped && grows)) ≡ ((null || (unwrapped && is_some y)) || (unwrapped && grows))
-unfolding is_some
 found-null null unwrapped grows (known l) h = refl
 found-null null unwrapped grows neither h = refl
 found-null true unwrapped grows (added l u) h = refl
@@ -93,4 +95,4 @@ module _ {new old : Table} {R : ℕ → ℕ → Type 0} (pair : ByAdditions new 
   unfolding null_taken can_be_null open_unwrapped
   null-same =
       rw (kind-same pair r, unwrapped-same pair r, extensible-same pair r)
-      (found-null (eqb (kind_of old b) NULL) (is_unwrapped old b) (extensible old b) (alternative-found t_null) (pair.grown a b r))
+      (found-null (eqb (kind_of old b) NULL) (is_unwrapped old b) (extensible old b) (alternative-found tok.Null) (pair.grown a b r))

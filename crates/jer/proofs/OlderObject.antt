@@ -1,13 +1,14 @@
 -- Objects: what an older table makes of the members of a sequence and of a wrapped choice.
+use Rattle.std.specs.Prelude.{is_some}
 use Prim.Native.Nat.{ℕ, zero, suc, ◌+◌, ◌<◌}
 use mathlib.Core.Path.{◌≡◌, refl, sym, ◌∙◌}
 use mathlib.Core.List.{List, [], ◌∷◌}
 use mathlib.Core.Bool.{Bool, true, false, ◌&&◌, not}
-use mathlib.Core.Option.{Option, none, some}
+use Rattle.std.specs.Prelude.{Option, None, Some}
 use native.Mathlib.Omega.{arith}
 use lib.Dec.{eqb}
 use Rattle.jer.specs.declared.Cause.TheVariants.{OtherKind}
-use Rattle.jer.specs.Table.{Table, SEQUENCE, CHOICE, kind_of, extensible, is_array, count_of, name_at, may_miss, same_bytes, position, is_some}
+use Rattle.jer.specs.Table.{Table, SEQUENCE, CHOICE, kind_of, extensible, is_array, count_of, name_at, may_miss, same_bytes, position}
 use Rattle.jer.specs.Value.{Val, v_seq, Parts}
 use Rattle.jer.specs.Answer.{Res, ok, bind, at}
 use Rattle.jer.specs.Read.{Entry, lookup, names_good, null_absent, read_member, read_members, read_object, read_chosen, read_choice, read_braces}
@@ -21,16 +22,16 @@ use Rattle.jer.proofs.OlderChoice.{refused-both, chosen-known, chosen-added}
 -- ---- looking a name up
 
 pub data Looked (old : Table) (R : ℕ → ℕ → Type 0) : Option Entry → Option Entry → Type 0 where
-  absent : Looked old R none none
-  present : {e f : Entry} → TwinEntry old R e f → Looked old R (some e) (some f)
+  absent : Looked old R None None
+  present : {e f : Entry} → TwinEntry old R e f → Looked old R (Some e) (Some f)
 
 -- What the newer table met, beside what the older one met: without the names that it does not know at the row b.
 pub data Met (old : Table) (R : ℕ → ℕ → Type 0) (b : ℕ) : List Entry → List Entry → Type 0 where
   empty : Met old R b [] []
   both : {e f : Entry} {es fs : List Entry} → TwinEntry old R e f → Met old R b es fs → Met old R b (e ∷ es) (f ∷ fs)
-  newer : {e : Entry} {es fs : List Entry} → position old b e.name ≡ none → Met old R b es fs → Met old R b (e ∷ es) fs
+  newer : {e : Entry} {es fs : List Entry} → position old b e.name ≡ None → Met old R b es fs → Met old R b (e ∷ es) fs
 
-module _ {old : Table} {R : ℕ → ℕ → Type 0} {b : ℕ} (s : List ℕ) (knows : position old b s ≡ none → ⊥) where
+module _ {old : Table} {R : ℕ → ℕ → Type 0} {b : ℕ} (s : List ℕ) (knows : position old b s ≡ None → ⊥) where
   -- a name that the older one knows is found in both or in neither
   looked : {es fs : List Entry} → Met old R b es fs → Looked old R (lookup s es) (lookup s fs)
   unfolding lookup
@@ -47,31 +48,31 @@ module _ {old : Table} {R : ℕ → ℕ → Type 0} {b : ℕ} (s : List ℕ) (kn
       go true w ih = absurd (knows (rw (same_bytes-eq e.name s w) at x))
       go false w ih = rw (w, lookup) ih
 
-  not-met : {xs ys : List Entry} → lookup s xs ≡ none → Met old R b xs ys → lookup s ys ≡ none
+  not-met : {xs ys : List Entry} → lookup s xs ≡ None → Met old R b xs ys → lookup s ys ≡ None
   not-met {xs} {ys} e t = go (lookup s xs) (lookup s ys) e (looked t)
     where
-      go : (x y : Option Entry) → x ≡ none → Looked old R x y → y ≡ none
+      go : (x y : Option Entry) → x ≡ None → Looked old R x y → y ≡ None
       go x y e absent = refl
       go x y e (present u) = cc
 
 -- a type knows the names of its members
-pub own_name : (t : Table) (r i : ℕ) → i < count_of t r → position t r (name_at t r i) ≡ none → ⊥
+pub own_name : (t : Table) (r i : ℕ) → i < count_of t r → position t r (name_at t r i) ≡ None → ⊥
 own_name t r i l e = let p = position-none t r (name_at t r i) e i l in let q = same_bytes-refl (name_at t r i) in let z : ◌≡◌ {A = ℕ} 0 1 = cc in omega arith
 
 -- ---- one name of an object
 
 module _ (t : Table) (r : ℕ) (e : Entry) (xs es met : List Entry) where
   -- a known name was not met before
-  first-met : (i : ℕ) → position t r e.name ≡ some i → names_good t r xs (e ∷ es) ≡ ok met → (lookup e.name xs ≡ none) × (names_good t r (e ∷ xs) es ≡ ok met)
-  unfolding names_good is_some
+  first-met : (i : ℕ) → position t r e.name ≡ Some i → names_good t r xs (e ∷ es) ≡ ok met → (lookup e.name xs ≡ None) × (names_good t r (e ∷ xs) es ≡ ok met)
+  unfolding names_good
   first-met i k h = cases (is_some (lookup e.name xs)) (λ w f. refused f) (λ w f. (absence (lookup e.name xs) w, f)) (rw (k, names_good) at h)
     where
-      absence : (x : Option Entry) → is_some x ≡ false → x ≡ none
-      absence none w = refl
-      absence (some f) w = cc
+      absence : (x : Option Entry) → is_some x ≡ false → x ≡ None
+      absence None w = refl
+      absence (Some f) w = cc
 
   -- an unknown one is skipped
-  skipped : position t r e.name ≡ none → names_good t r xs (e ∷ es) ≡ ok met → (extensible t r ≡ true) × (names_good t r xs es ≡ ok met)
+  skipped : position t r e.name ≡ None → names_good t r xs (e ∷ es) ≡ ok met → (extensible t r ≡ true) × (names_good t r xs es ≡ ok met)
   unfolding names_good
   skipped k h = cases (extensible t r) (λ w f. (w, f)) (λ w f. refused f) (rw (k, names_good) at h)
 
@@ -88,7 +89,7 @@ module _ {new old : Table} {R : ℕ → ℕ → Type 0} (pair : ByAdditions new 
   TakenAll es fs = (xs ys : List Entry) → Met old R b xs ys → (zs : List Entry) → names_good new a xs es ≡ ok zs → Taken old R b zs ys fs
 
   name-taken : (e f : Entry) (es fs : List Entry) → TwinEntry old R e f → TakenAll es fs → TakenAll (e ∷ es) (f ∷ fs)
-  unfolding names_good is_some
+  unfolding names_good
   name-taken en eo es fs (twin_entry {s = s} h) ih xs ys k zs e = go (position new a s) refl (position old b s) refl (position-found pair r s)
     where
       go : (x : Option ℕ) → position new a s ≡ x → (y : Option ℕ) → position old b s ≡ y → Found (count_of old b) (count_of new a) x y → Taken old R b zs ys (eo ∷ fs)

@@ -3,7 +3,7 @@ use Prim.Native.Nat.{ℕ, ◌<◌}
 use mathlib.Core.Path.{◌≡◌, refl, sym, ◌∙◌}
 use mathlib.Core.List.{List}
 use mathlib.Core.Bool.{Bool, true, false}
-use mathlib.Core.Option.{none}
+use Rattle.std.specs.Prelude.{None}
 use native.Mathlib.Omega.{arith}
 use lib.Dec.{ltb}
 use lib.ListN.{length}
@@ -84,6 +84,6 @@ pub cut-steps : {new old : Table} {d : ℕ} {v : Val} (c : Chain new old) → Fi
 cut-steps c f = let q = at_once c in shaped_steps c _ (fits_shaped q.made f 0 q.made.whole)
 
 -- (xii): where the newest table reads a text, each older one, with the same room, stores the value cut to it at once, or refuses by 11
-pub steps_store : {new old : Table} → Chain new old → first_bad old ≡ none → (s rows pool : List ℕ) (v : Val) → read_text new s ≡ ok v → roomy new v (length rows) (length pool) ≡ true
+pub steps_store : {new old : Table} → Chain new old → first_bad old ≡ None → (s rows pool : List ℕ) (v : Val) → read_text new s ≡ ok v → roomy new v (length rows) (length pool) ≡ true
     → Stored old rows pool (read_text old s) (cut v old 0) (lacks (cut v old 0) old 0)
 steps_store c = older-stores (at_once c).made

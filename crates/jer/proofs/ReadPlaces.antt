@@ -1,15 +1,18 @@
 -- The typed reading refuses at a byte, and for nothing else: never by a row, and never for want of room.
+use Rattle.std.specs.Prelude.{is_some}
+use Rattle.jer.specs.declared.Token.{Token}
+use Rattle.jer.specs.declared.Token.TheVariants as tok
 use Prim.Native.Nat.{ℕ, zero, suc, ◌^◌}
 use mathlib.Core.List.{List, [], ◌∷◌}
 use mathlib.Core.Bool.{Bool, true, false, ◌&&◌, not}
-use mathlib.Core.Option.{Option, none, some}
+use Rattle.std.specs.Prelude.{Option, None, Some}
 use lib.Dec.{eqb, ltb, leb}
 use Rattle.json_text.specs.Tree.{Json, jnull, jbool, jint, jreal, jstr, jarr, jobj, Items, inil, icons, Members, mnil, mcons}
 use Rattle.json_text.proofs.SoundRows.{pick-within, ◌⨾◌}
 use Rattle.jer.specs.declared.Cause.{Cause}
 use Rattle.jer.specs.declared.Cause.TheVariants.{UnknownName, RepeatedName, Missing, Unknown}
 use Rattle.jer.specs.declared.Refusal.TheVariants.{AtByte}
-use Rattle.jer.specs.Table.{Table, NULL, BOOLEAN, INTEGER, SEQUENCE, SEQUENCE-OF, CHOICE, kind_of, extensible, is_array, is_unwrapped, open_unwrapped, element_of, count_of, type_at, name_at, may_miss, same_bytes, position, Token, t_null, t_boolean, t_number, t_string, t_array, t_object, alternative, is_some}
+use Rattle.jer.specs.Table.{Table, NULL, BOOLEAN, INTEGER, SEQUENCE, SEQUENCE-OF, CHOICE, kind_of, extensible, is_array, is_unwrapped, open_unwrapped, element_of, count_of, type_at, name_at, may_miss, same_bytes, position, alternative}
 use Rattle.jer.specs.Value.{Val, v_seq, Parts}
 use Rattle.jer.specs.Answer.{Res, ok, no, bind}
 use Rattle.jer.specs.Read.{Meaning, Element, Entry, read_int, read_item, read_octets, octets_of, read_string, at_kind, picked, unwrapping, lookup, names_good, null_absent, with_absent, with_present, read_member, read_members, read_object, null_value, missing_element, read_element, surplus, read_elements, read_items, read_array, read_chosen, read_choice, read_braces, read, elements, entries}
@@ -39,13 +42,13 @@ int_at p true (suc n) = branch AtBytes (leb (suc n) (2 ^ 63)) (λ e. fine) (λ e
 
 item-at : (t : Table) (r p : ℕ) (o : Option ℕ) → AtBytes (read_item t r p o)
 unfolding read_item
-item-at t r p none = branch AtBytes (extensible t r) (λ e. place) (λ e. place)
-item-at t r p (some i) = fine
+item-at t r p None = branch AtBytes (extensible t r) (λ e. place) (λ e. place)
+item-at t r p (Some i) = fine
 
 octets-at : (p : ℕ) (o : Option (List ℕ)) → AtBytes (read_octets p o)
 unfolding read_octets
-octets-at p none = place
-octets-at p (some os) = fine
+octets-at p None = place
+octets-at p (Some os) = fine
 
 string-at : (t : Table) (p : ℕ) (s : List ℕ) → Everywhere (read_string t p s)
 unfolding read_string
@@ -59,8 +62,8 @@ kind_at t r k p h = branch AtBytes (eqb (kind_of t r) k) (λ e. h) (λ e. place)
 
 picked-at : (t : Table) (r p : ℕ) (plain : Meaning) (o : Option ℕ) → Everywhere plain → AtBytes (picked t r p plain o)
 unfolding picked
-picked-at t r p plain none h = branch AtBytes (extensible t r) (λ e. place) (λ e. place)
-picked-at t r p plain (some i) h = bind-at (h (type_at t r i)) (λ v. fine)
+picked-at t r p plain None h = branch AtBytes (extensible t r) (λ e. place) (λ e. place)
+picked-at t r p plain (Some i) h = bind-at (h (type_at t r i)) (λ v. fine)
 
 unwrapping-at : (t : Table) (k : Token) (p : ℕ) (plain : Meaning) → Everywhere plain → Everywhere (unwrapping t k p plain)
 unfolding unwrapping
@@ -83,8 +86,8 @@ Entries [] = Unit {0}
 Entries (e ∷ es) = Everywhere e.means × Entries es
 
 abbrev Held : Option Entry → Type 0
-Held none = Unit {0}
-Held (some e) = Everywhere e.means
+Held None = Unit {0}
+Held (Some e) = Everywhere e.means
 
 lookup-held : (s : List ℕ) (es : List Entry) → Entries es → Held (lookup s es)
 unfolding lookup
@@ -102,14 +105,14 @@ names-met t r [] ms h k = met h
 names-met t r (e ∷ es) ms h k = known (position t r e.name) (names-met t r es ms h k.1) (names-met t r es (e ∷ ms) (k.0, h) k.1)
   where
     known : (o : Option ℕ) → Met (names_good t r ms es) → Met (names_good t r (e ∷ ms) es)
-        → Met (elim o [ none ↦ elim (extensible t r) [ true ↦ names_good t r ms es | false ↦ no (AtByte UnknownName e.place) ] | some i ↦ elim (is_some (lookup e.name ms)) [ true ↦ no (AtByte RepeatedName e.place) | false ↦ names_good t r (e ∷ ms) es ] ])
-    known none a b = branch Met (extensible t r) (λ w. a) (λ w. bad)
-    known (some i) a b = branch Met (is_some (lookup e.name ms)) (λ w. bad) (λ w. b)
+        → Met (elim o [ None ↦ elim (extensible t r) [ true ↦ names_good t r ms es | false ↦ no (AtByte UnknownName e.place) ] | Some i ↦ elim (is_some (lookup e.name ms)) [ true ↦ no (AtByte RepeatedName e.place) | false ↦ names_good t r (e ∷ ms) es ] ])
+    known None a b = branch Met (extensible t r) (λ w. a) (λ w. bad)
+    known (Some i) a b = branch Met (is_some (lookup e.name ms)) (λ w. bad) (λ w. b)
 
 member-at : (t : Table) (r o i : ℕ) (e : Option Entry) {rest : Res Parts} → Held e → AtBytes rest → AtBytes (read_member t r o i e rest)
 unfolding read_member
-member-at t r o i none h k = branch AtBytes (may_miss t r i) (λ w. absent-at k) (λ w. place)
-member-at t r o i (some e) h k = branch AtBytes (e.is_null && null_absent t r i) (λ w. absent-at k) (λ w. present-at (h (type_at t r i)) k)
+member-at t r o i None h k = branch AtBytes (may_miss t r i) (λ w. absent-at k) (λ w. place)
+member-at t r o i (Some e) h k = branch AtBytes (e.is_null && null_absent t r i) (λ w. absent-at k) (λ w. present-at (h (type_at t r i)) k)
 
 members-at : (t : Table) (r o : ℕ) (es : List Entry) (i n : ℕ) → Entries es → AtBytes (read_members t r o es i n)
 unfolding read_members
@@ -131,21 +134,21 @@ Elements [] = Unit {0}
 Elements (e ∷ es) = Everywhere e.means × Elements es
 
 abbrev Given : Option Element → Type 0
-Given none = Unit {0}
-Given (some e) = Everywhere e.means
+Given None = Unit {0}
+Given (Some e) = Everywhere e.means
 
 missing_at : (t : Table) (r o i : ℕ) → AtBytes (missing_element t r o i)
 unfolding missing_element
 missing_at t r o i = go (null_value t (type_at t r i))
   where
-    go : (x : Option Val) → AtBytes {A = Val} (elim x [ some v ↦ ok v | none ↦ elim (open_unwrapped t (type_at t r i)) [ true ↦ no (AtByte Unknown o) | false ↦ no (AtByte (Missing i) o) ] ])
-    go (some v) = fine
-    go none = branch AtBytes (open_unwrapped t (type_at t r i)) (λ w. place) (λ w. place)
+    go : (x : Option Val) → AtBytes {A = Val} (elim x [ Some v ↦ ok v | None ↦ elim (open_unwrapped t (type_at t r i)) [ true ↦ no (AtByte Unknown o) | false ↦ no (AtByte (Missing i) o) ] ])
+    go (Some v) = fine
+    go None = branch AtBytes (open_unwrapped t (type_at t r i)) (λ w. place) (λ w. place)
 
 element-at : (t : Table) (r o i : ℕ) (e : Option Element) {rest : Res Parts} → Given e → AtBytes rest → AtBytes (read_element t r o i e rest)
 unfolding read_element
-element-at t r o i none h k = branch AtBytes (may_miss t r i) (λ w. absent-at k) (λ w. present-at (missing_at t r o i) k)
-element-at t r o i (some e) h k = branch AtBytes (e.is_null && may_miss t r i) (λ w. absent-at k) (λ w. present-at (h (type_at t r i)) k)
+element-at t r o i None h k = branch AtBytes (may_miss t r i) (λ w. absent-at k) (λ w. present-at (missing_at t r o i) k)
+element-at t r o i (Some e) h k = branch AtBytes (e.is_null && may_miss t r i) (λ w. absent-at k) (λ w. present-at (h (type_at t r i)) k)
 
 surplus-at : (t : Table) (r : ℕ) (es : List Element) → AtBytes (surplus t r es)
 unfolding surplus
@@ -155,8 +158,8 @@ surplus-at t r (e ∷ es) = branch AtBytes (extensible t r) (λ w. fine) (λ w. 
 elements-at : (t : Table) (r o : ℕ) (es : List Element) (i n : ℕ) → Elements es → AtBytes (read_elements t r o es i n)
 unfolding read_elements
 elements-at t r o es i zero h = surplus-at t r es
-elements-at t r o [] i (suc n) h = element-at t r o i none tt (elements-at t r o [] (suc i) n tt)
-elements-at t r o (e ∷ es) i (suc n) h = element-at t r o i (some e) h.0 (elements-at t r o es (suc i) n h.1)
+elements-at t r o [] i (suc n) h = element-at t r o i None tt (elements-at t r o [] (suc i) n tt)
+elements-at t r o (e ∷ es) i (suc n) h = element-at t r o i (Some e) h.0 (elements-at t r o es (suc i) n h.1)
 
 items_at_lem : (es : List Element) (r : ℕ) → Elements es → AtBytes (read_items es r)
 unfolding read_items
@@ -173,8 +176,8 @@ array_at t o es h r =
 
 chosen_at_lem : (t : Table) (r o : ℕ) (e : Entry) (i : Option ℕ) → Everywhere e.means → AtBytes (read_chosen t r o e i)
 unfolding read_chosen
-chosen_at_lem t r o e none h = branch AtBytes (extensible t r) (λ w. place) (λ w. place)
-chosen_at_lem t r o e (some i) h = bind-at (h (type_at t r i)) (λ v. fine)
+chosen_at_lem t r o e None h = branch AtBytes (extensible t r) (λ w. place) (λ w. place)
+chosen_at_lem t r o e (Some i) h = bind-at (h (type_at t r i)) (λ v. fine)
 
 choice-at : (t : Table) (r o : ℕ) (es : List Entry) → Entries es → AtBytes (read_choice t r o es)
 unfolding read_choice
@@ -194,13 +197,13 @@ mutual
   unfolding read elements entries
 
   pub read_at_lem : (j : Json) (t : Table) (r : ℕ) → AtBytes (read j t r)
-  read_at_lem (jnull p) t r = unwrapping-at t t_null p _ (λ q. kind_at t q NULL p fine) r
-  read_at_lem (jbool p b) t r = unwrapping-at t t_boolean p _ (λ q. kind_at t q BOOLEAN p fine) r
-  read_at_lem (jint p m n) t r = unwrapping-at t t_number p _ (λ q. kind_at t q INTEGER p (int_at p m n)) r
-  read_at_lem (jreal p) t r = unwrapping-at t t_number p _ (λ q. kind_at t q INTEGER p place) r
-  read_at_lem (jstr p s) t r = unwrapping-at t t_string p _ (λ q. string-at t p s q) r
-  read_at_lem (jarr p is) t r = unwrapping-at t t_array p _ (λ q. array_at t p (elements is t) (elements-every is t) q) r
-  read_at_lem (jobj p ms) t r = unwrapping-at t t_object p _ (λ q. braces-at t p (entries ms t) (entries-every ms t) q) r
+  read_at_lem (jnull p) t r = unwrapping-at t tok.Null p _ (λ q. kind_at t q NULL p fine) r
+  read_at_lem (jbool p b) t r = unwrapping-at t tok.Boolean p _ (λ q. kind_at t q BOOLEAN p fine) r
+  read_at_lem (jint p m n) t r = unwrapping-at t tok.Number p _ (λ q. kind_at t q INTEGER p (int_at p m n)) r
+  read_at_lem (jreal p) t r = unwrapping-at t tok.Number p _ (λ q. kind_at t q INTEGER p place) r
+  read_at_lem (jstr p s) t r = unwrapping-at t tok.String p _ (λ q. string-at t p s q) r
+  read_at_lem (jarr p is) t r = unwrapping-at t tok.Array p _ (λ q. array_at t p (elements is t) (elements-every is t) q) r
+  read_at_lem (jobj p ms) t r = unwrapping-at t tok.Object p _ (λ q. braces-at t p (entries ms t) (entries-every ms t) q) r
 
   elements-every : (is : Items) (t : Table) → Elements (elements is t)
   elements-every inil t = tt

@@ -3,7 +3,7 @@ use Prim.Native.Nat.{ℕ, zero, suc, ◌+◌, ◌≤◌, ◌<◌}
 use mathlib.Core.Path.{◌≡◌, refl}
 use mathlib.Core.List.{List, []}
 use mathlib.Core.Bool.{Bool, true, false, ◌&&◌}
-use mathlib.Core.Option.{none, some}
+use Rattle.std.specs.Prelude.{None, Some}
 use native.Mathlib.Omega.{arith}
 use Rattle.json_text.specs.Bytes.{past}
 use Rattle.json_text.specs.Tree.{Json, Items, inil, icons}
@@ -68,19 +68,19 @@ unfolding with_present bind
 with_present_lem v w x qs e f = rw (e, f)
 
 module _ (t : Table) (r o i : ℕ) (x : Res Parts) (qs : Parts) (rest : x ≡ ok qs) where
-  null-element : (e : Element) → (e.is_null && may_miss t r i) ≡ true → read_element t r o i (some e) x ≡ ok (absent qs)
+  null-element : (e : Element) → (e.is_null && may_miss t r i) ≡ true → read_element t r o i (Some e) x ≡ ok (absent qs)
   unfolding read_element
   null-element e h = rw (h, read_element) (with_absent_lem x qs rest)
 
-  some-element : (e : Element) (w : Val) → (e.is_null && may_miss t r i) ≡ false → e.means (type_at t r i) ≡ ok w → read_element t r o i (some e) x ≡ ok (present w qs)
+  some-element : (e : Element) (w : Val) → (e.is_null && may_miss t r i) ≡ false → e.means (type_at t r i) ≡ ok w → read_element t r o i (Some e) x ≡ ok (present w qs)
   unfolding read_element
   some-element e w h m = rw (h, read_element) (with_present_lem _ w x qs m rest)
 
-  absent-element : may_miss t r i ≡ true → read_element t r o i none x ≡ ok (absent qs)
+  absent-element : may_miss t r i ≡ true → read_element t r o i None x ≡ ok (absent qs)
   unfolding read_element
   absent-element h = rw (h, read_element) (with_absent_lem x qs rest)
 
-  missing-element : (w : Val) → may_miss t r i ≡ false → null_value t (type_at t r i) ≡ some w → read_element t r o i none x ≡ ok (present w qs)
+  missing-element : (w : Val) → may_miss t r i ≡ false → null_value t (type_at t r i) ≡ Some w → read_element t r o i None x ≡ ok (present w qs)
   unfolding read_element missing_element
   missing-element w h m = rw (h, read_element) (with_present_lem _ w x qs (rw (m, missing_element)) rest)
 

@@ -3,7 +3,7 @@
 use Prim.Native.Nat.{ℕ, ◌≤◌}
 use mathlib.Core.Path.{◌≡◌, ap, ◌∙◌}
 use mathlib.Core.List.{List}
-use mathlib.Core.Option.{none}
+use Rattle.std.specs.Prelude.{None}
 use lib.ListN.{length}
 use borrow.Author.Tests.{le-leb}
 use Rattle.json_text.specs.Tree.{Json}
@@ -28,13 +28,13 @@ unfolding good_text parse tree_of
 good-text {j} s t h = rw (le-leb (length s) 65536 h, good_text, takes_text 32 j s t)
 
 -- a good table reads a text within the sizes as its tree
-pub read-text : {j : Json} (t : Table) (s : List ℕ) → first_bad t ≡ none → Text 32 j s → length s ≤ 65536 → read_text t s ≡ read_whole t j
+pub read-text : {j : Json} (t : Table) (s : List ℕ) → first_bad t ≡ None → Text 32 j s → length s ≤ 65536 → read_text t s ≡ read_whole t j
 unfolding read_text good_table table_of bind
 read-text t s good x h = rw (good, good_table) (rw (good-text s x h, bind))
 
-pub newer-reads-text : {new old : Table} {R : ℕ → ℕ → Type 0} → ByAdditions new old R → first_bad new ≡ none → first_bad old ≡ none → {v : Val} → Fits old 32 0 v → length (write v old 0) ≤ 65536
+pub newer-reads-text : {new old : Table} {R : ℕ → ℕ → Type 0} → ByAdditions new old R → first_bad new ≡ None → first_bad old ≡ None → {v : Val} → Fits old 32 0 v → length (write v old 0) ≤ 65536
     → read_text new (write v old 0) ≡ ok (grow v new 0)
 newer-reads-text {new} {old} pair gn gO f h = let w = whole-written pair (valid_sane new gn) (valid_sane old gO) f in read-text new _ gn w.1 h ∙ w.2
 
-pub written-reads-text : {t : Table} → first_bad t ≡ none → {v : Val} → Fits t 32 0 v → length (write v t 0) ≤ 65536 → read_text t (write v t 0) ≡ ok v
+pub written-reads-text : {t : Table} → first_bad t ≡ None → {v : Val} → Fits t 32 0 v → length (write v t 0) ≤ 65536 → read_text t (write v t 0) ≡ ok v
 written-reads-text {t} good f h = newer-reads-text (same_additions t) good good f h ∙ ap ok (grow-same f)

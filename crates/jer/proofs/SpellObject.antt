@@ -1,14 +1,15 @@
 -- Objects: the members of a sequence are found by their names, and those that are absent are not.
+use Rattle.std.specs.Prelude.{is_some}
 use Prim.Native.Nat.{ℕ, zero, suc, ◌+◌, ◌≤◌, ◌<◌}
 use mathlib.Core.Path.{◌≡◌, refl, ap, ◌∙◌}
 use mathlib.Core.List.{List, [], ◌∷◌}
 use mathlib.Core.Bool.{Bool, true, false, ◌&&◌, and-false}
-use mathlib.Core.Option.{Option, none, some}
+use Rattle.std.specs.Prelude.{Option, None, Some}
 use native.Mathlib.Omega.{arith}
 use lib.Dec.{ltb}
 use borrow.Author.Tests.{ltb-true, ltb-false}
 use Rattle.json_text.specs.Tree.{Json, Members, mnil, mcons}
-use Rattle.jer.specs.Table.{Table, is_type, count_of, type_at, name_at, may_miss, same_bytes, position, is_some}
+use Rattle.jer.specs.Table.{Table, is_type, count_of, type_at, name_at, may_miss, same_bytes, position}
 use Rattle.jer.specs.Value.{Val, v_seq, Parts, pnil, absent, present}
 use Rattle.jer.specs.Answer.{Res, ok, bind}
 use Rattle.jer.specs.Read.{Entry, lookup, names_good, null_absent, read_member, read_members, read_object, null?, read, entries}
@@ -29,7 +30,7 @@ null-present t r i j w e = go (null? j) refl
 
 -- ---- one entry
 
-lookup-here : (e : Entry) (es : List Entry) (s : List ℕ) → e.name ≡ s → lookup s (e ∷ es) ≡ some e
+lookup-here : (e : Entry) (es : List Entry) (s : List ℕ) → e.name ≡ s → lookup s (e ∷ es) ≡ Some e
 unfolding lookup
 lookup-here e es s q = let h : same_bytes e.name s ≡ true = ap (λ (x : List ℕ). same_bytes x s) q ∙ same_bytes-refl s in rw (h, lookup)
 
@@ -37,15 +38,15 @@ lookup-other : (e : Entry) (es : List Entry) (s : List ℕ) → same_bytes e.nam
 unfolding lookup
 lookup-other e es s h = rw (h, lookup)
 
-name-good : (t : Table) (r i : ℕ) (e : Entry) (met es : List Entry) → position t r e.name ≡ some i → lookup e.name met ≡ none → names_good t r met (e ∷ es) ≡ names_good t r (e ∷ met) es
-unfolding names_good is_some
+name-good : (t : Table) (r i : ℕ) (e : Entry) (met es : List Entry) → position t r e.name ≡ Some i → lookup e.name met ≡ None → names_good t r met (e ∷ es) ≡ names_good t r (e ∷ met) es
+unfolding names_good
 name-good t r i e met es p l = rw (p, l, names_good)
 
-absent-member : (t : Table) (r o i : ℕ) (y : Option Entry) (x : Res Parts) (qs : Parts) → y ≡ none → may_miss t r i ≡ true → x ≡ ok qs → read_member t r o i y x ≡ ok (absent qs)
+absent-member : (t : Table) (r o i : ℕ) (y : Option Entry) (x : Res Parts) (qs : Parts) → y ≡ None → may_miss t r i ≡ true → x ≡ ok qs → read_member t r o i y x ≡ ok (absent qs)
 unfolding read_member
 absent-member t r o i y x qs l m e = rw (l, m, read_member) (with_absent_lem x qs e)
 
-present-member : (t : Table) (r o i : ℕ) (y : Option Entry) (x : Res Parts) (qs : Parts) (e : Entry) (w : Val) → y ≡ some e → (e.is_null && null_absent t r i) ≡ false → e.means (type_at t r i) ≡ ok w → x ≡ ok qs
+present-member : (t : Table) (r o i : ℕ) (y : Option Entry) (x : Res Parts) (qs : Parts) (e : Entry) (w : Val) → y ≡ Some e → (e.is_null && null_absent t r i) ≡ false → e.means (type_at t r i) ≡ ok w → x ≡ ok qs
     → read_member t r o i y x ≡ ok (present w qs)
 unfolding read_member
 present-member t r o i y x qs e w l z m h = rw (l, z, read_member) (with_present_lem _ w x qs m h)
@@ -82,7 +83,7 @@ module _ (t : Table) (g : Sane t) (r : ℕ) (k : is_type t r ≡ true) where
     before : (j : ℕ) → j < i → lookup (name_at t r j) all ≡ lookup (name_at t r j) met
     members : (o : ℕ) → read_members t r o all i n ≡ ok qs
 
-  gather : {i n : ℕ} {qs : Parts} {es : List Entry} → Made t r i n qs es → i + n ≡ count_of t r → (met : List Entry) → ((j : ℕ) → i ≤ j → j < count_of t r → lookup (name_at t r j) met ≡ none) → Gathered i n qs met es
+  gather : {i n : ℕ} {qs : Parts} {es : List Entry} → Made t r i n qs es → i + n ≡ count_of t r → (met : List Entry) → ((j : ℕ) → i ≤ j → j < count_of t r → lookup (name_at t r j) met ≡ None) → Gathered i n qs met es
   unfolding names_good read_members
   gather ended c met clean = record { all = met; names = refl; before = λ j l. refl; members = λ o. refl }
   gather {i = i} (without {n = n} {qs = qs} m h) c met clean =

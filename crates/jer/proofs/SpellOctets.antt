@@ -3,7 +3,7 @@ use Prim.Native.Nat.{ℕ, ◌+◌, ◌-◌, ◌*◌, ◌≤◌, ◌<◌, ◌/◌
 use mathlib.Core.Path.{◌≡◌, refl, ap, ◌∙◌}
 use mathlib.Core.List.{List, [], ◌∷◌}
 use mathlib.Core.Bool.{false}
-use mathlib.Core.Option.{Option, some}
+use Rattle.std.specs.Prelude.{Option, Some}
 use native.Mathlib.Omega.{arith}
 use native.Mathlib.Nat.{div-add-mod', mod-lt, div-lt_iff_lt-mul, mul-add-div_right, div-eq_of_lt, mul-add-mod_self_right, mod-eq_of_lt}
 use lib.Dec.{eqb, lit<}
@@ -22,13 +22,13 @@ plain-char b i h = plain {b = b} (omega arith) (λ e. omega arith) h
 
 -- ---- hexadecimal
 
-hex-back : {x b : ℕ} → Hex x b → hex_value b ≡ some x
+hex-back : {x b : ℕ} → Hex x b → hex_value b ≡ Some x
 unfolding hex_value
 hex-back (digit i e) = rw e (pick-row 0 _ _ _ (omega arith))
 hex-back (upper i e) = rw e (pick-row 1 _ _ _ (omega arith))
 hex-back (lower i e) = rw e (pick-row 2 _ _ _ (omega arith))
 
-digit-back : (x : ℕ) → x < 16 → hex_value (hex_digit x) ≡ some x
+digit-back : (x : ℕ) → x < 16 → hex_value (hex_digit x) ≡ Some x
 digit-back x h = hex-back (hex-digit x h)
 
 high_half : (o : ℕ) → o < 256 → o / 16 < 16
@@ -37,7 +37,7 @@ high_half o h = (div-lt_iff_lt-mul (lit< tt)).1 (omega arith)
 low_half : (o : ℕ) → o % 16 < 16
 low_half o = mod-lt o (lit< tt)
 
-pub unhex-hex : (s : List ℕ) → Octets s → unhex (hex s) ≡ some s
+pub unhex-hex : (s : List ℕ) → Octets s → unhex (hex s) ≡ Some s
 unfolding unhex hex also
 unhex-hex [] no_octets = refl
 unhex-hex (o ∷ s) (octet h hs) = rw (digit-back (o / 16) (high_half o h), digit-back (o % 16) (low_half o), unhex-hex s hs, div-add-mod' o 16)
@@ -54,34 +54,34 @@ hex-chars (octet {b = o} h hs) = char (hex-plain (hex-digit (o / 16) (high_half 
 
 -- ---- the digits of Base64
 
-large-back : (x : ℕ) → x ≤ 25 → base64_value (x + 0x41) ≡ some x
+large-back : (x : ℕ) → x ≤ 25 → base64_value (x + 0x41) ≡ Some x
 unfolding base64_value
-large-back x h = pick-row 0 _ _ _ (omega arith) ∙ ap some (omega arith)
+large-back x h = pick-row 0 _ _ _ (omega arith) ∙ ap Some (omega arith)
 
-small-back : (x : ℕ) → In 26 51 x → base64_value (x + 0x47) ≡ some x
+small-back : (x : ℕ) → In 26 51 x → base64_value (x + 0x47) ≡ Some x
 unfolding base64_value
-small-back x h = pick-row 1 _ _ _ (omega arith) ∙ ap some (omega arith)
+small-back x h = pick-row 1 _ _ _ (omega arith) ∙ ap Some (omega arith)
 
-number-back : (x : ℕ) → In 52 61 x → base64_value (x - 0x04) ≡ some x
+number-back : (x : ℕ) → In 52 61 x → base64_value (x - 0x04) ≡ Some x
 unfolding base64_value
-number-back x h = pick-row 2 _ _ _ (omega arith) ∙ ap some (omega arith)
+number-back x h = pick-row 2 _ _ _ (omega arith) ∙ ap Some (omega arith)
 
-plus-back : base64_value 0x2B ≡ some 62
+plus-back : base64_value 0x2B ≡ Some 62
 unfolding base64_value pick
 plus-back = refl
 
-slash-back : base64_value 0x2F ≡ some 63
+slash-back : base64_value 0x2F ≡ Some 63
 unfolding base64_value pick
 slash-back = refl
 
-sextet_back : (x : ℕ) → x < 64 → base64_value (base64_digit x) ≡ some x
+sextet_back : (x : ℕ) → x < 64 → base64_value (base64_digit x) ≡ Some x
 unfolding base64_digit
 sextet_back x h =
-    pick_first (λ y. base64_value y ≡ some x) x 0 25 _ _ _ (λ i. large-back x i.1)
-    (λ a. pick_first (λ y. base64_value y ≡ some x) x 26 51 _ _ _ (small-back x)
-    (λ b. pick_first (λ y. base64_value y ≡ some x) x 52 61 _ _ _ (number-back x)
-    (λ c. pick_first (λ y. base64_value y ≡ some x) x 62 62 _ _ _ (λ i. plus-back ∙ ap some (omega arith))
-    (λ d. pick-last (λ y. base64_value y ≡ some x) x _ (slash-back ∙ ap some (last a b c d))))))
+    pick_first (λ y. base64_value y ≡ Some x) x 0 25 _ _ _ (λ i. large-back x i.1)
+    (λ a. pick_first (λ y. base64_value y ≡ Some x) x 26 51 _ _ _ (small-back x)
+    (λ b. pick_first (λ y. base64_value y ≡ Some x) x 52 61 _ _ _ (number-back x)
+    (λ c. pick_first (λ y. base64_value y ≡ Some x) x 62 62 _ _ _ (λ i. plus-back ∙ ap Some (omega arith))
+    (λ d. pick-last (λ y. base64_value y ≡ Some x) x _ (slash-back ∙ ap Some (last a b c d))))))
   where
     last : (In 0 25 x → ⊥) → (In 26 51 x → ⊥) → (In 52 61 x → ⊥) → (In 62 62 x → ⊥) → 63 ≡ x
     last a b c d =
@@ -126,16 +126,16 @@ base64-chars (a ∷ b ∷ c ∷ s) = before _ (before _ (before _ (before _ (bas
 
 -- ---- groups of four digits
 
-last_one : (x y : ℕ) → x < 64 → y < 64 → y % 16 ≡ 0 → last_group (base64_digit x) (base64_digit y) 0x3D 0x3D ≡ some ((x * 4 + y / 16) ∷ [])
+last_one : (x y : ℕ) → x < 64 → y < 64 → y % 16 ≡ 0 → last_group (base64_digit x) (base64_digit y) 0x3D 0x3D ≡ Some ((x * 4 + y / 16) ∷ [])
 unfolding last_group also only_if
 last_one x y p q e = rw (sextet_back x p, sextet_back y q, e)
 
-last-two : (x y z : ℕ) → x < 64 → y < 64 → z < 64 → z % 4 ≡ 0 → last_group (base64_digit x) (base64_digit y) (base64_digit z) 0x3D ≡ some ((x * 4 + y / 16) ∷ (y % 16 * 16 + z / 4) ∷ [])
+last-two : (x y z : ℕ) → x < 64 → y < 64 → z < 64 → z % 4 ≡ 0 → last_group (base64_digit x) (base64_digit y) (base64_digit z) 0x3D ≡ Some ((x * 4 + y / 16) ∷ (y % 16 * 16 + z / 4) ∷ [])
 unfolding last_group also only_if
 last-two x y z p q r e = rw (sextet_back x p, sextet_back y q, not-pad z, sextet_back z r, e)
 
 last-three : (x y z w : ℕ) → x < 64 → y < 64 → z < 64 → w < 64
-    → last_group (base64_digit x) (base64_digit y) (base64_digit z) (base64_digit w) ≡ some ((x * 4 + y / 16) ∷ (y % 16 * 16 + z / 4) ∷ (z % 4 * 64 + w) ∷ [])
+    → last_group (base64_digit x) (base64_digit y) (base64_digit z) (base64_digit w) ≡ Some ((x * 4 + y / 16) ∷ (y % 16 * 16 + z / 4) ∷ (z % 4 * 64 + w) ∷ [])
 unfolding last_group also
 last-three x y z w p q r s = rw (sextet_back x p, sextet_back y q, not-pad w, sextet_back z r, sextet_back w s)
 
@@ -144,8 +144,8 @@ more-groups : (a b c d e : ℕ) (u : List ℕ) → unbase64 (a ∷ b ∷ c ∷ d
 unfolding unbase64
 more-groups a b c d e u = refl
 
-not_last : (x y z w e : ℕ) (u os : List ℕ) → x < 64 → y < 64 → z < 64 → w < 64 → unbase64 (e ∷ u) ≡ some os
-    → unbase64 (base64_digit x ∷ base64_digit y ∷ base64_digit z ∷ base64_digit w ∷ e ∷ u) ≡ some ((x * 4 + y / 16) ∷ (y % 16 * 16 + z / 4) ∷ (z % 4 * 64 + w) ∷ os)
+not_last : (x y z w e : ℕ) (u os : List ℕ) → x < 64 → y < 64 → z < 64 → w < 64 → unbase64 (e ∷ u) ≡ Some os
+    → unbase64 (base64_digit x ∷ base64_digit y ∷ base64_digit z ∷ base64_digit w ∷ e ∷ u) ≡ Some ((x * 4 + y / 16) ∷ (y % 16 * 16 + z / 4) ∷ (z % 4 * 64 + w) ∷ os)
 unfolding full_group also
 not_last x y z w e u os p q r t h = more-groups _ _ _ _ e u ∙ rw (sextet_back x p, sextet_back y q, sextet_back z r, sextet_back w t, h)
 
@@ -184,23 +184,23 @@ sextets a b c h k l =
     let w : c / 64 < 4 = two-bits c l in
     record { first = (div-lt_iff_lt-mul (lit< tt)).1 (omega arith); second = omega arith; third = omega arith; fourth = mod-lt c (lit< tt) }
 
-same-three : {x y z a b c : ℕ} (s : List ℕ) → x ≡ a → y ≡ b → z ≡ c → ◌≡◌ {A = Option (List ℕ)} (some (x ∷ y ∷ z ∷ s)) (some (a ∷ b ∷ c ∷ s))
+same-three : {x y z a b c : ℕ} (s : List ℕ) → x ≡ a → y ≡ b → z ≡ c → ◌≡◌ {A = Option (List ℕ)} (Some (x ∷ y ∷ z ∷ s)) (Some (a ∷ b ∷ c ∷ s))
 same-three s p q r = cc
 
-one-back : (a : ℕ) → a < 256 → unbase64 (base64 (a ∷ [])) ≡ some (a ∷ [])
+one-back : (a : ℕ) → a < 256 → unbase64 (base64 (a ∷ [])) ≡ Some (a ∷ [])
 unfolding unbase64 base64
 one-back a h =
     let s : Sextets a 0 0 = sextets a 0 0 h (lit< tt) (lit< tt) in
-    last_one (a / 4) (a % 4 * 16) s.first (omega arith) (low_part 16 (a % 4) 0 _ (omega arith) (lit< tt)) ∙ ap (λ (x : ℕ). some (x ∷ [])) (first-octet a _ 0 (omega arith) (lit< tt))
+    last_one (a / 4) (a % 4 * 16) s.first (omega arith) (low_part 16 (a % 4) 0 _ (omega arith) (lit< tt)) ∙ ap (λ (x : ℕ). Some (x ∷ [])) (first-octet a _ 0 (omega arith) (lit< tt))
 
-two_back : (a b : ℕ) → a < 256 → b < 256 → unbase64 (base64 (a ∷ b ∷ [])) ≡ some (a ∷ b ∷ [])
+two_back : (a b : ℕ) → a < 256 → b < 256 → unbase64 (base64 (a ∷ b ∷ [])) ≡ Some (a ∷ b ∷ [])
 unfolding unbase64 base64
 two_back a b h k =
     let s : Sextets a b 0 = sextets a b 0 h k (lit< tt) in
     last-two (a / 4) (a % 4 * 16 + b / 16) (b % 16 * 4) s.first s.second (omega arith) (low_part 4 (b % 16) 0 _ (omega arith) (lit< tt))
     ∙ cc (first-octet a _ (b / 16) refl (high_half b k), second-octet (a % 4) b (b % 16 * 4) 0 k (omega arith) (lit< tt))
 
-three_back : (a b c : ℕ) (s : List ℕ) → a < 256 → b < 256 → c < 256 → unbase64 (base64 s) ≡ some s → unbase64 (base64 (a ∷ b ∷ c ∷ s)) ≡ some (a ∷ b ∷ c ∷ s)
+three_back : (a b c : ℕ) (s : List ℕ) → a < 256 → b < 256 → c < 256 → unbase64 (base64 s) ≡ Some s → unbase64 (base64 (a ∷ b ∷ c ∷ s)) ≡ Some (a ∷ b ∷ c ∷ s)
 unfolding unbase64 base64
 three_back a b c s h k l ih = go s ih ∙ same-three s (first-octet a _ (b / 16) refl (high_half b k)) (second-octet (a % 4) b _ (c / 64) k refl (two-bits c l)) (third-octet (b % 16) c l)
   where
@@ -209,18 +209,18 @@ three_back a b c s h k l ih = go s ih ∙ same-three s (first-octet a _ (b / 16)
 
     -- the digits' octets before the others
     Group : List ℕ → Type 0
-    Group s = unbase64 (base64 (a ∷ b ∷ c ∷ s)) ≡ some ((a / 4 * 4 + (a % 4 * 16 + b / 16) / 16) ∷ ((a % 4 * 16 + b / 16) % 16 * 16 + (b % 16 * 4 + c / 64) / 4) ∷ ((b % 16 * 4 + c / 64) % 4 * 64 + c % 64) ∷ s)
+    Group s = unbase64 (base64 (a ∷ b ∷ c ∷ s)) ≡ Some ((a / 4 * 4 + (a % 4 * 16 + b / 16) / 16) ∷ ((a % 4 * 16 + b / 16) % 16 * 16 + (b % 16 * 4 + c / 64) / 4) ∷ ((b % 16 * 4 + c / 64) % 4 * 64 + c % 64) ∷ s)
 
-    more : (s : List ℕ) (e : ℕ) (u : List ℕ) → base64 s ≡ e ∷ u → unbase64 (base64 s) ≡ some s → Group s
+    more : (s : List ℕ) (e : ℕ) (u : List ℕ) → base64 s ≡ e ∷ u → unbase64 (base64 s) ≡ Some s → Group s
     more s e u q i = rw q (not_last _ _ _ _ e u s f.first f.second f.third f.fourth (rw q at i))
 
-    go : (s : List ℕ) → unbase64 (base64 s) ≡ some s → Group s
+    go : (s : List ℕ) → unbase64 (base64 s) ≡ Some s → Group s
     go [] i = last-three _ _ _ _ f.first f.second f.third f.fourth
     go (x ∷ []) i = more _ _ _ refl i
     go (x ∷ y ∷ []) i = more _ _ _ refl i
     go (x ∷ y ∷ z ∷ s) i = more _ _ _ refl i
 
-pub unbase64-base64 : (s : List ℕ) → Octets s → unbase64 (base64 s) ≡ some s
+pub unbase64-base64 : (s : List ℕ) → Octets s → unbase64 (base64 s) ≡ Some s
 unfolding unbase64 base64
 unbase64-base64 [] no_octets = refl
 unbase64-base64 (a ∷ []) (octet h no_octets) = one-back a h

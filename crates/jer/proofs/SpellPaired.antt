@@ -2,7 +2,7 @@
 use Prim.Native.Nat.{ℕ, ◌≤◌, ◌<◌}
 use mathlib.Core.Path.{◌≡◌, sym, ap, ◌∙◌}
 use mathlib.Core.Bool.{true, or-true}
-use mathlib.Core.Option.{some}
+use Rattle.std.specs.Prelude.{Some}
 use native.Mathlib.Omega.{arith}
 use borrow.Author.Tests.{le-leb}
 use Rattle.jer.specs.Table.{Table, kind_of, is_type, count_of, root_of, name_at, addition, may_miss, position}
@@ -22,7 +22,7 @@ module _ {new old : Table} {R : ℕ → ℕ → Type 0} (pair : ByAdditions new 
   pub inside-new : (i : ℕ) → i < count_of old b → i < count_of new a
   inside-new i u = omega (arith, pair.fewer a b r)
 
-  pub position-new : Sane new → is_type old b ≡ true → (i : ℕ) → i < count_of old b → position new a (name_at old b i) ≡ some i
+  pub position-new : Sane new → is_type old b ≡ true → (i : ℕ) → i < count_of old b → position new a (name_at old b i) ≡ Some i
   position-new g k i u = ap (position new a) (sym (pair.names a b i r u)) ∙ position-of new a i g (type-new k) (inside-new i u)
 
   -- what the older lacks may miss

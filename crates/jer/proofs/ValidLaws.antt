@@ -1,14 +1,16 @@
 -- Laws of searching a type's members: the first that passes a test, the position of a name, the alternative of a token.
+use Rattle.jer.specs.declared.Token.{Token}
+use Rattle.jer.specs.declared.Token.TheVariants as tok
 use Prim.Native.Nat.{ℕ, zero, suc, ◌+◌, ◌≤◌, ◌<◌}
 use mathlib.Core.Path.{◌≡◌, refl, sym, ap}
 use mathlib.Core.List.{List, [], ◌∷◌}
 use mathlib.Core.Bool.{Bool, true, false}
-use mathlib.Core.Option.{Option, none, some}
+use Rattle.std.specs.Prelude.{Option, None, Some}
 use native.Mathlib.Omega.{arith}
 use lib.Dec.{eqb, ltb}
 use lib.ListN.{get_or}
 use borrow.Author.Tests.{ltb-true, ltb-false, eqb-true, eqb-false, eq-eqb, not-true}
-use Rattle.jer.specs.Table.{Table, is_type, is_unwrapped, count_of, type_at, name_at, first_where, same_bytes, position, Token, t_null, t_boolean, t_number, t_string, t_array, t_object, token_code, code_of, same_token, token_of, alternative}
+use Rattle.jer.specs.Table.{Table, is_type, is_unwrapped, count_of, type_at, name_at, first_where, same_bytes, position, token_code, code_of, same_token, token_of, alternative}
 use Rattle.jer.specs.Valid.{every, all_differ}
 use Rattle.jer.specs.Sane.{Sane}
 
@@ -46,21 +48,21 @@ pub record First (f : ℕ → Bool) (i n k : ℕ) : Type 0 where
   pub passes : f k ≡ true
   pub before : (j : ℕ) → i ≤ j → j < k → f j ≡ false
 
-pub first_some : (f : ℕ → Bool) (i n k : ℕ) → first_where f i n ≡ some k → First f i n k
+pub first_some : (f : ℕ → Bool) (i n k : ℕ) → first_where f i n ≡ Some k → First f i n k
 unfolding first_where
 first_some f i zero k e = absurd (let z : ◌≡◌ {A = ℕ} 0 1 = cc in omega arith)
 first_some f i (suc n) k e = go (f i) refl e (first_some f (suc i) n k)
   where
-    go : (c : Bool) → f i ≡ c → elim c as (λ x. Option ℕ) [ true ↦ some i | false ↦ first_where f (suc i) n ] ≡ some k → (first_where f (suc i) n ≡ some k → First f (suc i) n k) → First f i (suc n) k
+    go : (c : Bool) → f i ≡ c → elim c as (λ x. Option ℕ) [ true ↦ Some i | false ↦ first_where f (suc i) n ] ≡ Some k → (first_where f (suc i) n ≡ Some k → First f (suc i) n k) → First f i (suc n) k
     go true h w ih = let q : i ≡ k = cc in record { from = omega arith; within = omega arith; passes = rw q at h; before = λ j l u. absurd (omega arith) }
     go false h w ih = let r = ih w in record { from = omega arith; within = omega arith; passes = r.passes; before = λ j l u. from_next f false i j h l (λ m. r.before j m u) }
 
-pub first-none : (f : ℕ → Bool) (i n : ℕ) → first_where f i n ≡ none → (j : ℕ) → i ≤ j → j < i + n → f j ≡ false
+pub first-none : (f : ℕ → Bool) (i n : ℕ) → first_where f i n ≡ None → (j : ℕ) → i ≤ j → j < i + n → f j ≡ false
 unfolding first_where
 first-none f i zero e j l u = absurd (omega arith)
 first-none f i (suc n) e j l u = go (f i) refl e (first-none f (suc i) n)
   where
-    go : (c : Bool) → f i ≡ c → ◌≡◌ {A = Option ℕ} (elim c [ true ↦ some i | false ↦ first_where f (suc i) n ]) none → (first_where f (suc i) n ≡ none → (j : ℕ) → suc i ≤ j → j < suc i + n → f j ≡ false) → f j ≡ false
+    go : (c : Bool) → f i ≡ c → ◌≡◌ {A = Option ℕ} (elim c [ true ↦ Some i | false ↦ first_where f (suc i) n ]) None → (first_where f (suc i) n ≡ None → (j : ℕ) → suc i ≤ j → j < suc i + n → f j ≡ false) → f j ≡ false
     go true h w ih = cc
     go false h w ih = from_next f false i j h l (λ m. ih w j m (omega arith))
 
@@ -71,16 +73,16 @@ first_least f i n j k r l e = go (ltb k j) refl
     go true w = absurd (let q = r.before k l (ltb-true k j w) in let z : ◌≡◌ {A = ℕ} 0 1 = cc in omega arith)
     go false w = ltb-false k j w
 
-pub first_of : (f : ℕ → Bool) (i n k : ℕ) → First f i n k → first_where f i n ≡ some k
+pub first_of : (f : ℕ → Bool) (i n k : ℕ) → First f i n k → first_where f i n ≡ Some k
 first_of f i n k r = go (first_where f i n) refl
   where
-    go : (x : Option ℕ) → first_where f i n ≡ x → x ≡ some k
-    go none w = cc (r.passes, first-none f i n w k r.from r.within)
-    go (some j) w =
+    go : (x : Option ℕ) → first_where f i n ≡ x → x ≡ Some k
+    go None w = cc (r.passes, first-none f i n w k r.from r.within)
+    go (Some j) w =
         let s = first_some f i n j w in
         let down = first_least f i n j k s r.from r.passes in
         let up = first_least f i n k j r s.from s.passes in
-        ap some (omega arith)
+        ap Some (omega arith)
 
 -- ---- names
 
@@ -100,51 +102,51 @@ unfolding same_bytes
 same_bytes-refl [] = refl
 same_bytes-refl (b ∷ bs) = rw (eq-eqb b b refl, same_bytes) (same_bytes-refl bs)
 
-pub position_some : (t : Table) (r : ℕ) (s : List ℕ) (i : ℕ) → position t r s ≡ some i → (i < count_of t r) × (same_bytes (name_at t r i) s ≡ true)
+pub position_some : (t : Table) (r : ℕ) (s : List ℕ) (i : ℕ) → position t r s ≡ Some i → (i < count_of t r) × (same_bytes (name_at t r i) s ≡ true)
 unfolding position
 position_some t r s i e = let f = first_some _ 0 (count_of t r) i e in (omega arith, f.passes)
 
-pub position-none : (t : Table) (r : ℕ) (s : List ℕ) → position t r s ≡ none → (i : ℕ) → i < count_of t r → same_bytes (name_at t r i) s ≡ false
+pub position-none : (t : Table) (r : ℕ) (s : List ℕ) → position t r s ≡ None → (i : ℕ) → i < count_of t r → same_bytes (name_at t r i) s ≡ false
 unfolding position
 position-none t r s e i u = first-none _ 0 (count_of t r) e i (omega arith) (omega arith)
 
-pub position-of : (t : Table) (r i : ℕ) → Sane t → is_type t r ≡ true → i < count_of t r → position t r (name_at t r i) ≡ some i
+pub position-of : (t : Table) (r i : ℕ) → Sane t → is_type t r ≡ true → i < count_of t r → position t r (name_at t r i) ≡ Some i
 unfolding position
 position-of t r i g k u = first_of _ 0 (count_of t r) i record { from = omega arith; within = omega arith; passes = same_bytes-refl (name_at t r i); before = λ j l m. g.differ r j i k m u }
 
 -- ---- tokens
 
-code-token : (k : Token) → get_or (t_null ∷ t_boolean ∷ t_number ∷ t_string ∷ t_array ∷ t_object ∷ []) (token_code k) t_null ≡ k
+code-token : (k : Token) → get_or (tok.Null ∷ tok.Boolean ∷ tok.Number ∷ tok.String ∷ tok.Array ∷ tok.Object ∷ []) (token_code k) tok.Null ≡ k
 unfolding token_code
-code-token t_null = refl
-code-token t_boolean = refl
-code-token t_number = refl
-code-token t_string = refl
-code-token t_array = refl
-code-token t_object = refl
+code-token tok.Null = refl
+code-token tok.Boolean = refl
+code-token tok.Number = refl
+code-token tok.String = refl
+code-token tok.Array = refl
+code-token tok.Object = refl
 
 pub code-eq : (a b : Token) → token_code a ≡ token_code b → a ≡ b
 code-eq a b e = cc (code-token a, code-token b, e)
 
 code-known : (k : Token) → token_code k ≡ 6 → ⊥
 unfolding token_code
-code-known t_null e = omega arith
-code-known t_boolean e = omega arith
-code-known t_number e = omega arith
-code-known t_string e = omega arith
-code-known t_array e = omega arith
-code-known t_object e = omega arith
+code-known tok.Null e = omega arith
+code-known tok.Boolean e = omega arith
+code-known tok.Number e = omega arith
+code-known tok.String e = omega arith
+code-known tok.Array e = omega arith
+code-known tok.Object e = omega arith
 
-pub same_token-eq : (a b : Token) → same_token (some a) (some b) ≡ true → a ≡ b
+pub same_token-eq : (a b : Token) → same_token (Some a) (Some b) ≡ true → a ≡ b
 unfolding same_token code_of
 same_token-eq a b e = code-eq a b (eqb-true _ _ e)
 
-same_some : (x : Option Token) (k : Token) → code_of x ≡ token_code k → x ≡ some k
+same_some : (x : Option Token) (k : Token) → code_of x ≡ token_code k → x ≡ Some k
 unfolding code_of
-same_some none k e = absurd (code-known k (sym e))
-same_some (some j) k e = ap some (code-eq j k e)
+same_some None k e = absurd (code-known k (sym e))
+same_some (Some j) k e = ap Some (code-eq j k e)
 
-same_token-some : (x : Option Token) (k : Token) → same_token x (some k) ≡ true → x ≡ some k
+same_token-some : (x : Option Token) (k : Token) → same_token x (Some k) ≡ true → x ≡ Some k
 unfolding same_token code_of
 same_token-some x k e = same_some x k (eqb-true _ _ e)
 
@@ -152,11 +154,11 @@ same_token-refl : (x : Option Token) → same_token x x ≡ true
 unfolding same_token
 same_token-refl x = eq-eqb (code_of x) (code_of x) refl
 
-pub alternative-some : (t : Table) (r : ℕ) (k : Token) (i : ℕ) → alternative t r k ≡ some i → (i < count_of t r) × (token_of t (type_at t r i) ≡ some k)
+pub alternative-some : (t : Table) (r : ℕ) (k : Token) (i : ℕ) → alternative t r k ≡ Some i → (i < count_of t r) × (token_of t (type_at t r i) ≡ Some k)
 unfolding alternative
 alternative-some t r k i e = let f = first_some _ 0 (count_of t r) i e in (omega arith, same_token-some _ k f.passes)
 
-pub alternative-of : (t : Table) (r i : ℕ) (k : Token) → Sane t → is_unwrapped t r ≡ true → i < count_of t r → token_of t (type_at t r i) ≡ some k → alternative t r k ≡ some i
+pub alternative-of : (t : Table) (r i : ℕ) (k : Token) → Sane t → is_unwrapped t r ≡ true → i < count_of t r → token_of t (type_at t r i) ≡ Some k → alternative t r k ≡ Some i
 unfolding alternative
 alternative-of t r i k g w u e =
     first_of _ 0 (count_of t r) i record { from = omega arith; within = omega arith; passes = rw (← e) (same_token-refl (token_of t (type_at t r i))); before = λ j l m. rw (← e) (g.tokens r j i w m u) }

@@ -1,4 +1,6 @@
 -- What the three passes over a type table say of one row.
+use Rattle.std.specs.Prelude.{is_some}
+use Rattle.jer.specs.declared.Carried.{Carried}
 use Prim.Native.Nat.{ℕ, ◌+◌, ◌≤◌, ◌<◌}
 use mathlib.Core.Path.{◌≡◌, refl}
 use mathlib.Core.List.{List, [], ◌∷◌}
@@ -11,7 +13,7 @@ use Rattle.json_text.specs.Bytes.{Row, on, pick}
 use Rattle.json_text.specs.Utf8.{utf8}
 use Rattle.json_text.proofs.SoundRows.{pick-within, only, ◌⨾◌}
 use Rattle.jer.specs.declared.Layout.TheVariants.{Bare, Holds, Lists, Names, Unknown}
-use Rattle.jer.specs.Table.{Table, row_count, field, BOOLEAN, INTEGER, ENUMERATED, NULL, OCTET-STRING, UTF8String, SEQUENCE, SEQUENCE-OF, CHOICE, MEMBER, Carried, carries, type_kind, is_some, tag_of, form_of, kind_of, is_type, extensible, is_array, is_unwrapped, element_of, count_of, root_of, member_row, type_in, name_in}
+use Rattle.jer.specs.Table.{Table, row_count, field, BOOLEAN, INTEGER, ENUMERATED, NULL, OCTET-STRING, UTF8String, SEQUENCE, SEQUENCE-OF, CHOICE, MEMBER, carries, type_kind, tag_of, form_of, kind_of, is_type, extensible, is_array, is_unwrapped, element_of, count_of, root_of, member_row, type_in, name_in}
 use Rattle.jer.specs.Valid.{implies, unused, good_block, good_name, good_fields, good_alone, good_links, good_pointers, good_rules, names_differ, none_optional, good_array, good_unwrapped}
 use Rattle.jer.proofs.ValidLaws.{every-at, every-below}
 use Rattle.jer.proofs.Forms.{kind-type, tag_kind, kind-layout}
@@ -57,7 +59,7 @@ pub data Alone (t : Table) (r : ℕ) : Type 0 where
 -- the kinds of types, in the order of their lines
 pub type_kinds : (type_kind BOOLEAN ≡ true) × (type_kind INTEGER ≡ true) × (type_kind ENUMERATED ≡ true) × (type_kind NULL ≡ true) × (type_kind OCTET-STRING ≡ true)
     × (type_kind UTF8String ≡ true) × (type_kind SEQUENCE ≡ true) × (type_kind SEQUENCE-OF ≡ true) × (type_kind CHOICE ≡ true)
-unfolding type_kind carries pick is_some
+unfolding type_kind carries pick
 type_kinds = (refl, refl, refl, refl, refl, refl, refl, refl, refl)
 
 tag_type : (t : Table) (r n : ℕ) → tag_of t r ≡ n → type_kind n ≡ true → is_type t r ≡ true
@@ -75,7 +77,7 @@ choice-type t r e = kind-type t r CHOICE e type_kinds.8
 
 -- a member's row is no type's
 pub member-no-type : {C : Type 0} (t : Table) (r : ℕ) → tag_of t r ≡ MEMBER → is_type t r ≡ true → C
-unfolding is_type type_kind carries pick is_some
+unfolding is_type type_kind carries pick
 member-no-type t r k h = absurd (false≢true (rw k at h))
 
 pub block_empty : (t : Table) (r : ℕ) → count_of t r ≡ 0 → root_of t r ≡ 0 → Block t r

@@ -2,7 +2,7 @@
 use Prim.Native.Nat.{ℕ, ◌*◌, ◌≤◌, ◌<◌}
 use mathlib.Core.Path.{◌≡◌, refl}
 use mathlib.Core.Bool.{Bool, true, false}
-use mathlib.Core.Option.{Option, none, some}
+use Rattle.std.specs.Prelude.{Option, None, Some}
 use mathlib.Core.Logic.{◌↔◌}
 use native.Mathlib.Omega.{arith}
 use native.Mathlib.Nat.{div-add-mod'}
@@ -19,12 +19,12 @@ use Rattle.jer.proofs.ValidRows.{both, Holder, Block, Alone, a_type, a_member, b
 
 -- ---- what the passes say of the rows
 
-or_none : (x y : Option ℕ) → (or_else x y ≡ none) ↔ ((x ≡ none) × (y ≡ none))
+or_none : (x y : Option ℕ) → (or_else x y ≡ None) ↔ ((x ≡ None) × (y ≡ None))
 unfolding or_else
-or_none none y = (λ e. (refl, e), λ e. e.1)
-or_none (some a) y = (λ e. absurd (let z : ◌≡◌ {A = ℕ} 0 1 = cc in omega arith), λ e. e.0)
+or_none None y = (λ e. (refl, e), λ e. e.1)
+or_none (Some a) y = (λ e. absurd (let z : ◌≡◌ {A = ℕ} 0 1 = cc in omega arith), λ e. e.0)
 
-pub pass-at : (t : Table) (good : ℕ → Bool) → pass t good ≡ none → (r : ℕ) → r < row_count t → good r ≡ true
+pub pass-at : (t : Table) (good : ℕ → Bool) → pass t good ≡ None → (r : ℕ) → r < row_count t → good r ≡ true
 unfolding pass
 pass-at t good e r u = not-false _ (first-none _ 0 (row_count t) e r (omega arith) (omega arith))
 
@@ -34,11 +34,11 @@ record Passed (t : Table) : Type 0 where
   pointers : (r : ℕ) → r < row_count t → good_pointers t r ≡ true
   rules : (r : ℕ) → r < row_count t → good_rules t r ≡ true
 
-passed : (t : Table) → first_bad t ≡ none → Passed t
+passed : (t : Table) → first_bad t ≡ None → Passed t
 unfolding first_bad
 passed t e = go (good_sizes t) refl e
   where
-    go : (c : Bool) → good_sizes t ≡ c → ◌≡◌ {A = Option ℕ} (elim c [ false ↦ some 0 | true ↦ or_else (pass t (good_alone t)) (or_else (pass t (good_pointers t)) (pass t (good_rules t))) ]) none → Passed t
+    go : (c : Bool) → good_sizes t ≡ c → ◌≡◌ {A = Option ℕ} (elim c [ false ↦ Some 0 | true ↦ or_else (pass t (good_alone t)) (or_else (pass t (good_pointers t)) (pass t (good_rules t))) ]) None → Passed t
     go false s w = absurd (let z : ◌≡◌ {A = ℕ} 0 1 = cc in omega arith)
     go true s w = let p = simp or_none at w in record { sizes = s; alones = pass-at t _ p.0; pointers = pass-at t _ p.1.0; rules = pass-at t _ p.1.1 }
 
@@ -106,7 +106,7 @@ module _ (t : Table) (g : Passed t) where
       go (a_type l b) = member-no-type t _ (kind_at r i k u) l
       go (a_member m n e) = e
 
-pub valid_sane : (t : Table) → first_bad t ≡ none → Sane t
+pub valid_sane : (t : Table) → first_bad t ≡ None → Sane t
 unfolding names_differ none_optional good_array good_unwrapped
 valid_sane t e =
     let g = passed t e in

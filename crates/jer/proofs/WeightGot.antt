@@ -2,7 +2,7 @@
 use Prim.Native.Nat.{ℕ}
 use mathlib.Core.Path.{◌≡◌, refl}
 use mathlib.Core.Bool.{Bool, true, false}
-use mathlib.Core.Option.{Option, none, some}
+use Rattle.std.specs.Prelude.{Option, None, Some}
 use native.Mathlib.Omega.{arith}
 use lib.Dec.{eqb}
 use borrow.Author.Tests.{eqb-true}
@@ -27,14 +27,14 @@ cases false h k e = k refl e
 pub refused : {A C : Type 0} {e : Refusal} {a : A} → ◌≡◌ {A = Res A} (no e) (ok a) → C
 refused h = absurd (let z : ◌≡◌ {A = ℕ} 0 1 = cc in omega arith)
 
-pub nothing : {A C : Type 0} {a : A} → none ≡ some a → C
+pub nothing : {A C : Type 0} {a : A} → None ≡ Some a → C
 nothing h = absurd (let z : ◌≡◌ {A = ℕ} 0 1 = cc in omega arith)
 
 -- equal successes have equal results
 pub got : {A : Type 0} {a b : A} → ◌≡◌ {A = Res A} (ok a) (ok b) → a ≡ b
 got e = cc
 
-pub found : {A : Type 0} {a b : A} → some a ≡ some b → a ≡ b
+pub found : {A : Type 0} {a b : A} → Some a ≡ Some b → a ≡ b
 found e = cc
 
 -- two steps that succeed
@@ -50,13 +50,13 @@ steps (no n) f b e = refused e
 
 pub record Finds {A B : Type 0} (x : Option A) (f : A → Option B) (b : B) : Type 0 where
   pub val : A
-  pub first : x ≡ some val
-  pub then : f val ≡ some b
+  pub first : x ≡ Some val
+  pub then : f val ≡ Some b
 
-pub finds : {A B : Type 0} (x : Option A) (f : A → Option B) (b : B) → also x f ≡ some b → Finds x f b
+pub finds : {A B : Type 0} (x : Option A) (f : A → Option B) (b : B) → also x f ≡ Some b → Finds x f b
 unfolding also
-finds none f b e = nothing e
-finds (some a) f b e = record { val = a; first = refl; then = e }
+finds None f b e = nothing e
+finds (Some a) f b e = record { val = a; first = refl; then = e }
 
 -- a value that is read at a kind
 pub at-kind : (t : Table) (r k p : ℕ) (x : Res Val) (v : Val) → at_kind t r k p x ≡ ok v → (kind_of t r ≡ k) × (x ≡ ok v)

@@ -1,4 +1,5 @@
 -- A read needs at most 130 rows for each byte of text and no more pool than text, and writing what was read never gives a longer text.
+use Rattle.jer.specs.declared.Token.TheVariants as tok
 use Prim.Native.Nat.{ℕ, ◌*◌, ◌^◌, ◌≤◌, ◌<◌}
 use mathlib.Core.Path.{◌≡◌}
 use mathlib.Core.List.{List}
@@ -7,7 +8,7 @@ use native.Mathlib.Omega.{arith}
 use lib.ListN.{length}
 use Rattle.json_text.specs.Tree.{Json, jnull, jbool, jint, jreal, jstr, jarr, jobj, Items, inil, icons, Members, mnil, mcons}
 use Rattle.json_text.specs.Grammar.{Value, Text}
-use Rattle.jer.specs.Table.{Table, is_type, t_null, t_boolean, t_number, t_string, t_array, t_object}
+use Rattle.jer.specs.Table.{Table, is_type}
 use Rattle.jer.specs.Value.{Val}
 use Rattle.jer.specs.Answer.{ok}
 use Rattle.jer.specs.Read.{read}
@@ -25,13 +26,13 @@ mutual
   unfolding read
 
   fair : (j : Json) (t : Table) (g : Sane t) → Fair t (weight j) (λ r. read j t r)
-  fair (jnull p) t g = unwrapping-fair t g t_null p 4 _ (null-fair t p)
-  fair (jbool p b) t g = unwrapping-fair t g t_boolean p _ _ (bool_fair t p b)
-  fair (jint p m n) t g = unwrapping-fair t g t_number p _ _ (int-fair t p m n)
-  fair (jreal p) t g = unwrapping-fair t g t_number p 3 _ (real-fair t p)
-  fair (jstr p s) t g = unwrapping-fair t g t_string p _ _ (string-fair t p s)
-  fair (jarr p is) t g = unwrapping-fair t g t_array p _ _ (array-fair t g p is (fair-items is t g))
-  fair (jobj p ms) t g = unwrapping-fair t g t_object p _ _ (braces-fair t g p ms (fair-members ms t g))
+  fair (jnull p) t g = unwrapping-fair t g tok.Null p 4 _ (null-fair t p)
+  fair (jbool p b) t g = unwrapping-fair t g tok.Boolean p _ _ (bool_fair t p b)
+  fair (jint p m n) t g = unwrapping-fair t g tok.Number p _ _ (int-fair t p m n)
+  fair (jreal p) t g = unwrapping-fair t g tok.Number p 3 _ (real-fair t p)
+  fair (jstr p s) t g = unwrapping-fair t g tok.String p _ _ (string-fair t p s)
+  fair (jarr p is) t g = unwrapping-fair t g tok.Array p _ _ (array-fair t g p is (fair-items is t g))
+  fair (jobj p ms) t g = unwrapping-fair t g tok.Object p _ _ (braces-fair t g p ms (fair-members ms t g))
 
   fair-items : (is : Items) (t : Table) (g : Sane t) → FairItems t is
   fair-items inil t g = tt

@@ -1,9 +1,10 @@
 -- Leaves and UNWRAPPED choices: what is read of them fits the weight of the text.
+use Rattle.jer.specs.declared.Token.{Token}
 use Prim.Native.Nat.{ℕ, zero, suc, ◌+◌, ◌-◌, ◌/◌, ◌%◌, ◌^◌, ◌≤◌, ◌<◌}
 use mathlib.Core.Path.{◌≡◌, refl, ap}
 use mathlib.Core.List.{List, [], ◌∷◌}
 use mathlib.Core.Bool.{Bool, true, false}
-use mathlib.Core.Option.{Option, none, some}
+use Rattle.std.specs.Prelude.{Option, None, Some}
 use native.Mathlib.Omega.{arith}
 use lib.Dec.{ltb, leb, eqb}
 use lib.ListN.{length, length-append}
@@ -11,7 +12,7 @@ use borrow.Author.Tests.{ltb-true, ltb-false, leb-true, ne_eqb, eq-eqb}
 use Rattle.json_text.specs.Tree.{jbool}
 use Rattle.json_text.proofs.SoundRows.{pick-within}
 use Rattle.jer.specs.declared.Cause.TheVariants.{BadNumber}
-use Rattle.jer.specs.Table.{Table, NULL, BOOLEAN, INTEGER, OCTET-STRING, UTF8String, kind_of, extensible, is_base64, is_unwrapped, type_at, position, Token, alternative}
+use Rattle.jer.specs.Table.{Table, NULL, BOOLEAN, INTEGER, OCTET-STRING, UTF8String, kind_of, extensible, is_base64, is_unwrapped, type_at, position, alternative}
 use Rattle.jer.specs.Value.{Val, v_bool, v_int, v_enum, v_null, v_bytes, v_choice}
 use Rattle.jer.specs.Answer.{Res, ok, at}
 use Rattle.jer.specs.Octets.{unhex, hex, unbase64, base64, hex_value, base64_value, last_group, full_group, only_if}
@@ -40,8 +41,8 @@ unwrapping-fair t g k p w plain h r v y =
     cases (is_unwrapped t r) (λ u e. chosen (alternative t r k) refl u e) (λ u e. let b = h r v y e in omega arith)
   where
     chosen : (c : Option ℕ) → alternative t r k ≡ c → is_unwrapped t r ≡ true → picked t r p plain c ≡ ok v → Light t w r v
-    chosen none a u e = cases (extensible t r) (λ x f. refused f) (λ x f. refused f) e
-    chosen (some i) a u e =
+    chosen None a u e = cases (extensible t r) (λ x f. refused f) (λ x f. refused f) e
+    chosen (Some i) a u e =
         let s = steps (plain (type_at t r i)) _ v e in
         rw (← got s.then) (unwrapped-light t w r i s.val u (h _ _ (g.member r i y (alternative-some t r k i a).0) s.first))
 
@@ -105,7 +106,7 @@ real-fair t p r v y e = refused (at-kind t r INTEGER p _ v e).1
 -- ---- strings
 
 -- hexadecimal and Base64 are written with as many characters as were read
-unhex-length : (s os : List ℕ) → unhex s ≡ some os → (length (hex os) ≡ length s) × (length os ≤ length s)
+unhex-length : (s os : List ℕ) → unhex s ≡ Some os → (length (hex os) ≡ length s) × (length os ≤ length s)
 unfolding unhex hex
 unhex-length [] os e = let q : [] ≡ os = cc in rw (← q) (omega arith)
 unhex-length (a ∷ []) os e = nothing e
@@ -116,7 +117,7 @@ unhex-length (a ∷ b ∷ s) os e =
     let h = unhex-length s z.val z.first in
     rw (← found z.then) (omega arith)
 
-only_if_lem : {A : Type 0} (c : Bool) (a b : A) → only_if c a ≡ some b → a ≡ b
+only_if_lem : {A : Type 0} (c : Bool) (a b : A) → only_if c a ≡ Some b → a ≡ b
 unfolding only_if
 only_if_lem true a b e = cc
 only_if_lem false a b e = nothing e
@@ -125,7 +126,7 @@ only_if_lem false a b e = nothing e
 abbrev Base64 : ℕ → List ℕ → Type 0
 Base64 n os = (length (base64 os) ≡ n) × (length os ≤ n)
 
-last_group_lem : (a b c d : ℕ) (os : List ℕ) → last_group a b c d ≡ some os → Base64 4 os
+last_group_lem : (a b c d : ℕ) (os : List ℕ) → last_group a b c d ≡ Some os → Base64 4 os
 unfolding last_group base64
 last_group_lem a b c d os e =
     let x = finds (base64_value a) _ os e in
@@ -137,7 +138,7 @@ last_group_lem a b c d os e =
     (λ u f. let z = finds (base64_value c) _ os f in let w = finds (base64_value d) _ os z.then in let q = found w.then in rw (← q) (omega arith))
     y.then
 
-full_group_lem : (a b c d : ℕ) (rest : Option (List ℕ)) (os : List ℕ) (n : ℕ) → ((ps : List ℕ) → rest ≡ some ps → Base64 n ps) → full_group a b c d rest ≡ some os → Base64 (4 + n) os
+full_group_lem : (a b c d : ℕ) (rest : Option (List ℕ)) (os : List ℕ) (n : ℕ) → ((ps : List ℕ) → rest ≡ Some ps → Base64 n ps) → full_group a b c d rest ≡ Some os → Base64 (4 + n) os
 unfolding full_group base64
 full_group_lem a b c d rest os n ih e =
     let x = finds (base64_value a) _ os e in
@@ -148,7 +149,7 @@ full_group_lem a b c d rest os n ih e =
     let h = ih u.val u.first in
     rw (← found u.then) (omega arith)
 
-unbase64-length : (s os : List ℕ) → unbase64 s ≡ some os → Base64 (length s) os
+unbase64-length : (s os : List ℕ) → unbase64 s ≡ Some os → Base64 (length s) os
 unfolding unbase64 base64
 unbase64-length [] os e = let q : [] ≡ os = cc in rw (← q) (omega arith)
 unbase64-length (a ∷ []) os e = nothing e
@@ -157,7 +158,7 @@ unbase64-length (a ∷ b ∷ c ∷ []) os e = nothing e
 unbase64-length (a ∷ b ∷ c ∷ d ∷ []) os e = last_group_lem a b c d os e
 unbase64-length (a ∷ b ∷ c ∷ d ∷ e ∷ s) os h = let q = full_group_lem a b c d (unbase64 (e ∷ s)) os (length (e ∷ s)) (unbase64-length (e ∷ s)) h in omega arith
 
-enum_light : (t : Table) (r i : ℕ) (s : List ℕ) → position t r s ≡ some i → LightUnder t (2 + length (escapes s)) r (v_enum i)
+enum_light : (t : Table) (r i : ℕ) (s : List ℕ) → position t r s ≡ Some i → LightUnder t (2 + length (escapes s)) r (v_enum i)
 unfolding pool_of write
 enum_light t r i s e = rw (same_bytes-eq _ _ (position_some t r s i e).1) (omega (arith, string-length s))
 
@@ -173,7 +174,7 @@ quotes-length : (s : List ℕ) → length (quotes s) ≡ 2 + length s
 unfolding quotes
 quotes-length s = simp length-append (omega arith)
 
-octets-text : (t : Table) (r : ℕ) (s os : List ℕ) → kind_of t r ≡ OCTET-STRING → octets_of t r s ≡ some os → (length os ≤ length s) × (length (bytes_text t r os) ≤ 2 + length s)
+octets-text : (t : Table) (r : ℕ) (s os : List ℕ) → kind_of t r ≡ OCTET-STRING → octets_of t r s ≡ Some os → (length os ≤ length s) × (length (bytes_text t r os) ≤ 2 + length s)
 unfolding bytes_text octets_of
 octets-text t r s os k e = go (is_base64 t r) refl
   where
@@ -192,9 +193,9 @@ string-fair t p s r v y =
     (λ e. refused e)
   where
     item : (c : Option ℕ) → position t r s ≡ c → read_item t r p c ≡ ok v → LightUnder t (2 + length (escapes s)) r v
-    item none w e = cases (extensible t r) (λ x f. refused f) (λ x f. refused f) e
-    item (some i) w e = rw (← got e) (enum_light t r i s w)
+    item None w e = cases (extensible t r) (λ x f. refused f) (λ x f. refused f) e
+    item (Some i) w e = rw (← got e) (enum_light t r i s w)
 
     octets : (c : Option (List ℕ)) → octets_of t r s ≡ c → kind_of t r ≡ OCTET-STRING → read_octets p c ≡ ok v → LightUnder t (2 + length (escapes s)) r v
-    octets none w k e = refused e
-    octets (some os) w k e = let h = octets-text t r s os k w in rw (← got e) (bytes-light t r s os h.0 (omega (arith, escapes_least s)))
+    octets None w k e = refused e
+    octets (Some os) w k e = let h = octets-text t r s os k w in rw (← got e) (bytes-light t r s os h.0 (omega (arith, escapes_least s)))

@@ -3,7 +3,7 @@ use Prim.Native.Nat.{ℕ, zero, suc, ◌+◌, ◌-◌, ◌≤◌, ◌<◌}
 use mathlib.Core.Path.{◌≡◌, refl, ap}
 use mathlib.Core.List.{List, [], ◌∷◌}
 use mathlib.Core.Bool.{true, false, ◌&&◌, not}
-use mathlib.Core.Option.{Option, none, some}
+use Rattle.std.specs.Prelude.{Option, None, Some}
 use native.Mathlib.Omega.{arith}
 use lib.Dec.{eqb}
 use lib.ListN.{length, length-append}
@@ -74,16 +74,16 @@ object-text t r ps a = rw (a, sequence_text)
 
 module _ (t : Table) (g : Sane t) (r o : ℕ) (y : is_type t r ≡ true) where
   member-light : (x : Option Entry) (i n w m : ℕ) (rest : Res Parts) (ps : Parts) → i < count_of t r
-      → ((e : Entry) → x ≡ some e → (e.name ≡ name_at t r i) × EntryFair t e w)
+      → ((e : Entry) → x ≡ Some e → (e.name ≡ name_at t r i) × EntryFair t e w)
       → ((qs : Parts) → rest ≡ ok qs → MembersLight t r (suc i) n m qs)
       → read_member t r o i x rest ≡ ok ps → MembersLight t r i (suc n) (w + m) ps
   unfolding read_member
-  member-light none i n w m rest ps l f h e =
+  member-light None i n w m rest ps l f h e =
       cases (may_miss t r i)
       (λ u. with_absent_lem (MembersLight t r i (suc n) (w + m)) rest ps (λ qs d. member-absent t r i n w m qs (h qs d)))
       (λ u d. refused d)
       e
-  member-light (some c) i n w m rest ps l f h e =
+  member-light (Some c) i n w m rest ps l f h e =
       cases (c.is_null && null_absent t r i)
       (λ u. with_absent_lem (MembersLight t r i (suc n) (w + m)) rest ps (λ qs d. member-absent t r i n w m qs (h qs d)))
       (λ u. with_present_lem (MembersLight t r i (suc n) (w + m)) (c.means (type_at t r i)) rest ps (λ v qs d b. member-present t r i n w m v qs (here v d) (h qs b)))
@@ -139,8 +139,8 @@ choice-light t g r o y (mcons p s j (mcons p' s' j' ms)) v f e = refused e
 choice-light t g r o y (mcons p s j mnil) v f e = chosen (position t r s) refl e
   where
     chosen : (c : Option ℕ) → position t r s ≡ c → read_chosen t r o (record { place = p; name = s; is_null = null? j; means = λ q. read j t q }) c ≡ ok v → LightUnder t (2 + (length (escapes s) + weight j + 4 + 0 - 1)) r v
-    chosen none w d = cases (extensible t r) (λ u b. refused b) (λ u b. refused b) d
-    chosen (some i) w d =
+    chosen None w d = cases (extensible t r) (λ u b. refused b) (λ u b. refused b) d
+    chosen (Some i) w d =
         let a = steps (read j t (type_at t r i)) _ v d in
         let q = got a.then in
         rw (← q) (chosen-light t r i (weight j) s a.val (same_bytes-eq _ _ (position_some t r s i w).1) (f.0 _ _ (g.member r i y (position_some t r s i w).0) a.first))

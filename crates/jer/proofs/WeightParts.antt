@@ -1,15 +1,16 @@
 -- Arrays, as SEQUENCE OF and as SEQUENCE: what is read of them fits the weight of the text.
+use Rattle.jer.specs.declared.Token.TheVariants as tok
 use Prim.Native.Nat.{ℕ, zero, suc, ◌+◌, ◌-◌, ◌≤◌, ◌<◌}
 use mathlib.Core.Path.{◌≡◌, refl}
 use mathlib.Core.List.{List, [], ◌∷◌}
 use mathlib.Core.Bool.{true, ◌&&◌}
-use mathlib.Core.Option.{Option, none, some}
+use Rattle.std.specs.Prelude.{Option, None, Some}
 use native.Mathlib.Omega.{arith}
 use lib.Dec.{eqb}
 use lib.ListN.{length, length-append}
 use borrow.Author.Tests.{eqb-true}
 use Rattle.json_text.specs.Tree.{Json, jnull, jbool, jint, jreal, jstr, jarr, jobj, Items, inil, icons}
-use Rattle.jer.specs.Table.{Table, NULL, SEQUENCE-OF, kind_of, is_type, extensible, is_array, is_unwrapped, element_of, count_of, type_at, may_miss, same_bytes, t_null, alternative, open_unwrapped}
+use Rattle.jer.specs.Table.{Table, NULL, SEQUENCE-OF, kind_of, is_type, extensible, is_array, is_unwrapped, element_of, count_of, type_at, may_miss, same_bytes, alternative, open_unwrapped}
 use Rattle.jer.specs.Value.{Val, v_null, v_seq, v_list, v_choice, Vals, vnil, vcons, Parts, pnil, absent, present}
 use Rattle.jer.specs.Answer.{Res, ok, bind}
 use Rattle.jer.specs.Read.{null?, with_absent, with_present, null_value, missing_element, read_element, surplus, read_elements, read_items, read_array, read, elements}
@@ -75,18 +76,18 @@ record Nullish (t : Table) (r : ℕ) (v : Val) : Type 0 where
   pool : length (pool_of v) ≡ 0
   text : write v t r ≡ null_text
 
-null-value : (t : Table) (r : ℕ) (v : Val) → null_value t r ≡ some v → Nullish t r v
+null-value : (t : Table) (r : ℕ) (v : Val) → null_value t r ≡ Some v → Nullish t r v
 unfolding null_value pool_of write
 null-value t r v =
     cases (is_unwrapped t r)
-    (λ u. chosen u (alternative t r t_null))
+    (λ u. chosen u (alternative t r tok.Null))
     (λ u. cases (eqb (kind_of t r) NULL)
     (λ k e. let q : v_null ≡ v = found e in rw (← q) (record { rows = omega arith; pool = refl; text = refl }))
     (λ k e. nothing e))
   where
-    chosen : is_unwrapped t r ≡ true → (c : Option ℕ) → elim c as (λ x. Option Val) [ none ↦ none | some i ↦ some (v_choice i v_null) ] ≡ some v → Nullish t r v
-    chosen u none e = nothing e
-    chosen u (some i) e = rw (← found e) (record { rows = omega arith; pool = refl; text = unwrapped-text t r i v_null u })
+    chosen : is_unwrapped t r ≡ true → (c : Option ℕ) → elim c as (λ x. Option Val) [ None ↦ None | Some i ↦ Some (v_choice i v_null) ] ≡ Some v → Nullish t r v
+    chosen u None e = nothing e
+    chosen u (Some i) e = rw (← found e) (record { rows = omega arith; pool = refl; text = unwrapped-text t r i v_null u })
 
 keep-null : (xs : List (List ℕ)) → commaed xs ≤ 0 → commaed (keep null_text xs) ≤ 0
 unfolding keep null_text same_bytes
@@ -128,7 +129,7 @@ module _ (t : Table) (g : Sane t) (r o : ℕ) (y : is_type t r ≡ true) where
   surplus-light inil i ps e = rw (← got e) (omega arith)
   surplus-light (icons j is) i ps e = cases (extensible t r) (λ w f. let q : pnil ≡ ps = got f in rw (← q) (omega arith)) (λ w f. refused f) e
 
-  missing-light : (i n : ℕ) (rest : Res Parts) (ps : Parts) → ((qs : Parts) → rest ≡ ok qs → ElementsLight t r (suc i) n 0 qs) → read_element t r o i none rest ≡ ok ps → ElementsLight t r i (suc n) 0 ps
+  missing-light : (i n : ℕ) (rest : Res Parts) (ps : Parts) → ((qs : Parts) → rest ≡ ok qs → ElementsLight t r (suc i) n 0 qs) → read_element t r o i None rest ≡ ok ps → ElementsLight t r i (suc n) 0 ps
   unfolding read_element missing_element
   missing-light i n rest ps h =
       cases (may_miss t r i)
@@ -136,12 +137,12 @@ module _ (t : Table) (g : Sane t) (r o : ℕ) (y : is_type t r ≡ true) where
       (λ m. with_present_lem (ElementsLight t r i (suc n) 0) (missing_element t r o i) rest ps (λ v qs e f. missing-present t r i n v qs (nullish (null_value t (type_at t r i)) refl v e) (h qs f)))
     where
       nullish : (c : Option Val) → null_value t (type_at t r i) ≡ c → (v : Val) → missing_element t r o i ≡ ok v → Nullish t (type_at t r i) v
-      nullish none w v e = cases (open_unwrapped t (type_at t r i)) (λ u f. refused f) (λ u f. refused f) (rw (w, missing_element) at e)
-      nullish (some u) w v e = let q : u ≡ v = got (rw (w, missing_element) at e) in rw (← q) (null-value t (type_at t r i) u w)
+      nullish None w v e = cases (open_unwrapped t (type_at t r i)) (λ u f. refused f) (λ u f. refused f) (rw (w, missing_element) at e)
+      nullish (Some u) w v e = let q : u ≡ v = got (rw (w, missing_element) at e) in rw (← q) (null-value t (type_at t r i) u w)
 
   element-light : (j : Json) (i n m : ℕ) (rest : Res Parts) (ps : Parts) → Fair t (weight j) (λ q. read j t q) → i < count_of t r
       → ((qs : Parts) → rest ≡ ok qs → ElementsLight t r (suc i) n m qs)
-      → (p : ℕ) → read_element t r o i (some (record { place = p; is_null = null? j; means = λ q. read j t q })) rest ≡ ok ps → ElementsLight t r i (suc n) (weight j + 1 + m) ps
+      → (p : ℕ) → read_element t r o i (Some (record { place = p; is_null = null? j; means = λ q. read j t q })) rest ≡ ok ps → ElementsLight t r i (suc n) (weight j + 1 + m) ps
   unfolding read_element
   element-light j i n m rest ps f l h p =
       cases (null? j && may_miss t r i)

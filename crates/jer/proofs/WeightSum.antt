@@ -1,11 +1,12 @@
 -- The members of an object in table order cost no more than its entries in text order, whatever the cost.
+use Rattle.std.specs.Prelude.{is_some}
 use Prim.Native.Nat.{ℕ, zero, suc, ◌+◌, ◌≤◌, ◌<◌}
 use mathlib.Core.Path.{◌≡◌, refl, sym, ap, subst, ◌∙◌}
 use mathlib.Core.List.{List, [], ◌∷◌}
 use mathlib.Core.Bool.{Bool, true, false}
-use mathlib.Core.Option.{Option, none, some}
+use Rattle.std.specs.Prelude.{Option, None, Some}
 use native.Mathlib.Omega.{arith}
-use Rattle.jer.specs.Table.{Table, is_type, extensible, count_of, name_at, same_bytes, position, is_some}
+use Rattle.jer.specs.Table.{Table, is_type, extensible, count_of, name_at, same_bytes, position}
 use Rattle.jer.specs.Answer.{ok}
 use Rattle.jer.specs.Read.{Entry, lookup, names_good}
 use Rattle.jer.specs.Sane.{Sane}
@@ -45,14 +46,14 @@ pub record Kept (P : Entry → ℕ → Type 0) (es : List Entry) (n : ℕ) : Typ
 
 module _ {P : Entry → ℕ → Type 0} where
   -- an entry that a name finds has the name and is worth its price
-  pub price-found : (s : List ℕ) (xs : List (Priced P)) (e : Entry) → lookup s (entries_of xs) ≡ some e → (e.name ≡ s) × P e (price s xs)
+  pub price-found : (s : List ℕ) (xs : List (Priced P)) (e : Entry) → lookup s (entries_of xs) ≡ Some e → (e.name ≡ s) × P e (price s xs)
   unfolding lookup price
   price-found s [] e l = nothing l
   price-found s (x ∷ xs) e l = go (same_bytes x.entry.name s) refl (price-found s xs e)
     where
-      go : (c : Bool) → same_bytes x.entry.name s ≡ c → (lookup s (entries_of xs) ≡ some e → (e.name ≡ s) × P e (price s xs)) → (e.name ≡ s) × P e (price s (x ∷ xs))
+      go : (c : Bool) → same_bytes x.entry.name s ≡ c → (lookup s (entries_of xs) ≡ Some e → (e.name ≡ s) × P e (price s xs)) → (e.name ≡ s) × P e (price s (x ∷ xs))
       go true w ih =
-          let l' : some x.entry ≡ some e = rw (w, lookup) at l in
+          let l' : Some x.entry ≡ Some e = rw (w, lookup) at l in
           let q : x.entry ≡ e = cc in
           (ap (λ (d : Entry). d.name) (sym q) ∙ same_bytes-eq _ _ w, rw (w, price) (subst (λ (d : Entry). P d x.cost) q x.fair))
       go false w ih = rw (w, price) (ih (rw (w, lookup) at l))
@@ -95,12 +96,12 @@ module _ {P : Entry → ℕ → Type 0} where
       Goal = Kept P es (costs met + (x.cost + costs xs))
 
       go : (c : Option ℕ) → position t r x.entry.name ≡ c → ((ys : List (Priced P)) → names_good t r (entries_of ys) (entries_of xs) ≡ ok es → Kept P es (costs ys + costs xs)) → Goal
-      go none w ih =
+      go None w ih =
           cases (extensible t r)
           (λ u f. let k = ih met f in record { list = k.list; same = k.same; most = omega arith })
           (λ u f. refused f)
           (rw (w, names_good) at e)
-      go (some i) w ih =
+      go (Some i) w ih =
           cases (is_some (lookup x.entry.name (entries_of met)))
           (λ u f. refused f)
           (λ u f. let k = ih (x ∷ met) f in record { list = k.list; same = k.same; most = omega arith })

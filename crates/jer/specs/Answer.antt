@@ -1,5 +1,5 @@
 -- Results, refusals, and document 01's number and values for each refusal.
-use Rattle.std.specs.Prelude.{ℕ}
+use Rattle.std.specs.Prelude.{ℕ, Result, Ok}
 use Rattle.jer.specs.declared.Cause.{Cause}
 use Rattle.jer.specs.declared.Cause.TheVariants.{TooLong, NotJson, TooDeep, OtherKind, BadNumber, BadString, UnknownName, RepeatedName, Missing, Surplus, NotOne, Unknown}
 use Rattle.jer.specs.declared.Which.{Which}
@@ -7,6 +7,7 @@ use Rattle.jer.specs.declared.Which.TheVariants.{TypeTable, ValueTable}
 use Rattle.jer.specs.declared.Limit.{Limit}
 use Rattle.jer.specs.declared.Limit.TheVariants.{HouseSize, LentRoom}
 use Rattle.jer.specs.declared.Refusal.{Refusal}
+use Rattle.jer.specs.declared.Counts.{Counts}
 use Rattle.jer.specs.declared.Refusal.TheVariants.{AtByte, AtRow, Amounts}
 
 -- a result, or a refusal
@@ -63,3 +64,24 @@ values_of (Amounts l a b) = values (limit_number l) a b
 
 unfoldable pub number_of : Refusal → ℕ
 number_of e = (values_of e).number
+
+-- ---- what the calls answer
+
+-- judging a type table or a text
+abbrev pub Judged : Type 0
+Judged = Result Unit Refusal
+
+-- reading: how many rows and pool bytes were stored
+abbrev pub Reading : Type 0
+Reading = Result Counts Refusal
+
+abbrev pub read_as : ℕ → ℕ → Reading
+read_as n m = Ok (record { rows = n; pool = m })
+
+-- reading many texts: of how many it is told what came of them
+abbrev pub Readings : Type 0
+Readings = Result ℕ Refusal
+
+-- writing: how many bytes of text were stored
+abbrev pub Writing : Type 0
+Writing = Result ℕ Refusal

@@ -1,9 +1,7 @@
 -- What the calls from outside promise: their `ensures` cite these, and the theorems of `promises` follow from them alone. t is the type table
 -- lent as two slices.
+use Rattle.jer.specs.Answer.{Judged, Reading, Writing}
 use Rattle.std.specs.Prelude.{ℕ, ◌≡◌, List, length}
-use Rattle.jer.specs.declared.Judged.{Judged}
-use Rattle.jer.specs.declared.Reading.{Reading}
-use Rattle.jer.specs.declared.Writing.{Writing}
 use Rattle.jer.specs.Table.{Table}
 use Rattle.jer.specs.Calls.{table_judged, text_judged, read_text, read_answer, rows_after, pool_after, write_text, write_answer, text_after}
 

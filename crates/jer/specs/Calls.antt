@@ -1,18 +1,15 @@
 -- The calls from outside: the answer and what each buffer holds afterwards, in document 01's order of refusals.
+use Rattle.std.specs.Prelude.{Err, Ok}
+use Rattle.jer.specs.Answer.{read_as}
+use Rattle.jer.specs.Answer.{Judged, Reading, Writing}
 use Rattle.std.specs.Prelude.{ℕ, ◌-◌, ◌^◌, List, ◌++◌, Bool, true, false, ◌&&◌, leb, length, drop}
-use Rattle.std.proofs.Math.Option.{Option, none, some}
+use Rattle.std.specs.Prelude.{Option, None, Some}
 use Rattle.json_text.specs.Tree.{Json}
 use Rattle.json_text.specs.Machine.{Parsed, tree, refused, not_json, too_deep, parse}
 use Rattle.jer.specs.declared.Cause.TheVariants.{TooLong, NotJson, TooDeep}
 use Rattle.jer.specs.declared.Which.TheVariants.{TypeTable}
 use Rattle.jer.specs.declared.Limit.TheVariants.{HouseSize, LentRoom}
 use Rattle.jer.specs.declared.Refusal.TheVariants.{AtRow, Amounts}
-use Rattle.jer.specs.declared.Judged.{Judged}
-use Rattle.jer.specs.declared.Judged.TheVariants as judged
-use Rattle.jer.specs.declared.Reading.{Reading}
-use Rattle.jer.specs.declared.Reading.TheVariants as reading
-use Rattle.jer.specs.declared.Writing.{Writing}
-use Rattle.jer.specs.declared.Writing.TheVariants as writing
 use Rattle.jer.specs.Table.{Table}
 use Rattle.jer.specs.Valid.{first_bad}
 use Rattle.jer.specs.Value.{Val}
@@ -25,8 +22,8 @@ use Rattle.jer.specs.Write.{write}
 -- ---- 1 to 4
 
 unfoldable pub table_of : Table → Option ℕ → Res Table
-table_of t none = ok t
-table_of t (some r) = no (AtRow TypeTable r)
+table_of t None = ok t
+table_of t (Some r) = no (AtRow TypeTable r)
 
 -- 01, Refusal numbers, 1: "type table or names break a rule above"
 unfoldable pub good_table : Table → Res Table
@@ -42,8 +39,8 @@ unfoldable pub good_text : List ℕ → Res Json
 good_text s = elim (leb (length s) 65536) [ true ↦ tree_of (parse s) | false ↦ at TooLong 65536 ]
 
 unfoldable pub judged_by : {A : Type 0} → Res A → Judged
-judged_by (ok a) = judged.Good
-judged_by (no e) = judged.Refused e
+judged_by (ok a) = Ok tt
+judged_by (no e) = Err e
 
 -- what judging a type table answers, and what judging a text answers
 unfoldable pub table_judged : Table → Judged
@@ -72,11 +69,11 @@ roomy t v n m = leb (length (row_numbers t v)) n && leb (length (pool_of v)) m
 
 -- 14: "lent room too small | rows and pool bytes (..) needed": room for n numbers of rows and m bytes of pool
 unfoldable pub read_answer : Table → ℕ → ℕ → Res Val → Reading
-read_answer t n m (no e) = reading.Refused e
+read_answer t n m (no e) = Err e
 read_answer t n m (ok v) =
     elim (roomy t v n m) [
-      | true ↦ reading.Read (length (rows_of v t 0 0)) (length (pool_of v))
-      | false ↦ reading.Refused (Amounts LentRoom (length (rows_of v t 0 0)) (length (pool_of v)))
+      | true ↦ read_as (length (rows_of v t 0 0)) (length (pool_of v))
+      | false ↦ Err (Amounts LentRoom (length (rows_of v t 0 0)) (length (pool_of v)))
     ]
 
 -- the buffers afterwards; refusals: "All leave every buffer untouched."
@@ -100,11 +97,11 @@ amount n = elim (leb n (2 ^ 64 - 1)) [ true ↦ n | false ↦ 2 ^ 64 - 1 ]
 
 -- 13: "written text over 65,536 bytes | bytes needed"; 14: "or text bytes"
 unfoldable pub write_answer : ℕ → Res (List ℕ) → Writing
-write_answer n (no e) = writing.Refused e
+write_answer n (no e) = Err e
 write_answer n (ok s) =
     elim (leb (length s) 65536) [
-      | false ↦ writing.Refused (Amounts HouseSize (amount (length s)) 0)
-      | true ↦ elim (leb (length s) n) [ true ↦ writing.Written (length s) | false ↦ writing.Refused (Amounts LentRoom (length s) 0) ]
+      | false ↦ Err (Amounts HouseSize (amount (length s)) 0)
+      | true ↦ elim (leb (length s) n) [ true ↦ Ok (length s) | false ↦ Err (Amounts LentRoom (length s) 0) ]
     ]
 
 unfoldable pub text_after : List ℕ → Res (List ℕ) → List ℕ

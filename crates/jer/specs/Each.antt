@@ -1,11 +1,9 @@
 -- Many texts under one type table: what is told of each, and what the buffers hold afterwards.
 -- The texts stand one after another, with the places where they end; so do, in the room that is lent, their rows and their pool bytes.
 -- Each text is read as a call reads it that is lent the room which those before it leave. One that finds no room is the last.
+use Rattle.std.specs.Prelude.{Err, Ok}
+use Rattle.jer.specs.Answer.{Reading, Readings}
 use Rattle.std.specs.Prelude.{ℕ, suc, ◌+◌, ◌-◌, ◌*◌, ◌≡◌, List, [], ◌∷◌, ◌++◌, true, false, eqb, leb, length, take, drop}
-use Rattle.jer.specs.declared.Reading.{Reading}
-use Rattle.jer.specs.declared.Reading.TheVariants as reading
-use Rattle.jer.specs.declared.Readings.{Readings}
-use Rattle.jer.specs.declared.Readings.TheVariants as readings
 use Rattle.jer.specs.Table.{Table}
 use Rattle.jer.specs.Value.{Val}
 use Rattle.jer.specs.Answer.{Res, ok, no, bind, Values, values, values_of}
@@ -17,17 +15,17 @@ text_from texts from end = take (end - from) (drop from texts)
 
 -- 0 with the rows and pool bytes, or a refusal's number and values
 unfoldable pub values_in : Reading → Values
-values_in (reading.Read n m) = values 0 n m
-values_in (reading.Refused e) = values_of e
+values_in (Ok c) = values 0 c.rows c.pool
+values_in (Err e) = values_of e
 
 -- rows and pool bytes that an answer takes up
 unfoldable pub rows_used : Reading → ℕ
-rows_used (reading.Read n m) = n
-rows_used (reading.Refused e) = 0
+rows_used (Ok c) = c.rows
+rows_used (Err e) = 0
 
 unfoldable pub pool_used : Reading → ℕ
-pool_used (reading.Read n m) = m
-pool_used (reading.Refused e) = 0
+pool_used (Ok c) = c.pool
+pool_used (Err e) = 0
 
 -- what is told of a text, in five numbers: its answer's values, and where its rows and its pool bytes end
 unfoldable pub told : Values → ℕ → ℕ → List ℕ
@@ -76,8 +74,8 @@ unfoldable pub each_read : Table → List ℕ → List ℕ → List ℕ → List
 each_read t texts ends rows pool tells = bind (good_table t) (λ u. ok (read_each t texts 0 ends 0 0 rows pool tells))
 
 unfoldable pub each_answer : Res Each → Readings
-each_answer (ok z) = readings.Answered z.count
-each_answer (no e) = readings.Refused e
+each_answer (ok z) = Ok z.count
+each_answer (no e) = Err e
 
 -- the buffers afterwards: of a type table that is refused, as they were
 unfoldable pub each_left : (Each → List ℕ) → List ℕ → Res Each → List ℕ

@@ -1,6 +1,6 @@
 -- Which value tables are a value of a type, and the first bad row.
 use Rattle.std.specs.Prelude.{ℕ, zero, suc, ◌+◌, ◌-◌, ◌*◌, ◌^◌, List, [], ◌∷◌, Bool, true, false, ◌&&◌, ◌||◌, not, eqb, ltb, leb, length, take, drop}
-use Rattle.std.proofs.Math.Option.{Option, none, some}
+use Rattle.std.specs.Prelude.{Option, None, Some}
 use Rattle.json_text.specs.Bytes.{on, pick}
 use Rattle.json_text.specs.Utf8.{utf8}
 use Rattle.jer.specs.declared.Refusal.TheVariants.{AtRow}
@@ -70,8 +70,8 @@ sized w q good x = and_then x (λ v ws' q' o'. elim (good && eqb w.size (q' - q)
 -- parts that stand in a bracket, where one may still be opened
 -- 01, Refusal numbers, 12: "or is 33 brackets deep"
 unfoldable pub in_bracket : Option Taker → Bool → ℕ → (Taker → Took Val) → Took Val
-in_bracket none good q f = wrong q
-in_bracket (some g) good q f = elim good [ true ↦ f g | false ↦ wrong q ]
+in_bracket None good q f = wrong q
+in_bracket (Some g) good q f = elim good [ true ↦ f g | false ↦ wrong q ]
 
 unfoldable pub take_sequence : Table → ℕ → ValueRow → List ValueRow → ℕ → ℕ → Taker → Took Val
 take_sequence t r w ws q o f =
@@ -124,8 +124,8 @@ take_with inner t pool r ws q o =
 -- a value with at most d brackets open at one time
 -- 01, Refusal numbers: "For 12, rows are taken in order"
 unfoldable pub take_value : ℕ → Table → List ℕ → Taker
-take_value zero t pool r ws q o = take_with none t pool r ws q o
-take_value (suc d) t pool r ws q o = take_with (some (λ e us p u. take_value d t pool e us p u)) t pool r ws q o
+take_value zero t pool r ws q o = take_with None t pool r ws q o
+take_value (suc d) t pool r ws q o = take_with (Some (λ e us p u. take_value d t pool e us p u)) t pool r ws q o
 
 -- ---- the whole table
 

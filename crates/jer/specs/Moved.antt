@@ -1,7 +1,8 @@
 -- Trees that differ only in places, and the tokens of trees.
+use Rattle.jer.specs.declared.Token.{Token}
+use Rattle.jer.specs.declared.Token.TheVariants as tok
 use Rattle.std.specs.Prelude.{ℕ, List, Bool}
 use Rattle.json_text.specs.Tree.{Json, jnull, jbool, jint, jreal, jstr, jarr, jobj, Items, inil, icons, Members, mnil, mcons}
-use Rattle.jer.specs.Table.{Token, t_null, t_boolean, t_number, t_string, t_array, t_object}
 
 -- Other white space and other escapes leave a tree as it is but for its places: the same tokens, names and strings in the same order.
 mutual
@@ -24,10 +25,10 @@ mutual
 
 -- the token that a tree begins with
 unfoldable pub token_in : Json → Token
-token_in (jnull p) = t_null
-token_in (jbool p b) = t_boolean
-token_in (jint p m n) = t_number
-token_in (jreal p) = t_number
-token_in (jstr p s) = t_string
-token_in (jarr p is) = t_array
-token_in (jobj p ms) = t_object
+token_in (jnull p) = tok.Null
+token_in (jbool p b) = tok.Boolean
+token_in (jint p m n) = tok.Number
+token_in (jreal p) = tok.Number
+token_in (jstr p s) = tok.String
+token_in (jarr p is) = tok.Array
+token_in (jobj p ms) = tok.Object

@@ -1,10 +1,8 @@
 -- The programs `jerread` and `jerwrite`: what they print for what stands on standard input.
+use Rattle.std.specs.Prelude.{Err, Ok}
+use Rattle.jer.specs.Answer.{Reading, Writing}
 use Rattle.std.specs.Prelude.{ℕ, ◌+◌, ◌*◌, ◌/◌, ◌%◌, ◌^◌, List, [], ◌∷◌, ◌++◌, true, false, eqb, leb, length}
-use Rattle.std.proofs.Math.Option.{Option, none, some}
-use Rattle.jer.specs.declared.Reading.{Reading}
-use Rattle.jer.specs.declared.Reading.TheVariants as reading
-use Rattle.jer.specs.declared.Writing.{Writing}
-use Rattle.jer.specs.declared.Writing.TheVariants as writing
+use Rattle.std.specs.Prelude.{Option, None, Some}
 use Rattle.jer.specs.Table.{Table, table}
 use Rattle.jer.specs.Value.{Val}
 use Rattle.jer.specs.Answer.{Res, ok, no, Values, values, values_of}
@@ -30,11 +28,11 @@ line_from (b ∷ s) =
 -- a line of octets: hexadecimal of at most 16,384 digits, a whole number of units of n octets
 -- 01, Sample texts on both sides: "either letter case (..) each line at most 16,384 digits."
 unfoldable pub octets_in : ℕ → List ℕ → Option (List ℕ)
-octets_in n bs = elim (leb (length bs) 16384) [ true ↦ also (unhex bs) (λ os. only_if (eqb (length os % n) 0) os) | false ↦ none ]
+octets_in n bs = elim (leb (length bs) 16384) [ true ↦ also (unhex bs) (λ os. only_if (eqb (length os % n) 0) os) | false ↦ None ]
 
 -- the octets of the next line: "The first line that is missing (no byte left), odd, not hexadecimal or, for line one, not whole eights is 15"
 unfoldable pub line_at : ℕ → List ℕ → Option (List ℕ)
-line_at n [] = none
+line_at n [] = None
 line_at n (b ∷ s) = octets_in n (line_from (b ∷ s)).bytes
 
 -- octets as numbers: "(eight digits a number)"
@@ -67,15 +65,15 @@ row_lines (w ∷ ws) = end_line (digits8 (w.kind ∷ w.a ∷ w.b ∷ w.size ∷ 
 -- 01, Refusal numbers, 15: "program only: bad or over-long input line | line from 1"
 -- what is printed for the next line, the i-th, in units of n octets, and for the input after it
 unfoldable pub with_line : ℕ → ℕ → List ℕ → (List ℕ → List ℕ → List ℕ) → List ℕ
-with_line i n s f = elim (line_at n s) [ none ↦ refusal_line (values 15 i 0) | some os ↦ f os (line_from s).rest ]
+with_line i n s f = elim (line_at n s) [ None ↦ refusal_line (values 15 i 0) | Some os ↦ f os (line_from s).rest ]
 
 -- ---- jerread
 
 -- after the rows "then the pool as one line"
 unfoldable pub print_read : Table → Res Val → Reading → List ℕ
 print_read t (no e) x = refusal_line (values_of e)
-print_read t (ok v) (reading.Refused e) = refusal_line (values_of e)
-print_read t (ok v) (reading.Read n m) = row_lines (rows_of v t 0 0) ++ end_line (hex (pool_of v))
+print_read t (ok v) (Err e) = refusal_line (values_of e)
+print_read t (ok v) (Ok c) = row_lines (rows_of v t 0 0) ++ end_line (hex (pool_of v))
 
 -- "It lends 4,096 rows and 16,384 pool bytes.": a row is four numbers
 unfoldable pub read_printed : Table → Res Val → List ℕ
@@ -100,8 +98,8 @@ jerread s = with_line 1 4 s (λ types rest. read_second (numbers_in types) rest)
 
 unfoldable pub print_write : Res (List ℕ) → Writing → List ℕ
 print_write (no e) x = refusal_line (values_of e)
-print_write (ok s) (writing.Refused e) = refusal_line (values_of e)
-print_write (ok s) (writing.Written n) = end_line (hex s)
+print_write (ok s) (Err e) = refusal_line (values_of e)
+print_write (ok s) (Ok n) = end_line (hex s)
 
 unfoldable pub write_printed : Res (List ℕ) → List ℕ
 write_printed x = print_write x (write_answer 65536 x)

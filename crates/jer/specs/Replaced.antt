@@ -1,7 +1,7 @@
 -- A text in which a value is skipped, and what it is with another value in its place.
 -- 01's promise on the values of skipped members, on the bytes themselves.
 use Rattle.std.specs.Prelude.{ℕ, suc, ◌≤◌, ◌≡◌, List, ◌++◌, true, false, length}
-use Rattle.std.proofs.Math.Option.{none, some}
+use Rattle.std.specs.Prelude.{None, Some}
 use Rattle.json_text.specs.Tree.{Json, jarr, jobj, Items, icons, Members, mcons, place_of}
 use Rattle.json_text.specs.Grammar.{Value, Text}
 use Rattle.jer.specs.Table.{Table, SEQUENCE-OF, kind_of, extensible, is_array, is_unwrapped, element_of, count_of, type_at, position, alternative}
@@ -19,7 +19,7 @@ mutual
     -- inside a member of another sequence or of a wrapped choice, or one that the table does not know
     in_members : {r p : ℕ} {ms : Members} → is_unwrapped t r ≡ false → SkipsMembers t i r ms → Skips t i r (jobj p ms)
     -- inside the alternative that the token picks of an UNWRAPPED choice
-    in_picked : {r n : ℕ} {j : Json} → is_unwrapped t r ≡ true → alternative t r (token_in j) ≡ some n → Skips t i (type_at t r n) j → Skips t i r j
+    in_picked : {r n : ℕ} {j : Json} → is_unwrapped t r ≡ true → alternative t r (token_in j) ≡ Some n → Skips t i (type_at t r n) j → Skips t i r j
 
   pub data SkipsItems (t : Table) (i : Json) : ℕ → Items → Type 0 where
     in_item : {r : ℕ} {j : Json} {is : Items} → Skips t i r j → SkipsItems t i r (icons j is)
@@ -33,10 +33,10 @@ mutual
     surplus_element : {r n : ℕ} {j : Json} {is : Items} → count_of t r ≤ n → extensible t r ≡ true → j ≡ i → SkipsElements t i r n (icons j is)
 
   pub data SkipsMembers (t : Table) (i : Json) : ℕ → Members → Type 0 where
-    in_member : {r p n : ℕ} {s : List ℕ} {j : Json} {ms : Members} → position t r s ≡ some n → Skips t i (type_at t r n) j → SkipsMembers t i r (mcons p s j ms)
+    in_member : {r p n : ℕ} {s : List ℕ} {j : Json} {ms : Members} → position t r s ≡ Some n → Skips t i (type_at t r n) j → SkipsMembers t i r (mcons p s j ms)
     later_member : {r p : ℕ} {s : List ℕ} {j : Json} {ms : Members} → SkipsMembers t i r ms → SkipsMembers t i r (mcons p s j ms)
     -- a member that the table does not know is skipped if the sequence is extensible
-    unknown_member : {r p : ℕ} {s : List ℕ} {j : Json} {ms : Members} → position t r s ≡ none → extensible t r ≡ true → j ≡ i → SkipsMembers t i r (mcons p s j ms)
+    unknown_member : {r p : ℕ} {s : List ℕ} {j : Json} {ms : Members} → position t r s ≡ None → extensible t r ≡ true → j ≡ i → SkipsMembers t i r (mcons p s j ms)
 
 -- The bytes of the value i in the text s can be replaced: with any other value in their place the text gets the same answer, if it still is
 -- JSON within the sizes.

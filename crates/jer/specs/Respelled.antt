@@ -3,7 +3,7 @@
 -- Where one of two respelled texts is read, the other is read as the same value (`respelled-texts`), and no other text is (`only-respelled-texts`).
 -- Where both are refused the numbers may differ: at an ARRAY of two INTEGERs, [1] is 10 for the missing element and [1,null] is 5 at the null.
 use Rattle.std.specs.Prelude.{ℕ, suc, ◌≤◌, ◌<◌, ◌≡◌, List, Bool, true, false}
-use Rattle.std.proofs.Math.Option.{Option, none, some}
+use Rattle.std.specs.Prelude.{Option, None, Some}
 use Rattle.json_text.specs.Tree.{Json, jnull, jint, jstr, jarr, jobj, Items, inil, icons, Members, mnil, mcons}
 use Rattle.jer.specs.Table.{Table, OCTET-STRING, SEQUENCE, SEQUENCE-OF, CHOICE, kind_of, extensible, is_array, is_unwrapped, element_of, count_of, type_at, name_at, same_bytes, position, alternative}
 use Rattle.jer.specs.Read.{octets_of, null_absent}
@@ -11,16 +11,16 @@ use Rattle.jer.specs.Moved.{Moved, token_in}
 
 -- the value that an object has under a name
 unfoldable pub held : Members → List ℕ → Option Json
-held mnil s = none
-held (mcons p u j ms) s = elim (same_bytes u s) [ true ↦ some j | false ↦ held ms s ]
+held mnil s = None
+held (mcons p u j ms) s = elim (same_bytes u s) [ true ↦ Some j | false ↦ held ms s ]
 
 -- The names that an object may have at the sequence at r: known ones once, unknown ones if it is extensible.
 pub data NamesTaken (t : Table) (r : ℕ) : Members → Type 0 where
   no_name : NamesTaken t r mnil
   -- a known name, which is not held again
-  known : {p i : ℕ} {s : List ℕ} {j : Json} {ms : Members} → position t r s ≡ some i → held ms s ≡ none → NamesTaken t r ms → NamesTaken t r (mcons p s j ms)
+  known : {p i : ℕ} {s : List ℕ} {j : Json} {ms : Members} → position t r s ≡ Some i → held ms s ≡ None → NamesTaken t r ms → NamesTaken t r (mcons p s j ms)
   -- an unknown one, which is skipped with its value if the sequence is extensible
-  unknown : {p : ℕ} {s : List ℕ} {j : Json} {ms : Members} → position t r s ≡ none → extensible t r ≡ true → NamesTaken t r ms → NamesTaken t r (mcons p s j ms)
+  unknown : {p : ℕ} {s : List ℕ} {j : Json} {ms : Members} → position t r s ≡ None → extensible t r ≡ true → NamesTaken t r ms → NamesTaken t r (mcons p s j ms)
 
 -- The trees j and k say the same at the row r, spelled with other options.
 mutual
@@ -39,10 +39,10 @@ mutual
     members : {r p q : ℕ} {ms ns : Members} → kind_of t r ≡ SEQUENCE → is_array t r ≡ false → NamesTaken t r ms → NamesTaken t r ns → RespelledMembers t r 0 ms ns
         → Respelled t r (jobj p ms) (jobj q ns)
     -- a wrapped choice: the same alternative
-    chosen : {r p q a b i : ℕ} {s : List ℕ} {j k : Json} → kind_of t r ≡ CHOICE → is_unwrapped t r ≡ false → position t r s ≡ some i → Respelled t (type_at t r i) j k
+    chosen : {r p q a b i : ℕ} {s : List ℕ} {j k : Json} → kind_of t r ≡ CHOICE → is_unwrapped t r ≡ false → position t r s ≡ Some i → Respelled t (type_at t r i) j k
         → Respelled t r (jobj p (mcons a s j mnil)) (jobj q (mcons b s k mnil))
     -- an UNWRAPPED choice: at the alternative that the token picks
-    picked : {r i : ℕ} {j k : Json} → is_unwrapped t r ≡ true → alternative t r (token_in j) ≡ some i → Respelled t (type_at t r i) j k → Respelled t r j k
+    picked : {r i : ℕ} {j k : Json} → is_unwrapped t r ≡ true → alternative t r (token_in j) ≡ Some i → Respelled t (type_at t r i) j k → Respelled t r j k
 
   pub data RespelledItems (t : Table) : ℕ → Items → Items → Type 0 where
     no_item : {r : ℕ} → RespelledItems t r inil inil
@@ -67,8 +67,8 @@ mutual
   -- what the two objects hold for the member i
   pub data RespelledMember (t : Table) : ℕ → ℕ → Option Json → Option Json → Type 0 where
     -- both hold the same, or neither holds anything
-    present : {r i : ℕ} {j k : Json} → Respelled t (type_at t r i) j k → RespelledMember t r i (some j) (some k)
-    absent : {r i : ℕ} → RespelledMember t r i none none
+    present : {r i : ℕ} {j k : Json} → Respelled t (type_at t r i) j k → RespelledMember t r i (Some j) (Some k)
+    absent : {r i : ℕ} → RespelledMember t r i None None
     -- null means absent here: one holds null, the other nothing
-    null_left : {r i p : ℕ} → null_absent t r i ≡ true → RespelledMember t r i (some (jnull p)) none
-    null_right : {r i q : ℕ} → null_absent t r i ≡ true → RespelledMember t r i none (some (jnull q))
+    null_left : {r i p : ℕ} → null_absent t r i ≡ true → RespelledMember t r i (Some (jnull p)) None
+    null_right : {r i q : ℕ} → null_absent t r i ≡ true → RespelledMember t r i None (Some (jnull q))

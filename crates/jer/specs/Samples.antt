@@ -1,4 +1,5 @@
 -- The sample texts of 01: one table of cases under one theorem.
+use Rattle.std.specs.Prelude.{is_some}
 use Rattle.std.specs.Prelude.{ℕ, zero, suc, ◌≡◌, refl, List, [], ◌∷◌, map}
 use Prim.Native.Char.{code}
 use Prim.Native.String.{String}
@@ -7,7 +8,7 @@ use Rattle.json_text.specs.Tree.{place_of, isnoc, msnoc}
 use Rattle.json_text.specs.Utf8.{encode, wide_rows, due_next, due_step, due_end, utf8_from, utf8}
 use Rattle.json_text.specs.Grammar.{paired}
 use Rattle.json_text.specs.Machine.{wide_next, hex_rows, hex_next, high_next, low_next, char_step, fraction_rows, power_rows, num_step, num_tree, room, spaces, opened, starts, after, closed, str_step, num_end, num_go, lit_next, step, ended, finish, run, parse_within, parse}
-use Rattle.jer.specs.Table.{Table, row_count, field, carries, type_kind, tag_of, form_of, kind_of, is_type, marks_of, marked, extensible, is_base64, is_array, is_unwrapped, first_of, element_of, count_of, root_of, member_row, optional, type_at, name_in, name_at, addition, may_miss, may_be_absent, first_where, same_bytes, position, token_code, code_of, same_token, token_pick, token_of, alternative, is_some, can_be_null, open_unwrapped, null_taken}
+use Rattle.jer.specs.Table.{Table, row_count, field, carries, type_kind, tag_of, form_of, kind_of, is_type, marks_of, marked, extensible, is_base64, is_array, is_unwrapped, first_of, element_of, count_of, root_of, member_row, optional, type_at, name_in, name_at, addition, may_miss, may_be_absent, first_where, same_bytes, position, token_code, code_of, same_token, token_pick, token_of, alternative, can_be_null, open_unwrapped, null_taken}
 use Rattle.jer.specs.Valid.{every, implies, unused, good_block, good_name, good_marks, good_fields, good_alone, good_links, good_pointers, all_differ, names_differ, none_optional, good_array, good_unwrapped, good_rules, good_sizes, or_else, pass, first_bad}
 use Rattle.jer.specs.Value.{Val, count_vals, count_present}
 use Rattle.jer.specs.Answer.{Res, ok, no, bind, Values, values_of}
@@ -35,7 +36,7 @@ outcome_of t (ok v) = stored (row_numbers t v) (pool_of v) (write v t 0)
 outcome_of t (no e) = refusal_of (values_of e)
 
 unfoldable pub outcome : Table → List ℕ → Outcome
-unfolding refusal_of outcome_of pick place_of isnoc msnoc encode wide_rows due_next due_step due_end utf8_from utf8 paired wide_next hex_rows hex_next high_next low_next char_step fraction_rows power_rows num_step num_tree room spaces opened starts after closed str_step num_end num_go lit_next step ended finish run parse_within parse row_count field carries type_kind tag_of form_of kind_of is_type marks_of marked extensible is_base64 is_array is_unwrapped first_of element_of count_of root_of member_row optional type_at name_in name_at addition may_miss may_be_absent first_where same_bytes position token_code code_of same_token token_pick token_of alternative is_some can_be_null open_unwrapped null_taken every implies unused good_block good_name good_marks good_fields good_alone good_links good_pointers all_differ names_differ none_optional good_array good_unwrapped good_rules good_sizes or_else pass first_bad count_vals count_present bind also hex_value unhex hex_digit hex base64_value only_if last_group full_group unbase64 base64_digit base64 read_int read_item read_octets octets_of read_string at_kind picked unwrapping lookup names_good null_absent with_absent with_present read_member read_members read_object null_value missing_element read_element surplus read_elements read_items read_array read_chosen read_choice read_braces null? read numbers bit pool_of above rows_of null_text bool_text digits int_text escaped escapes quotes string_text bytes_text joined keep drop_nulls brackets braces member_text choice_text sequence_text write table_of good_table tree_of good_text read_text row_numbers read_whole
+unfolding refusal_of outcome_of pick place_of isnoc msnoc encode wide_rows due_next due_step due_end utf8_from utf8 paired wide_next hex_rows hex_next high_next low_next char_step fraction_rows power_rows num_step num_tree room spaces opened starts after closed str_step num_end num_go lit_next step ended finish run parse_within parse row_count field carries type_kind tag_of form_of kind_of is_type marks_of marked extensible is_base64 is_array is_unwrapped first_of element_of count_of root_of member_row optional type_at name_in name_at addition may_miss may_be_absent first_where same_bytes position token_code code_of same_token token_pick token_of alternative can_be_null open_unwrapped null_taken every implies unused good_block good_name good_marks good_fields good_alone good_links good_pointers all_differ names_differ none_optional good_array good_unwrapped good_rules good_sizes or_else pass first_bad count_vals count_present bind also hex_value unhex hex_digit hex base64_value only_if last_group full_group unbase64 base64_digit base64 read_int read_item read_octets octets_of read_string at_kind picked unwrapping lookup names_good null_absent with_absent with_present read_member read_members read_object null_value missing_element read_element surplus read_elements read_items read_array read_chosen read_choice read_braces null? read numbers bit pool_of above rows_of null_text bool_text digits int_text escaped escapes quotes string_text bytes_text joined keep drop_nulls brackets braces member_text choice_text sequence_text write table_of good_table tree_of good_text read_text row_numbers read_whole
 outcome t s = outcome_of t (read_text t s)
 
 -- ---- the tables of the samples

@@ -1,11 +1,11 @@
 -- Trees that differ only inside the values of skipped members, and answers that agree but for places.
 -- 01's promise on two such texts, which docs/PROMISES.md quotes, says `SameCall` of their readings.
+use Rattle.std.specs.Prelude.{Err}
+use Rattle.jer.specs.Answer.{Reading}
 use Rattle.std.specs.Prelude.{ℕ, suc, ◌≤◌, ◌≡◌, List, true, false, length}
-use Rattle.std.proofs.Math.Option.{none, some}
+use Rattle.std.specs.Prelude.{None, Some}
 use Rattle.json_text.specs.Tree.{Json, jarr, jobj, Items, inil, icons, Members, mnil, mcons}
 use Rattle.jer.specs.declared.Refusal.{Refusal}
-use Rattle.jer.specs.declared.Reading.{Reading}
-use Rattle.jer.specs.declared.Reading.TheVariants as reading
 use Rattle.jer.specs.Table.{Table, SEQUENCE-OF, kind_of, extensible, is_array, is_unwrapped, element_of, count_of, type_at, position, alternative}
 use Rattle.jer.specs.Answer.{Res, ok, no, number_of}
 use Rattle.jer.specs.Value.{Val}
@@ -20,7 +20,7 @@ pub data SameAnswer {A : Type 0} : Res A → Res A → Type 0 where
 -- the same of what the call answers
 pub data SameReading : Reading → Reading → Type 0 where
   same_reading : {a : Reading} → SameReading a a
-  same_refusal : {e f : Refusal} → number_of e ≡ number_of f → SameReading (reading.Refused e) (reading.Refused f)
+  same_refusal : {e f : Refusal} → number_of e ≡ number_of f → SameReading (Err e) (Err f)
 
 -- the same rows and pool, or the same refusal number: of two readings with the same room, the answers and what the buffers hold afterwards
 pub record SameCall (t : Table) (rows pool : List ℕ) (x y : Res Val) : Type 0 where
@@ -40,7 +40,7 @@ mutual
     -- another sequence or a wrapped choice: member by member
     members : {r p q : ℕ} {ms ns : Members} → is_unwrapped t r ≡ false → SkipAlikeMembers t r ms ns → SkipAlike t r (jobj p ms) (jobj q ns)
     -- an UNWRAPPED choice: at the alternative that the token picks
-    picked : {r i : ℕ} {j k : Json} → is_unwrapped t r ≡ true → alternative t r (token_in j) ≡ some i → SkipAlike t (type_at t r i) j k → SkipAlike t r j k
+    picked : {r i : ℕ} {j k : Json} → is_unwrapped t r ≡ true → alternative t r (token_in j) ≡ Some i → SkipAlike t (type_at t r i) j k → SkipAlike t r j k
 
   pub data SkipAlikeItems (t : Table) : ℕ → Items → Items → Type 0 where
     no_item : {r : ℕ} → SkipAlikeItems t r inil inil
@@ -57,7 +57,7 @@ mutual
   pub data SkipAlikeMembers (t : Table) : ℕ → Members → Members → Type 0 where
     no_member : {r : ℕ} → SkipAlikeMembers t r mnil mnil
     -- a member that the table knows: alike at its type
-    known : {r p q i : ℕ} {s : List ℕ} {j k : Json} {ms ns : Members} → position t r s ≡ some i → SkipAlike t (type_at t r i) j k → SkipAlikeMembers t r ms ns
+    known : {r p q i : ℕ} {s : List ℕ} {j k : Json} {ms ns : Members} → position t r s ≡ Some i → SkipAlike t (type_at t r i) j k → SkipAlikeMembers t r ms ns
         → SkipAlikeMembers t r (mcons p s j ms) (mcons q s k ns)
     -- one that it does not know is skipped if the type is an extensible sequence, and else refused by its name: its value may be any
-    unknown : {r p q : ℕ} {s : List ℕ} {j k : Json} {ms ns : Members} → position t r s ≡ none → SkipAlikeMembers t r ms ns → SkipAlikeMembers t r (mcons p s j ms) (mcons q s k ns)
+    unknown : {r p q : ℕ} {s : List ℕ} {j k : Json} {ms ns : Members} → position t r s ≡ None → SkipAlikeMembers t r ms ns → SkipAlikeMembers t r (mcons p s j ms) (mcons q s k ns)

@@ -1,6 +1,10 @@
 -- The type table: its rows and fields by name.
+use Rattle.std.specs.Prelude.{is_some}
+use Rattle.jer.specs.declared.Token.{Token}
+use Rattle.jer.specs.declared.Token.TheVariants as tok
+use Rattle.jer.specs.declared.Carried.{Carried}
 use Rattle.std.specs.Prelude.{ℕ, zero, suc, ◌+◌, ◌*◌, ◌/◌, ◌%◌, List, [], ◌∷◌, Bool, true, false, ◌&&◌, ◌||◌, eqb, leb, length, get_or, take, drop}
-use Rattle.std.proofs.Math.Option.{Option, none, some}
+use Rattle.std.specs.Prelude.{Option, None, Some}
 use Rattle.json_text.specs.Bytes.{on, pick}
 use Rattle.jer.specs.declared.Layout.{Layout}
 use Rattle.jer.specs.declared.Layout.TheVariants.{Bare, Holds, Lists, Names, Unknown}
@@ -77,21 +81,18 @@ OPTIONAL = 1
 
 -- ---- tokens
 
-pub data Token : Type 0 where
-  t_null t_boolean t_number t_string t_array t_object : Token
-
 unfoldable pub token_code : Token → ℕ
-token_code t_null = 0
-token_code t_boolean = 1
-token_code t_number = 2
-token_code t_string = 3
-token_code t_array = 4
-token_code t_object = 5
+token_code tok.Null = 0
+token_code tok.Boolean = 1
+token_code tok.Number = 2
+token_code tok.String = 3
+token_code tok.Array = 4
+token_code tok.Object = 5
 
 -- 6 where there is none
 unfoldable pub code_of : Option Token → ℕ
-code_of none = 6
-code_of (some k) = token_code k
+code_of None = 6
+code_of (Some k) = token_code k
 
 unfoldable pub same_token : Option Token → Option Token → Bool
 same_token a b = eqb (code_of a) (code_of b)
@@ -100,19 +101,7 @@ unfoldable pub token_pick : Bool → Option Token → Option Token → Option To
 token_pick true a b = a
 token_pick false a b = b
 
-unfoldable pub is_some : {A : Type 0} → Option A → Bool
-is_some none = false
-is_some (some a) = true
-
 -- ---- what a row of each kind carries
-
-pub record Carried : Type 0 where
-  -- the sum of the marks that it may have
-  pub marks : ℕ
-  pub layout : Layout
-  -- of a type, the token that a value begins with: without mark 1, and with it
-  pub token : Option Token
-  pub other : Option Token
 
 abbrev pub carried : ℕ → Layout → Option Token → Option Token → Carried
 carried m l a b = record { marks = m; layout = l; token = a; other = b }
@@ -122,18 +111,18 @@ carried m l a b = record { marks = m; layout = l; token = a; other = b }
 unfoldable pub carries : ℕ → Carried
 carries kind =
     pick kind
-    (on BOOLEAN BOOLEAN (λ k. carried 0 Bare (some t_boolean) (some t_boolean))
-    ∷ on INTEGER INTEGER (λ k. carried 0 Bare (some t_number) (some t_number))
-    ∷ on ENUMERATED ENUMERATED (λ k. carried EXTENSIBLE (Holds 1) (some t_string) (some t_string))
-    ∷ on NULL NULL (λ k. carried 0 Bare (some t_null) (some t_null))
-    ∷ on OCTET-STRING OCTET-STRING (λ k. carried BASE64 Bare (some t_string) (some t_string))
-    ∷ on UTF8String UTF8String (λ k. carried 0 Bare (some t_string) (some t_string))
-    ∷ on SEQUENCE SEQUENCE (λ k. carried (ARRAY + EXTENSIBLE) (Holds 0) (some t_object) (some t_array))
-    ∷ on SEQUENCE-OF SEQUENCE-OF (λ k. carried 0 Lists (some t_array) (some t_array))
-    ∷ on CHOICE CHOICE (λ k. carried (UNWRAPPED + EXTENSIBLE) (Holds 1) (some t_object) (some t_object))
-    ∷ on MEMBER MEMBER (λ k. carried OPTIONAL Names none none)
+    (on BOOLEAN BOOLEAN (λ k. carried 0 Bare (Some tok.Boolean) (Some tok.Boolean))
+    ∷ on INTEGER INTEGER (λ k. carried 0 Bare (Some tok.Number) (Some tok.Number))
+    ∷ on ENUMERATED ENUMERATED (λ k. carried EXTENSIBLE (Holds 1) (Some tok.String) (Some tok.String))
+    ∷ on NULL NULL (λ k. carried 0 Bare (Some tok.Null) (Some tok.Null))
+    ∷ on OCTET-STRING OCTET-STRING (λ k. carried BASE64 Bare (Some tok.String) (Some tok.String))
+    ∷ on UTF8String UTF8String (λ k. carried 0 Bare (Some tok.String) (Some tok.String))
+    ∷ on SEQUENCE SEQUENCE (λ k. carried (ARRAY + EXTENSIBLE) (Holds 0) (Some tok.Object) (Some tok.Array))
+    ∷ on SEQUENCE-OF SEQUENCE-OF (λ k. carried 0 Lists (Some tok.Array) (Some tok.Array))
+    ∷ on CHOICE CHOICE (λ k. carried (UNWRAPPED + EXTENSIBLE) (Holds 1) (Some tok.Object) (Some tok.Object))
+    ∷ on MEMBER MEMBER (λ k. carried OPTIONAL Names None None)
     ∷ [])
-    (carried 0 Unknown none none)
+    (carried 0 Unknown None None)
 
 -- the kinds of types
 unfoldable pub type_kind : ℕ → Bool
@@ -237,8 +226,8 @@ may_be_absent t r i = optional t r i || addition t r i
 
 -- the first position, of n from i on, that passes the test
 unfoldable pub first_where : (ℕ → Bool) → ℕ → ℕ → Option ℕ
-first_where f i zero = none
-first_where f i (suc n) = elim (f i) [ true ↦ some i | false ↦ first_where f (suc i) n ]
+first_where f i zero = None
+first_where f i (suc n) = elim (f i) [ true ↦ Some i | false ↦ first_where f (suc i) n ]
 
 unfoldable pub same_bytes : List ℕ → List ℕ → Bool
 same_bytes [] [] = true
@@ -260,13 +249,13 @@ token_of t r = token_pick (marked t r 1) (carries (kind_of t r)).other (carries 
 -- the alternative of an UNWRAPPED choice that a token picks
 -- 01, Reading: "UNWRAPPED: the token's kind picks the alternative."
 unfoldable pub alternative : Table → ℕ → Token → Option ℕ
-alternative t r k = first_where (λ i. same_token (token_of t (type_at t r i)) (some k)) 0 (count_of t r)
+alternative t r k = first_where (λ i. same_token (token_of t (type_at t r i)) (Some k)) 0 (count_of t r)
 
 -- ---- null
 
 -- 01, Type table: "can be null (NULL, or UNWRAPPED with a NULL alternative)"
 unfoldable pub can_be_null : Table → ℕ → Bool
-can_be_null t r = eqb (kind_of t r) NULL || (is_unwrapped t r && is_some (alternative t r t_null))
+can_be_null t r = eqb (kind_of t r) NULL || (is_unwrapped t r && is_some (alternative t r tok.Null))
 
 -- an extensible UNWRAPPED choice
 unfoldable pub open_unwrapped : Table → ℕ → Bool

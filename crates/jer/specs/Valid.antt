@@ -1,6 +1,6 @@
 -- Which type tables are good, and the row that is blamed.
 use Rattle.std.specs.Prelude.{ℕ, zero, suc, ◌+◌, ◌*◌, ◌/◌, ◌%◌, [], ◌∷◌, Bool, true, false, ◌&&◌, ◌||◌, not, eqb, ltb, leb, length}
-use Rattle.std.proofs.Math.Option.{Option, none, some}
+use Rattle.std.specs.Prelude.{Option, None, Some}
 use Rattle.json_text.specs.Bytes.{on, pick}
 use Rattle.json_text.specs.Utf8.{utf8}
 use Rattle.jer.specs.declared.Layout.{Layout}
@@ -112,8 +112,8 @@ unfoldable pub good_sizes : Table → Bool
 good_sizes t = leb 1 (length t.rows) && (eqb (length t.rows % 8) 0 && (leb (length t.rows) (4096 * 8) && leb (length t.names) 65536))
 
 unfoldable pub or_else : Option ℕ → Option ℕ → Option ℕ
-or_else none y = y
-or_else (some x) y = some x
+or_else None y = y
+or_else (Some x) y = Some x
 
 -- the first row that fails the test
 unfoldable pub pass : Table → (ℕ → Bool) → Option ℕ
@@ -123,6 +123,6 @@ pass t good = first_where (λ r. not (good r)) 0 (row_count t)
 unfoldable pub first_bad : Table → Option ℕ
 first_bad t =
     elim (good_sizes t) [
-      | false ↦ some 0
+      | false ↦ Some 0
       | true ↦ or_else (pass t (good_alone t)) (or_else (pass t (good_pointers t)) (pass t (good_rules t)))
     ]

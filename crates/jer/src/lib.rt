@@ -5,9 +5,11 @@
 ghost use Rattle.std.specs.Prelude.{◌≡◌};
 ghost use Rattle.jer.specs.Answer.{cause_number, table_number, limit_number, values_of};
 ghost use Rattle.jer.specs.Reports.{reported_of};
+ghost use Rattle.jer.specs.declared.Limit.TheVariants.{LentRoom};
+ghost use Rattle.jer.specs.declared.Refusal.TheVariants.{Amounts};
 
 // Why a text is refused at one of its bytes.
-#[derive(Clone, Copy)]
+#[derive(Clone, Copy, PartialEq, Eq, Debug)]
 pub enum Cause {
     // The text is over 65,536 bytes.
     TooLong,
@@ -36,57 +38,45 @@ pub enum Cause {
 }
 
 // Which table is refused at one of its rows.
-#[derive(Clone, Copy)]
+#[derive(Clone, Copy, PartialEq, Eq, Debug)]
 pub enum Which {
     TypeTable,
     ValueTable,
 }
 
 // What is too large for its room: a written text for the house size, or an answer for the lent room.
-#[derive(Clone, Copy)]
+#[derive(Clone, Copy, PartialEq, Eq, Debug)]
 pub enum Limit {
     HouseSize,
     LentRoom,
 }
 
 // A refusal, by what it returns beside its number.
-#[derive(Clone, Copy)]
+#[derive(Clone, Copy, PartialEq, Eq, Debug)]
 pub enum Refusal {
     AtByte(Cause, usize),
     AtRow(Which, usize),
     Amounts(Limit, u64, u64),
 }
 
-// What judging a type table or a text answers.
-#[derive(Clone, Copy)]
-pub enum Judged {
-    Good,
-    Refused(Refusal),
+// How many rows and pool bytes a value has.
+#[derive(Clone, Copy, PartialEq, Eq, Debug)]
+pub struct Counts {
+    pub rows: usize,
+    pub pool: usize,
 }
 
-// What reading answers: how many rows and pool bytes were stored.
-#[derive(Clone, Copy)]
-pub enum Reading {
-    Read { rows: usize, pool: usize },
-    Refused(Refusal),
-}
-
-// What reading many texts answers: of how many it is told what came of them, or why the type table is refused.
-#[derive(Clone, Copy)]
-pub enum Readings {
-    Answered(usize),
-    Refused(Refusal),
-}
-
-// What writing answers: how many bytes of text were stored.
-#[derive(Clone, Copy)]
-pub enum Writing {
-    Written(usize),
-    Refused(Refusal),
+impl Counts {
+    // Refuses for want of room, which so much would need.
+    pub fn needed(self) -> Refusal
+        ensures { result ≡ Amounts LentRoom self.rows self.pool }
+    {
+        Refusal::Amounts(Limit::LentRoom, self.rows as u64, self.pool as u64)
+    }
 }
 
 // How a row of the type table uses its fields from 2 on.
-#[derive(Clone, Copy)]
+#[derive(Clone, Copy, PartialEq, Eq, Debug)]
 pub enum Layout {
     // Not at all.
     Bare,
@@ -100,70 +90,98 @@ pub enum Layout {
     Unknown,
 }
 
+// The JSON token that a value begins with.
+#[derive(Clone, Copy, PartialEq, Eq, Debug)]
+pub enum Token {
+    Null,
+    Boolean,
+    Number,
+    String,
+    Array,
+    Object,
+}
+
+// What a row of a kind carries.
+#[derive(Clone, Copy, PartialEq, Eq, Debug)]
+pub struct Carried {
+    // The sum of the marks that it may have.
+    pub marks: u32,
+    pub layout: Layout,
+    // Of a type, the token that a value begins with: without mark 1, and with it.
+    pub token: Option<Token>,
+    pub other: Option<Token>,
+}
+
 // Document 01's number of a refusal, with its first and second amount.
-#[derive(Clone, Copy)]
+#[derive(Clone, Copy, PartialEq, Eq, Debug)]
 pub struct Reported {
     pub number: u32,
     pub first: u64,
     pub second: u64,
 }
 
-fn cause_number(c: Cause) -> u32
-    ensures { result ≡ cause_number c }
-{
-    match c {
-        Cause::TooLong => 2,
-        Cause::NotJson => 3,
-        Cause::TooDeep => 4,
-        Cause::OtherKind => 5,
-        Cause::BadNumber => 6,
-        Cause::BadString => 7,
-        Cause::UnknownName => 8,
-        Cause::RepeatedName => 9,
-        Cause::Missing(_) => 10,
-        Cause::Surplus => 10,
-        Cause::NotOne => 10,
-        Cause::Unknown => 11,
+impl Cause {
+    fn number(self) -> u32
+        ensures { result ≡ cause_number self }
+    {
+        match self {
+            Cause::TooLong => 2,
+            Cause::NotJson => 3,
+            Cause::TooDeep => 4,
+            Cause::OtherKind => 5,
+            Cause::BadNumber => 6,
+            Cause::BadString => 7,
+            Cause::UnknownName => 8,
+            Cause::RepeatedName => 9,
+            Cause::Missing(_) | Cause::Surplus | Cause::NotOne => 10,
+            Cause::Unknown => 11,
+        }
     }
 }
 
-fn table_number(w: Which) -> u32
-    ensures { result ≡ table_number w }
-{
-    match w {
-        Which::TypeTable => 1,
-        Which::ValueTable => 12,
+impl Which {
+    fn number(self) -> u32
+        ensures { result ≡ table_number self }
+    {
+        match self {
+            Which::TypeTable => 1,
+            Which::ValueTable => 12,
+        }
     }
 }
 
-fn limit_number(l: Limit) -> u32
-    ensures { result ≡ limit_number l }
-{
-    match l {
-        Limit::HouseSize => 13,
-        Limit::LentRoom => 14,
+impl Limit {
+    fn number(self) -> u32
+        ensures { result ≡ limit_number self }
+    {
+        match self {
+            Limit::HouseSize => 13,
+            Limit::LentRoom => 14,
+        }
     }
 }
 
 // What document 01's table of refusals gives for a refusal.
-pub fn report(e: Refusal) -> Reported
-    ensures { result ≡ reported_of (values_of e) }
-{
-    match e {
-        Refusal::AtByte(c, p) => Reported {
-            number: cause_number(c),
-            first: p as u64,
-            second: 0,
-        },
-        Refusal::AtRow(w, row) => Reported {
-            number: table_number(w),
-            first: row as u64,
-            second: 0,
-        },
-        Refusal::Amounts(l, a, b) => Reported {
-            number: limit_number(l),
-            first: a,
-            second: b,
-        },
+impl From<Refusal> for Reported {
+    ghost from_gives = { λ e r. r ≡ reported_of (values_of e) };
+
+    fn from(e: Refusal) -> Reported {
+        match e {
+            Refusal::AtByte(c, p) => Reported {
+                number: c.number(),
+                first: p as u64,
+                second: 0,
+            },
+            Refusal::AtRow(w, row) => Reported {
+                number: w.number(),
+                first: row as u64,
+                second: 0,
+            },
+            Refusal::Amounts(l, first, second) => Reported {
+                number: l.number(),
+                first,
+                second,
+            },
+        }
     }
 }

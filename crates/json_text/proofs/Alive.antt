@@ -3,7 +3,7 @@ use Prim.Native.Nat.{ℕ, zero, suc, ◌≤◌}
 use mathlib.Core.Path.{◌≡◌, refl}
 use mathlib.Core.List.{List, [], ◌∷◌, ◌++◌}
 use mathlib.Core.Bool.{true, false}
-use mathlib.Core.Option.{none, some}
+use Rattle.std.specs.Prelude.{None, Some}
 use native.Mathlib.Omega.{arith}
 use lib.Dec.{lit≤}
 use borrow.Author.Tests.{le-leb}
@@ -35,7 +35,7 @@ alive-after (in_arr o is ▹ k) j p = alive-step 0x5D refl (alive-after k _ (suc
 alive-after (in_obj o ms q s ▹ k) j p = alive-step 0x7D refl (alive-after k _ (suc p))
 
 -- a number may end where it has a tree and neither closing bracket goes on with it
-alive-end : (k : Stack) (n : Num) (q p : ℕ) {j : Json} → num_tree n q ≡ some j → num_step n 0x5D ≡ none → num_step n 0x7D ≡ none → Alive p (s_num n q k) []
+alive-end : (k : Stack) (n : Num) (q p : ℕ) {j : Json} → num_tree n q ≡ Some j → num_step n 0x5D ≡ None → num_step n 0x7D ≡ None → Alive p (s_num n q k) []
 unfolding run finish ended step num_go num_end after pick spaces
 alive-end (base d) n q p {j} t a o = record { rest = []; result = j; completes = rw (t, ended) }
 alive-end (in_arr i is ▹ k) n q p {j} t a o = alive-step 0x5D (rw (a, num_go, t, num_end)) (alive-after k (jarr i (isnoc is j)) (suc p))

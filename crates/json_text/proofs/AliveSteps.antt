@@ -3,7 +3,7 @@ use Prim.Native.Nat.{ℕ, zero, suc, ◌≤◌}
 use mathlib.Core.Path.{◌≡◌, refl}
 use mathlib.Core.List.{List, [], ◌∷◌}
 use mathlib.Core.Bool.{Bool, true, false}
-use mathlib.Core.Option.{Option, none, some}
+use Rattle.std.specs.Prelude.{Option, None, Some}
 use native.Mathlib.Omega.{arith}
 use lib.Dec.{eqb, lit≤}
 use borrow.Author.Tests.{eqb-false}
@@ -102,13 +102,13 @@ str_ok never r q s k e h = tt
 
 num_end-ok : (j : Option Json) (k : Stack) (b : ℕ) → Held k → OkStep (num_end j k b)
 unfolding num_end
-num_end-ok none k b h = tt
-num_end-ok (some j) k b h = after-ok b j k h
+num_end-ok None k b h = tt
+num_end-ok (Some j) k b h = after-ok b j k h
 
 num_ok : (m : Option Num) (n : Num) (q : ℕ) (k : Stack) (b : ℕ) → Held k → OkStep (num_go m n q k b)
 unfolding num_go
-num_ok (some m) n q k b h = h
-num_ok none n q k b h = num_end-ok (num_tree n q) k b h
+num_ok (Some m) n q k b h = h
+num_ok None n q k b h = num_end-ok (num_tree n q) k b h
 
 lit_next-ok : (cs : List ℕ) (j : Json) (k : Stack) → Held k → Ok (lit_next cs j k)
 unfolding lit_next

@@ -2,7 +2,7 @@
 use Prim.Native.Nat.{ℕ, suc, ◌+◌, ◌≤◌, ◌<◌}
 use mathlib.Core.Path.{◌≡◌, refl}
 use mathlib.Core.List.{List, [], ◌∷◌, ◌++◌}
-use mathlib.Core.Option.{Option, none, some}
+use Rattle.std.specs.Prelude.{Option, None, Some}
 use native.Mathlib.Omega.{arith}
 use lib.ListN.{length, take}
 use Rattle.json_text.specs.Tree.{Json}
@@ -21,15 +21,15 @@ Ends p (refused too_deep q) = ⊥
 
 ended-ends : (j : Option Json) (k : Stack) (p : ℕ) → Ends p (ended j k p)
 unfolding ended
-ended-ends none k p = refl
-ended-ends (some j) (base d) p = tt
-ended-ends (some j) (f ▹ k) p = refl
+ended-ends None k p = refl
+ended-ends (Some j) (base d) p = tt
+ended-ends (Some j) (f ▹ k) p = refl
 
 finish-ends : (st : State) (p : ℕ) → Ends p (finish st p)
 unfolding finish
 finish-ends (s_val k) p = refl
 finish-ends (s_elem o k) p = refl
-finish-ends (s_after j k) p = ended-ends (some j) k p
+finish-ends (s_after j k) p = ended-ends (Some j) k p
 finish-ends (s_name0 o k) p = refl
 finish-ends (s_name o ms k) p = refl
 finish-ends (s_colon o ms q s k) p = refl

@@ -3,7 +3,7 @@ use Prim.Native.Nat.{ℕ, suc, ◌+◌, ◌≤◌}
 use mathlib.Core.Path.{◌≡◌, refl}
 use mathlib.Core.List.{List, [], ◌∷◌}
 use mathlib.Core.Bool.{Bool, true, false, ◌&&◌}
-use mathlib.Core.Option.{Option, none, some}
+use Rattle.std.specs.Prelude.{Option, None, Some}
 use native.Mathlib.Omega.{arith}
 use lib.Dec.{leb, eqb}
 use borrow.Author.Tests.{eqb-false, ne_eqb}
@@ -92,13 +92,13 @@ str_keeps e never r q s k = refl
 
 num_end-keeps : (e : ℕ) (j : Option Json) (k : Stack) (b : ℕ) → Keeps e (num_end j k b) (num_end j (raise e k) b)
 unfolding num_end
-num_end-keeps e none k b = refl
-num_end-keeps e (some j) k b = after-keeps e b j k
+num_end-keeps e None k b = refl
+num_end-keeps e (Some j) k b = after-keeps e b j k
 
 num_keeps : (e : ℕ) (m : Option Num) (n : Num) (q : ℕ) (k : Stack) (b : ℕ) → Keeps e (num_go m n q k b) (num_go m n q (raise e k) b)
 unfolding num_go
-num_keeps e (some m) n q k b = refl
-num_keeps e none n q k b = num_end-keeps e (num_tree n q) k b
+num_keeps e (Some m) n q k b = refl
+num_keeps e None n q k b = num_end-keeps e (num_tree n q) k b
 
 lit_keeps : (e : ℕ) (cs : List ℕ) (j : Json) (k : Stack) → Keeps e (go (lit_next cs j k)) (go (lit_next cs j (raise e k)))
 unfolding lit_next
@@ -119,15 +119,15 @@ step_keeps e p (s_lit c cs j k) b h = pick-pairs {Q = Keeps e} (lit_keeps e cs j
 
 ended-raise : (e : ℕ) (j : Option Json) (k : Stack) (p : ℕ) → ended j (raise e k) p ≡ ended j k p
 unfolding ended
-ended-raise e none k p = refl
-ended-raise e (some j) (base d) p = refl
-ended-raise e (some j) (f ▹ k) p = refl
+ended-raise e None k p = refl
+ended-raise e (Some j) (base d) p = refl
+ended-raise e (Some j) (f ▹ k) p = refl
 
 finish-raise : (e : ℕ) (st : State) (p : ℕ) → finish (raised e st) p ≡ finish st p
 unfolding finish
 finish-raise e (s_val k) p = refl
 finish-raise e (s_elem o k) p = refl
-finish-raise e (s_after j k) p = ended-raise e (some j) k p
+finish-raise e (s_after j k) p = ended-raise e (Some j) k p
 finish-raise e (s_name0 o k) p = refl
 finish-raise e (s_name o ms k) p = refl
 finish-raise e (s_colon o ms q s k) p = refl

@@ -3,7 +3,7 @@ use Prim.Native.Nat.{ℕ, suc, pred}
 use mathlib.Core.Path.{◌≡◌, refl}
 use mathlib.Core.List.{List, [], ◌∷◌, ◌++◌, append-nil, append_assoc}
 use mathlib.Core.Bool.{Bool, true, false}
-use mathlib.Core.Option.{Option, none, some}
+use Rattle.std.specs.Prelude.{Option, None, Some}
 use native.Mathlib.Omega.{arith}
 use lib.Dec.{eqb}
 use borrow.Author.Tests.{eqb-false}
@@ -174,13 +174,13 @@ string-back top p m r q s k b xs never fails = tt
 
 end_back : (top : Json) (p : ℕ) (n : Num) (q : ℕ) (k : Stack) (b : ℕ) (xs : List ℕ) (o : Option Json) → num_tree n q ≡ o → Back top p xs (Rest top p (s_num n q k) (b ∷ xs)) (num_end o k b)
 unfolding num_end past
-end_back top p n q k b xs none e = tt
-end_back top p n q k b xs (some j) e = back-map top p xs (pick b (after j k) (bad not_json)) (λ a. then {xs = []} (num_ends n q j e) a refl) (after-back top p j k b xs)
+end_back top p n q k b xs None e = tt
+end_back top p n q k b xs (Some j) e = back-map top p xs (pick b (after j k) (bad not_json)) (λ a. then {xs = []} (num_ends n q j e) a refl) (after-back top p j k b xs)
 
 number-back : (top : Json) (p : ℕ) (n : Num) (q : ℕ) (k : Stack) (b : ℕ) (xs : List ℕ) (o : Option Num) → Grows (NumFrom n) b o → Back top p xs (Rest top p (s_num n q k) (b ∷ xs)) (num_go o n q k b)
 unfolding num_go
-number-back top p n q k b xs (some m) f = then-cons (λ j ys. f q j ys)
-number-back top p n q k b xs none f = end_back top p n q k b xs (num_tree n q) refl
+number-back top p n q k b xs (Some m) f = then-cons (λ j ys. f q j ys)
+number-back top p n q k b xs None f = end_back top p n q k b xs (num_tree n q) refl
 
 literal-next : (top : Json) (p c : ℕ) (cs : List ℕ) (i : Json) (k : Stack) (xs : List ℕ) → Rest top (suc p) (lit_next cs i k) xs → Rest top p (s_lit c cs i k) (c ∷ xs)
 unfolding lit_next past
@@ -205,15 +205,15 @@ step_back top p (s_lit c cs i k) b xs = pick-within (Back top p xs (Rest top p (
 never-tree : {f : Fault} {p : ℕ} {t : Json} → refused f p ≡ tree t → ⊥
 never-tree e = let z : ◌≡◌ {A = ℕ} 0 1 = cc in omega arith
 
-ended-after : (top j : Json) (k : Stack) (p : ℕ) → ended (some j) k p ≡ tree top → After top p j k []
+ended-after : (top j : Json) (k : Stack) (p : ℕ) → ended (Some j) k p ≡ tree top → After top p j k []
 unfolding ended
 ended-after top j (base d) p e = at_base {j = j} no_space (cc)
 ended-after top j (f ▹ k) p e = absurd (never-tree e)
 
 number-finish : (top : Json) (n : Num) (q : ℕ) (k : Stack) (p : ℕ) (o : Option Json) → num_tree n q ≡ o → ended o k p ≡ tree top → Rest top p (s_num n q k) []
 unfolding ended past
-number-finish top n q k p none g e = absurd (never-tree e)
-number-finish top n q k p (some j) g e = then {xs = []} (num_ends n q j g) (ended-after top j k p e) refl
+number-finish top n q k p None g e = absurd (never-tree e)
+number-finish top n q k p (Some j) g e = then {xs = []} (num_ends n q j g) (ended-after top j k p e) refl
 
 finish-rest : (top : Json) (st : State) (p : ℕ) → finish st p ≡ tree top → Rest top p st []
 unfolding finish

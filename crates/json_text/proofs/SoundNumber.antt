@@ -3,7 +3,7 @@ use Prim.Native.Nat.{ℕ, ◌-◌}
 use mathlib.Core.Path.{◌≡◌, refl}
 use mathlib.Core.List.{List, [], ◌∷◌, ◌++◌}
 use mathlib.Core.Bool.{Bool, true, false}
-use mathlib.Core.Option.{Option, none, some}
+use Rattle.std.specs.Prelude.{Option, None, Some}
 use native.Mathlib.Omega.{arith}
 use Rattle.json_text.specs.Bytes.{In}
 use Rattle.json_text.specs.Tree.{Json, jint, jreal}
@@ -37,8 +37,8 @@ NumFrom n_pow q j bs = (j ≡ jreal q) × ((b : ℕ) → In 0x30 0x39 b → Digi
 
 -- what may follow a step with the byte b makes T with that byte
 abbrev pub Grows : (ℕ → Json → List ℕ → Type 0) → ℕ → Option Num → Type 0
-Grows T b (some n) = (q : ℕ) (j : Json) (bs : List ℕ) → NumFrom n q j bs → T q j (b ∷ bs)
-Grows T b none = Unit {0}
+Grows T b (Some n) = (q : ℕ) (j : Json) (bs : List ℕ) → NumFrom n q j bs → T q j (b ∷ bs)
+Grows T b None = Unit {0}
 
 naught-whole : {n : ℕ} {cs : List ℕ} → Naught n cs → Whole n (0x30 ∷ cs)
 naught-whole naught = nought
@@ -87,10 +87,10 @@ num_grows n_exp b =
 num_grows n_sign b = pick-within (Grows (NumFrom n_sign) b) b _ _ ((λ i q j bs f. (f.0, f.1 b i)) ⨾ tt) tt
 num_grows n_pow b = pick-within (Grows (NumFrom n_pow) b) b _ _ ((λ i q j bs f. (f.0, λ a h. more_digits h (f.1 b i))) ⨾ tt) tt
 
-never-some : {j : Json} → none ≡ some j → ⊥
+never-some : {j : Json} → None ≡ Some j → ⊥
 never-some e = let z : ◌≡◌ {A = ℕ} 0 1 = cc in omega arith
 
-pub num_ends : (n : Num) (q : ℕ) (j : Json) → num_tree n q ≡ some j → NumFrom n q j []
+pub num_ends : (n : Num) (q : ℕ) (j : Json) → num_tree n q ≡ Some j → NumFrom n q j []
 unfolding num_tree
 num_ends n_minus q j e = absurd (never-some e)
 num_ends (n_zero m) q j e = let g : j ≡ jint q m 0 = cc in rw g (is_whole naught)

@@ -3,7 +3,7 @@ use Prim.Native.Nat.{ℕ, suc, ◌+◌, ◌-◌, ◌*◌}
 use mathlib.Core.Path.{◌≡◌, refl, ◌∙◌}
 use mathlib.Core.List.{List, [], ◌∷◌, ◌++◌}
 use mathlib.Core.Bool.{Bool, true, false}
-use mathlib.Core.Option.{none, some}
+use Rattle.std.specs.Prelude.{None, Some}
 use native.Mathlib.Omega.{arith}
 use Rattle.json_text.specs.Bytes.{In, pick, past}
 use Rattle.json_text.specs.Tree.{Json, jint, jreal}
@@ -17,7 +17,7 @@ use Rattle.json_text.proofs.TakesValue.{Opens, NoNum, Ends, Valued}
 -- from n the bytes lead to the other place in a number
 pub data Counts : Num → List ℕ → Num → Type 0 where
   rest : {n : Num} → Counts n [] n
-  next : {n m w : Num} {b : ℕ} {bs : List ℕ} → num_step n b ≡ some m → Counts m bs w → Counts n (b ∷ bs) w
+  next : {n m w : Num} {b : ℕ} {bs : List ℕ} → num_step n b ≡ Some m → Counts m bs w → Counts n (b ∷ bs) w
 
 pub counts_append : {n m w : Num} {bs cs : List ℕ} → Counts n bs m → Counts m cs w → Counts n (bs ++ cs) w
 counts_append rest g = g
@@ -25,7 +25,7 @@ counts_append (next e f) g = next e (counts_append f g)
 
 -- a digit leads from n to m
 abbrev OnDigit : Num → Num → Type 0
-OnDigit n m = (b : ℕ) → In 0x30 0x39 b → num_step n b ≡ some m
+OnDigit n m = (b : ℕ) → In 0x30 0x39 b → num_step n b ≡ Some m
 
 digits-count : {n m : Num} {bs : List ℕ} → OnDigit n m → OnDigit m m → Digits bs → Counts n bs m
 digits-count f g (last_digit h) = next (f _ h) rest
@@ -51,7 +51,7 @@ pow-digit : OnDigit n_pow n_pow
 unfolding num_step
 pow-digit b h = pick-row 0 _ _ _ h
 
-int-digit : (m : Bool) (n b : ℕ) → In 0x30 0x39 b → num_step (n_int m n) b ≡ some (n_int m (n * 10 + (b - 0x30)))
+int-digit : (m : Bool) (n b : ℕ) → In 0x30 0x39 b → num_step (n_int m n) b ≡ Some (n_int m (n * 10 + (b - 0x30)))
 unfolding num_step
 int-digit m n b h = pick-row 0 _ _ _ h
 
@@ -61,12 +61,12 @@ onward-counts m (onward h f) = next (int-digit m _ _ h) (onward-counts m f)
 
 -- an exponent may follow
 abbrev PowerNext : Num → Type 0
-PowerNext n = (num_step n 0x65 ≡ some n_exp) × (num_step n 0x45 ≡ some n_exp)
+PowerNext n = (num_step n 0x65 ≡ Some n_exp) × (num_step n 0x45 ≡ Some n_exp)
 
 exponent_counts : {bs : List ℕ} → Digits bs → Counts n_exp bs n_pow
 exponent_counts d = digits-count exp-digit pow-digit d
 
-signed_exponent : {b : ℕ} {bs : List ℕ} → num_step n_exp b ≡ some n_sign → Digits bs → Counts n_exp (b ∷ bs) n_pow
+signed_exponent : {b : ℕ} {bs : List ℕ} → num_step n_exp b ≡ Some n_sign → Digits bs → Counts n_exp (b ∷ bs) n_pow
 signed_exponent e d = next e (digits-count sign-digit pow-digit d)
 
 power-counts : {n : Num} {bs : List ℕ} → PowerNext n → Power bs → Counts n bs n_pow
@@ -83,12 +83,12 @@ data WholeAt : Bool → ℕ → Num → Type 0 where
   at_nought : {m : Bool} → WholeAt m 0 (n_zero m)
   at_int : {m : Bool} {n : ℕ} → WholeAt m n (n_int m n)
 
-whole-tree : {m : Bool} {n : ℕ} {x : Num} (q : ℕ) → WholeAt m n x → num_tree x q ≡ some (jint q m n)
+whole-tree : {m : Bool} {n : ℕ} {x : Num} (q : ℕ) → WholeAt m n x → num_tree x q ≡ Some (jint q m n)
 unfolding num_tree
 whole-tree q at_nought = refl
 whole-tree q at_int = refl
 
-whole-dot : {m : Bool} {n : ℕ} {x : Num} → WholeAt m n x → num_step x 0x2E ≡ some n_dot
+whole-dot : {m : Bool} {n : ℕ} {x : Num} → WholeAt m n x → num_step x 0x2E ≡ Some n_dot
 unfolding num_step pick fraction_rows
 whole-dot at_nought = refl
 whole-dot at_int = refl
@@ -106,7 +106,7 @@ frac-power = (refl, refl)
 record Reals (n : Num) (bs : List ℕ) : Type 0 where
   pub end : Num
   pub counts : Counts n bs end
-  pub tree : (q : ℕ) → num_tree end q ≡ some (jreal q)
+  pub tree : (q : ℕ) → num_tree end q ≡ Some (jreal q)
 
 broken-counts : {m : Bool} {i : ℕ} {n : Num} {bs : List ℕ} → WholeAt m i n → Broken bs → Reals n bs
 unfolding num_tree
@@ -116,7 +116,7 @@ broken-counts h (both d e c) = record { end = n_pow; counts = rw c (next (whole-
 
 -- ---- in the machine
 
-num_step_lem : {m : Num} (n : Num) (b p q : ℕ) (k : Stack) → num_step n b ≡ some m → step p (s_num n q k) b ≡ go (s_num m q k)
+num_step_lem : {m : Num} (n : Num) (b p q : ℕ) (k : Stack) → num_step n b ≡ Some m → step p (s_num n q k) b ≡ go (s_num m q k)
 unfolding step num_go
 num_step_lem n b p q k e = rw e
 
@@ -125,7 +125,7 @@ counts-feeds rest p q k = Feeds.stop
 counts-feeds (next e f) p q k = more (num_step_lem _ _ p q k e) (counts-feeds f (suc p) q k)
 
 -- a byte that no number has goes on with none
-pub no_num : (n : Num) (b : ℕ) → NoNum b → num_step n b ≡ none
+pub no_num : (n : Num) (b : ℕ) → NoNum b → num_step n b ≡ None
 unfolding num_step fraction_rows power_rows
 no_num n_minus b h = pick-none _ _ _ (λ g. h.digit (omega arith), (λ g. h.digit (omega arith), tt))
 no_num (n_zero m) b h = pick-none _ _ _ (omega arith)
@@ -136,7 +136,7 @@ no_num n_exp b h = pick-none _ _ _ (h.digit, omega arith)
 no_num n_sign b h = pick-none _ _ _ (h.digit, tt)
 no_num n_pow b h = pick-none _ _ _ (h.digit, tt)
 
-pub num_ends : (n : Num) (j : Json) (q : ℕ) (k : Stack) → num_tree n q ≡ some j → Ends (s_num n q k) j k
+pub num_ends : (n : Num) (j : Json) (q : ℕ) (k : Stack) → num_tree n q ≡ Some j → Ends (s_num n q k) j k
 unfolding step num_go num_end finish
 num_ends n j q k e = record { next = λ p b h. rw (no_num n b h, e); last = λ p. rw e }
 
@@ -163,11 +163,11 @@ first-minus : (p : ℕ) (k : Stack) → step p (s_val k) 0x2D ≡ go (s_num n_mi
 unfolding step pick spaces starts
 first-minus p k = refl
 
-minus-nought : num_step n_minus 0x30 ≡ some (n_zero true)
+minus-nought : num_step n_minus 0x30 ≡ Some (n_zero true)
 unfolding num_step pick
 minus-nought = refl
 
-minus-digit : (b : ℕ) → In 0x31 0x39 b → num_step n_minus b ≡ some (n_int true (b - 0x30))
+minus-digit : (b : ℕ) → In 0x31 0x39 b → num_step n_minus b ≡ Some (n_int true (b - 0x30))
 unfolding num_step
 minus-digit b h = pick-row 1 _ _ _ (omega arith)
 

@@ -1,7 +1,7 @@
 -- The grammar as a machine that takes one byte at a time: it gives the tree, or the refusal's number and place.
 -- `proofs/` shows that it takes the texts of the grammar and no others, and that its places are document 01's.
 use Rattle.std.specs.Prelude.{ℕ, zero, suc, pred, ◌+◌, ◌-◌, ◌*◌, List, [], ◌∷◌, ◌++◌, Bool, true, false, eqb}
-use Rattle.std.proofs.Math.Option.{Option, none, some}
+use Rattle.std.specs.Prelude.{Option, None, Some}
 use Rattle.json_text.specs.Bytes.{Row, on, pick}
 use Rattle.json_text.specs.Tree.{Json, jnull, jbool, jint, jreal, jstr, jarr, jobj, Items, inil, Members, mnil, isnoc, msnoc}
 use Rattle.json_text.specs.Utf8.{encode, wide_rows}
@@ -103,32 +103,32 @@ pub data Num : Type 0 where
   n_dot n_frac n_exp n_sign n_pow : Num
 
 unfoldable pub fraction_rows : List (Row (Option Num)) → List (Row (Option Num))
-fraction_rows rs = on 0x2E 0x2E (λ b. some n_dot) ∷ rs
+fraction_rows rs = on 0x2E 0x2E (λ b. Some n_dot) ∷ rs
 
 unfoldable pub power_rows : List (Row (Option Num))
-power_rows = on 0x45 0x45 (λ b. some n_exp) ∷ on 0x65 0x65 (λ b. some n_exp) ∷ []
+power_rows = on 0x45 0x45 (λ b. Some n_exp) ∷ on 0x65 0x65 (λ b. Some n_exp) ∷ []
 
 -- a byte that goes on with the number
 unfoldable pub num_step : Num → ℕ → Option Num
-num_step n_minus b = pick b (on 0x30 0x30 (λ b. some (n_zero true)) ∷ on 0x31 0x39 (λ b. some (n_int true (b - 0x30))) ∷ []) none
-num_step (n_zero m) b = pick b (fraction_rows power_rows) none
-num_step (n_int m n) b = pick b (on 0x30 0x39 (λ b. some (n_int m (n * 10 + (b - 0x30)))) ∷ fraction_rows power_rows) none
-num_step n_dot b = pick b (on 0x30 0x39 (λ b. some n_frac) ∷ []) none
-num_step n_frac b = pick b (on 0x30 0x39 (λ b. some n_frac) ∷ power_rows) none
-num_step n_exp b = pick b (on 0x30 0x39 (λ b. some n_pow) ∷ on 0x2B 0x2B (λ b. some n_sign) ∷ on 0x2D 0x2D (λ b. some n_sign) ∷ []) none
-num_step n_sign b = pick b (on 0x30 0x39 (λ b. some n_pow) ∷ []) none
-num_step n_pow b = pick b (on 0x30 0x39 (λ b. some n_pow) ∷ []) none
+num_step n_minus b = pick b (on 0x30 0x30 (λ b. Some (n_zero true)) ∷ on 0x31 0x39 (λ b. Some (n_int true (b - 0x30))) ∷ []) None
+num_step (n_zero m) b = pick b (fraction_rows power_rows) None
+num_step (n_int m n) b = pick b (on 0x30 0x39 (λ b. Some (n_int m (n * 10 + (b - 0x30)))) ∷ fraction_rows power_rows) None
+num_step n_dot b = pick b (on 0x30 0x39 (λ b. Some n_frac) ∷ []) None
+num_step n_frac b = pick b (on 0x30 0x39 (λ b. Some n_frac) ∷ power_rows) None
+num_step n_exp b = pick b (on 0x30 0x39 (λ b. Some n_pow) ∷ on 0x2B 0x2B (λ b. Some n_sign) ∷ on 0x2D 0x2D (λ b. Some n_sign) ∷ []) None
+num_step n_sign b = pick b (on 0x30 0x39 (λ b. Some n_pow) ∷ []) None
+num_step n_pow b = pick b (on 0x30 0x39 (λ b. Some n_pow) ∷ []) None
 
 -- the number, where it may end
 unfoldable pub num_tree : Num → ℕ → Option Json
-num_tree n_minus p = none
-num_tree (n_zero m) p = some (jint p m 0)
-num_tree (n_int m n) p = some (jint p m n)
-num_tree n_dot p = none
-num_tree n_frac p = some (jreal p)
-num_tree n_exp p = none
-num_tree n_sign p = none
-num_tree n_pow p = some (jreal p)
+num_tree n_minus p = None
+num_tree (n_zero m) p = Some (jint p m 0)
+num_tree (n_int m n) p = Some (jint p m n)
+num_tree n_dot p = None
+num_tree n_frac p = Some (jreal p)
+num_tree n_exp p = None
+num_tree n_sign p = None
+num_tree n_pow p = Some (jreal p)
 
 -- ---- brackets
 
@@ -224,12 +224,12 @@ str_step never r q s k = bad not_json
 
 -- a number ends at the first byte that does not go on with it
 unfoldable pub num_end : Option Json → Stack → ℕ → Step
-num_end none k b = bad not_json
-num_end (some j) k b = pick b (after j k) (bad not_json)
+num_end None k b = bad not_json
+num_end (Some j) k b = pick b (after j k) (bad not_json)
 
 unfoldable pub num_go : Option Num → Num → ℕ → Stack → ℕ → Step
-num_go (some m) n q k b = go (s_num m q k)
-num_go none n q k b = num_end (num_tree n q) k b
+num_go (Some m) n q k b = go (s_num m q k)
+num_go None n q k b = num_end (num_tree n q) k b
 
 unfoldable pub lit_next : List ℕ → Json → Stack → State
 lit_next [] j k = s_after j k
@@ -253,14 +253,14 @@ pub data Parsed : Type 0 where
 
 -- a text that ends early is 3 at its length
 unfoldable pub ended : Option Json → Stack → ℕ → Parsed
-ended none k p = refused not_json p
-ended (some j) (base d) p = tree j
-ended (some j) (f ▹ k) p = refused not_json p
+ended None k p = refused not_json p
+ended (Some j) (base d) p = tree j
+ended (Some j) (f ▹ k) p = refused not_json p
 
 unfoldable pub finish : State → ℕ → Parsed
 finish (s_val k) p = refused not_json p
 finish (s_elem o k) p = refused not_json p
-finish (s_after j k) p = ended (some j) k p
+finish (s_after j k) p = ended (Some j) k p
 finish (s_name0 o k) p = refused not_json p
 finish (s_name o ms k) p = refused not_json p
 finish (s_colon o ms q s k) p = refused not_json p

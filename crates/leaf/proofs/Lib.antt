@@ -1,4 +1,3 @@
 -- Laws in the form that the code's proofs cite; `StoreLaws` is for every reading above too.
 pub mod StoreLaws
-pub mod RunLaws
 pub mod LeafLaws

@@ -12,20 +12,10 @@ use Rattle.jer.specs.Rows.{ValueRow, row, numbers}
 use Rattle.jer.specs.declared.Refusal.{Refusal}
 use Rattle.slices.proofs.PartLaws.{sets_append}
 use Rattle.places.specs.ByPlaces.{Got, got}
-use Rattle.leaf.specs.declared.Step.{Step}
-use Rattle.leaf.specs.declared.Step.TheVariants.{Refused}
-use Rattle.leaf.specs.Step.{step_of, RowsStored, PoolStored, Stepped}
+use Rattle.std.specs.Prelude.{Err}
+use Rattle.leaf.specs.Step.{Step, step_of, RowsStored, PoolStored, Stepped}
 
 -- ---- runs of stores
-
--- four stores, one after the other
-pub four : (l : List ℕ) (k a b c d : ℕ) {l₁ l₂ l₃ l₄ : List ℕ} → l₁ ≡ set l k a → l₂ ≡ set l₁ (k + 1) b → l₃ ≡ set l₂ (k + 2) c → l₄ ≡ set l₃ (k + 3) d
-    → l₄ ≡ sets l k (a ∷ b ∷ c ∷ d ∷ [])
-four l k a b c d e₁ e₂ e₃ e₄ =
-    let f₁ : k + 1 ≡ suc k = omega arith in
-    let f₂ : k + 2 ≡ suc (suc k) = omega arith in
-    let f₃ : k + 3 ≡ suc (suc (suc k)) = omega arith in
-    rw (e₄, e₃, e₂, e₁, f₃, f₂, f₁)
 
 -- a store below a run
 set-sets : (l : List ℕ) (i j v : ℕ) (vs : List ℕ) → i < j → set (sets l j vs) i v ≡ sets (set l i v) j vs
@@ -69,7 +59,7 @@ module _ {rows₁ rows₀ pool₁ pool₀ : List ℕ} {i o : ℕ} {t : Table} {r
   pub stepped : {y : Res (Got Val)} → x ≡ y → Stepped z rows₁ rows₀ pool₁ pool₀ i o t r y → Stepped z rows₁ rows₀ pool₁ pool₀ i o t r x
   stepped h f = subst (λ (y : Res (Got Val)). Stepped z rows₁ rows₀ pool₁ pool₀ i o t r y) (sym h) f
 
-  pub refuses : {e : Refusal} → x ≡ no e → z ≡ Refused e → Stepped z rows₁ rows₀ pool₁ pool₀ i o t r x
+  pub refuses : {e : Refusal} → x ≡ no e → z ≡ Err e → Stepped z rows₁ rows₀ pool₁ pool₀ i o t r x
   refuses h a = stepped h (record { answer = a; rows = tt; pool = tt })
 
   pub reads : (v : Val) {q : ℕ} → x ≡ ok (got v q) → z ≡ step_of t r (ok (got v q)) → RowsStored rows₁ rows₀ i o t r (ok (got v q)) → PoolStored pool₁ pool₀ o (ok (got v q))

@@ -1,9 +1,11 @@
 -- What reading a value answers, and what it stores.
-use Rattle.std.specs.Prelude.{ℕ, ◌+◌, ◌*◌, ◌^◌, ◌<◌, ◌≡◌, List, length}
+use Rattle.jer.specs.declared.Token.{Token}
+use Rattle.std.specs.Prelude.{ℕ, ◌+◌, ◌*◌, ◌^◌, ◌<◌, ◌≡◌, List, length, Result, Ok, Err}
 use Rattle.std.proofs.lemmas.List.Edits.{sets}
 use Rattle.jer.specs.declared.Cause.{Cause}
+use Rattle.jer.specs.declared.Refusal.{Refusal}
 use Rattle.jer.specs.declared.Refusal.TheVariants.{AtByte}
-use Rattle.jer.specs.Table.{Table, table, type_at, position, Token}
+use Rattle.jer.specs.Table.{Table, table, type_at, position}
 use Rattle.jer.specs.Value.{Val}
 use Rattle.jer.specs.Answer.{Res, ok, no}
 use Rattle.jer.specs.Rows.{numbers, rows_of, pool_of}
@@ -11,13 +13,20 @@ use Rattle.jer.specs.Read.{read_item, missing_element}
 use Rattle.tokens.specs.Strings.{denoted, string_end}
 use Rattle.places.specs.ByPlaces.{Got, ending, leaf_at}
 use Rattle.slices.specs.Lent.{Shown, Lent, held, before, after, table_in}
-use Rattle.leaf.specs.declared.Step.{Step}
-use Rattle.leaf.specs.declared.Step.TheVariants.{Read, Refused}
+use Rattle.leaf.specs.declared.Taken.{Taken}
+
+-- what reading a value answers
+abbrev pub Step : Type 0
+Step = Result Taken Refusal
+
+-- the place after it, and how many rows and pool bytes it has
+abbrev pub taken : ℕ → ℕ → ℕ → Taken
+taken next rows pool = record { next = next; rows = rows; pool = pool }
 
 -- the answer for a value of the type at r; how many rows it has does not depend on where its strings stand in the pool
 abbrev pub step_of : Table → ℕ → Res (Got Val) → Step
-step_of t r (ok g) = Read g.next (length (rows_of g.value t r 0)) (length (pool_of g.value))
-step_of t r (no e) = Refused e
+step_of t r (ok g) = Ok (taken g.next (length (rows_of g.value t r 0)) (length (pool_of g.value)))
+step_of t r (no e) = Err e
 
 -- the pool bytes of a value, from o on, stand at places of 32 bits, as its rows say them; of a whole value, with o = 0, `within` shows it
 abbrev pub Fits : ℕ → Val → Type 0
@@ -40,7 +49,7 @@ pub record Stepped (z : Step) (rows₁ rows₀ pool₁ pool₀ : List ℕ) (i o 
   pub pool : PoolStored pool₁ pool₀ o x
 
 abbrev pub refused_at : Cause → ℕ → Step
-refused_at cause place = Refused (AtByte cause place)
+refused_at cause place = Err (AtByte cause place)
 
 -- ---- what the readers of leaves do
 

@@ -3,10 +3,10 @@ ghost use Rattle.std.specs.Prelude.{◌^◌, ◌<◌};
 ghost use Rattle.leaf.specs.Step.{MissingRead};
 
 use crate::store::put_row;
-use crate::{Step, read, refused};
-use jer::Cause;
+use crate::{Taken, read, refused};
+use jer::{Cause, Refusal, Token};
 use types::row::{Row, kind_of, type_at};
-use types::token::{Found, NULL, alternative};
+use types::token::alternative;
 
 // The null value of the member at the position `member` of the type at `row`, at a slot; the array opens at the place, and `next` follows its last element.
 pub fn missing(
@@ -17,15 +17,15 @@ pub fn missing(
     place: usize,
     next: usize,
     slot: usize,
-) -> Step
+) -> Result<Taken, Refusal>
     requires { slot < 2 ^ 60 }
     ensures { MissingRead types row member place slot next result rows }
 {
     let m = type_at(types, row, member);
     let w = Row::at(types, m);
     if w.is_unwrapped() {
-        match alternative(types, m, NULL) {
-            Found::At(k) => {
+        match alternative(types, m, Token::Null) {
+            Some(k) => {
                 put_row(rows, slot, w.kind, k, 0, 2);
                 put_row(
                     rows,
@@ -37,7 +37,7 @@ pub fn missing(
                 );
                 return read(next, 2, 0);
             }
-            Found::Nothing => {
+            None => {
                 if w.extensible() {
                     return refused(Cause::Unknown, place);
                 }

@@ -2,23 +2,19 @@
 ghost use Rattle.std.specs.Prelude.{◌≡◌, [], ◌∷◌, ◌*◌, ◌^◌, ◌≤◌, ◌<◌};
 ghost use Rattle.std.proofs.lemmas.List.Edits.{sets};
 
-use slices::put_number;
+use slices::put_all;
 
-// Stores the row at a slot, as far as there is room.
+// Stores the row at a slot, as far as there is room. The quick reading has its own, which knows that there is room.
 pub fn put_row(rows: &mut [u32], slot: usize, kind: u32, a: u32, b: u32, size: u32)
     requires { slot ≤ 2 ^ 60 }
     ensures { rows.new ≡ sets rows.old (slot * 4) (kind ∷ a ∷ b ∷ size ∷ []) }
 {
-    let k = slot * 4;
-    put_number(rows, k, kind);
-    put_number(rows, k + 1, a);
-    put_number(rows, k + 2, b);
-    put_number(rows, k + 3, size);
+    put_all(rows, slot * 4, &[kind, a, b, size]);
 }
 
 // A number of a row, if it fits 32 bits: of a value that is kept whole each does (`Fits` in specs/Step.antt).
 pub fn narrow(n: usize) -> u32
     ensures { n < 2 ^ 32 → result ≡ n }
 {
-    if n < 4294967296 { n as u32 } else { 4294967295 }
+    u32::try_from(n).unwrap_or(u32::MAX)
 }

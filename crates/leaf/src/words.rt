@@ -1,14 +1,14 @@
 // Leaves without bytes: NULL, BOOLEAN and INTEGER. They are stored at a slot.
 ghost use Rattle.std.specs.Prelude.{◌^◌, ◌≤◌};
-ghost use Rattle.jer.specs.Table.{t_null, t_boolean, t_number};
+ghost use Rattle.jer.specs.declared.Token.TheVariants as tok;
 ghost use Rattle.leaf.specs.Step.{RowRead};
 
 use crate::store::put_row;
-use crate::{Step, read, refused};
-use jer::Cause;
+use crate::{Taken, read, refused};
+use jer::{Cause, Refusal};
 use slices::byte_at;
 use tokens::cursor::{Class, run};
-use tokens::numbers::{Integer, integer_at};
+use tokens::numbers::{Halves, integer_at};
 use types::row::{Row, kind_of};
 
 pub fn null(
@@ -18,9 +18,9 @@ pub fn null(
     row: usize,
     place: usize,
     slot: usize,
-) -> Step
+) -> Result<Taken, Refusal>
     requires { slot ≤ 2 ^ 60 }
-    ensures { RowRead t_null types s row place slot result rows }
+    ensures { RowRead tok.Null types s row place slot result rows }
 {
     let kind = kind_of(types, row);
     if kind != Row::NULL {
@@ -37,9 +37,9 @@ pub fn boolean(
     row: usize,
     place: usize,
     slot: usize,
-) -> Step
+) -> Result<Taken, Refusal>
     requires { slot ≤ 2 ^ 60 }
-    ensures { RowRead t_boolean types s row place slot result rows }
+    ensures { RowRead tok.Boolean types s row place slot result rows }
 {
     let kind = kind_of(types, row);
     if kind != Row::BOOLEAN {
@@ -57,15 +57,15 @@ pub fn number(
     row: usize,
     place: usize,
     slot: usize,
-) -> Step
+) -> Result<Taken, Refusal>
     requires { slot ≤ 2 ^ 60 }
-    ensures { RowRead t_number types s row place slot result rows }
+    ensures { RowRead tok.Number types s row place slot result rows }
 {
     let kind = kind_of(types, row);
     if kind != Row::INTEGER {
         return refused(Cause::OtherKind, place);
     }
-    let Integer::Whole { low, high } = integer_at(s, place) else {
+    let Some(Halves { low, high }) = integer_at(s, place) else {
         return refused(Cause::BadNumber, place);
     };
     put_row(rows, slot, kind, low, high, 1);

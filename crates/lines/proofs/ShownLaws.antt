@@ -1,24 +1,20 @@
 -- What is printed, stored part by part.
+use Rattle.jer.specs.declared.Counts.{Counts}
+use Rattle.std.specs.Prelude.{Err, Ok}
+use Rattle.jer.specs.Answer.{Judged, Reading, Writing}
 use mathlib.Core.Path.{◌≡◌, refl, sym, ap, ◌∙◌}
 use mathlib.Core.List.{List, [], ◌∷◌, ◌++◌, append-nil}
 use Prim.Native.Nat.{ℕ, zero, suc, ◌+◌, ◌-◌, ◌*◌, ◌/◌, ◌%◌, ◌^◌, ◌<◌, ◌≤◌}
 use native.Mathlib.Nat.{zero-add}
-use native.Mathlib.Numerals.{add-one}
 use native.Mathlib.Omega.{arith}
-use lib.ListN.{length, get_or, take, drop, set, length-append, length-take, length-drop}
-use lib.Seq.{drop-cons, sets}
+use lib.ListN.{length, get_or, take, drop, set, length-append, length-take}
+use lib.Seq.{take-length, sets}
 use Rattle.jer.specs.Octets.{hex}
 use Rattle.jer.specs.Answer.{Values, values_of}
 use Rattle.jer.specs.Programs.{digits8, end_line, refusal_line}
 use Rattle.jer.specs.Reports.{reported_of}
 use Rattle.jer.specs.declared.Reported.{Reported}
 use Rattle.jer.specs.declared.Refusal.{Refusal}
-use Rattle.jer.specs.declared.Judged.{Judged}
-use Rattle.jer.specs.declared.Judged.TheVariants as judged
-use Rattle.jer.specs.declared.Reading.{Reading}
-use Rattle.jer.specs.declared.Reading.TheVariants as reading
-use Rattle.jer.specs.declared.Writing.{Writing}
-use Rattle.jer.specs.declared.Writing.TheVariants as writing
 use Rattle.octets.proofs.EncodeLaws.{hex-length}
 use Rattle.octets.proofs.PutLaws.{sets_as, sets-next, Putting, putting_start, putting_next}
 use Rattle.lines.specs.Shown.{four_line, four_lines, reading_lines, writing_lines, no_line, judged_line}
@@ -91,7 +87,7 @@ unfolding four_lines
 fours_none n ns h = rw h
 
 -- nor if fewer than four numbers are
-fours_short : (n : ℕ) (ns : List ℕ) → length ns ≤ 3 → four_lines n ns ≡ []
+pub fours_short : (n : ℕ) (ns : List ℕ) → length ns ≤ 3 → four_lines n ns ≡ []
 unfolding four_lines
 fours_short zero ns h = refl
 fours_short (suc n) [] h = refl
@@ -100,31 +96,32 @@ fours_short (suc n) (a ∷ b ∷ []) h = refl
 fours_short (suc n) (a ∷ b ∷ c ∷ []) h = refl
 fours_short (suc n) (a ∷ b ∷ c ∷ d ∷ ns) h = absurd (omega arith)
 
--- i numbers of ns and j of n lines are done
-module _ (ns : List ℕ) (n i j : ℕ) where
-  -- the last line is done
-  pub fours_done : length ns - i ≤ 3 → four_lines (n - j) (drop i ns) ≡ []
-  fours_done h = fours_short (n - j) (drop i ns) (omega (arith, length-drop i ns))
-
+-- j of n lines are done, and ns is left of the numbers
+module _ (ns : List ℕ) (n j : ℕ) where
   -- the next line comes first of what is left
-  fours_more : 3 < length ns - i → j < n
-      → four_lines (n - j) (drop i ns) ≡ four_line (get_or ns i 0) (get_or ns (i + 1) 0) (get_or ns (i + 2) 0) (get_or ns (i + 3) 0) ++ four_lines (n - (j + 1)) (drop (i + 4) ns)
+  fours_more : 4 ≤ length ns → j < n
+      → four_lines (n - j) ns ≡ four_line (get_or ns 0 0) (get_or ns 1 0) (get_or ns 2 0) (get_or ns 3 0) ++ four_lines (n - (j + 1)) (take (length ns - 4) (drop 4 ns))
   unfolding four_lines
-  fours_more h l =
-      let e : i + 2 ≡ suc (suc i) = omega arith in
-      let f : i + 3 ≡ suc (suc (suc i)) = omega arith in
-      let g : i + 4 ≡ suc (suc (suc (suc i))) = omega arith in
-      let m : n - j ≡ suc (n - (j + 1)) = omega arith in
-      rw (m, drop-cons ns i 0 (omega arith), drop-cons ns (suc i) 0 (omega arith), drop-cons ns (suc (suc i)) 0 (omega arith), drop-cons ns (suc (suc (suc i))) 0 (omega arith), add-one i, e, f, g)
+  fours_more h l = let m : n - j ≡ suc (n - (j + 1)) = omega arith in rw m (go ns h)
+    where
+      go : (ns : List ℕ) → 4 ≤ length ns
+          → four_lines (suc (n - (j + 1))) ns ≡ four_line (get_or ns 0 0) (get_or ns 1 0) (get_or ns 2 0) (get_or ns 3 0) ++ four_lines (n - (j + 1)) (take (length ns - 4) (drop 4 ns))
+      go [] h = absurd (omega arith)
+      go (a ∷ []) h = absurd (omega arith)
+      go (a ∷ b ∷ []) h = absurd (omega arith)
+      go (a ∷ b ∷ c ∷ []) h = absurd (omega arith)
+      go (a ∷ b ∷ c ∷ d ∷ ms) h =
+          let e : suc (suc (suc (suc (length ms)))) - 4 ≡ length ms = omega arith in
+          rw e (ap (λ (l : List ℕ). four_line a b c d ++ four_lines (n - (j + 1)) l) (sym (take-length ms)))
 
   -- once it is stored, the lines after it are left
-  pub fours_next : {before now after : List ℕ} {k m : ℕ} → Putting (four_lines n ns) (four_lines (n - j) (drop i ns)) before now 0 k → 3 < length ns - i → j < n
-      → m ≡ length (four_line (get_or ns i 0) (get_or ns (i + 1) 0) (get_or ns (i + 2) 0) (get_or ns (i + 3) 0))
-      → after ≡ sets now k (four_line (get_or ns i 0) (get_or ns (i + 1) 0) (get_or ns (i + 2) 0) (get_or ns (i + 3) 0)) → length after ≡ length now
-      → Putting (four_lines n ns) (four_lines (n - (j + 1)) (drop (i + 4) ns)) before after 0 (k + m)
-  fours_next {now = now} {k = k} p h l e f s =
-      let x = four_line (get_or ns i 0) (get_or ns (i + 1) 0) (get_or ns (i + 2) 0) (get_or ns (i + 3) 0) in
-      rw e (putting_next p x (four_lines (n - (j + 1)) (drop (i + 4) ns)) (fours_more h l) (f ∙ ap (λ (i : ℕ). sets now i x) (sym (zero-add k))) s)
+  pub fours_next : {all before now after : List ℕ} {k m a b c d : ℕ} → Putting all (four_lines (n - j) ns) before now 0 k → 4 ≤ length ns → j < n
+      → a ≡ get_or ns 0 0 → b ≡ get_or ns 1 0 → c ≡ get_or ns 2 0 → d ≡ get_or ns 3 0 → m ≡ length (four_line a b c d) → after ≡ sets now k (four_line a b c d) → length after ≡ length now
+      → Putting all (four_lines (n - (j + 1)) (take (length ns - 4) (drop 4 ns))) before after 0 (k + m)
+  fours_next {now = now} {k = k} {a = a} {b = b} {c = c} {d = d} p h l ea eb ec ed e f s =
+      let x = four_line a b c d in
+      let rest = four_lines (n - (j + 1)) (take (length ns - 4) (drop 4 ns)) in
+      rw e (putting_next p x rest (rw (ea, eb, ec, ed) (fours_more h l)) (f ∙ ap (λ (i : ℕ). sets now i x) (sym (zero-add k))) s)
 
 -- ---- answers
 
@@ -147,35 +144,35 @@ pub part_length : {os : List ℕ} (m : ℕ) (pool : List ℕ) → os ≡ take m 
 part_length m pool e = omega (arith, ap length e, length-take m pool)
 
 -- what is printed for each answer of reading
-pub reading_refused : {r : Reading} {e : Refusal} (rows pool : List ℕ) → r ≡ reading.Refused e → refusal_line (values_of e) ≡ reading_lines r rows pool
+pub reading_refused : {r : Reading} {e : Refusal} (rows pool : List ℕ) → r ≡ Err e → refusal_line (values_of e) ≡ reading_lines r rows pool
 unfolding reading_lines
 reading_refused rows pool h = rw h
 
-pub reading_read : {r : Reading} {n m : ℕ} (rows pool : List ℕ) → r ≡ reading.Read n m → four_lines n rows ++ end_line (hex (take m pool)) ≡ reading_lines r rows pool
+pub reading_read : {r : Reading} {c : Counts} (rows pool : List ℕ) → r ≡ Ok c → four_lines c.rows rows ++ end_line (hex (take c.pool pool)) ≡ reading_lines r rows pool
 unfolding reading_lines
 reading_read rows pool h = rw h
 
 -- and of writing
-pub writing_refused : {w : Writing} {e : Refusal} (text : List ℕ) → w ≡ writing.Refused e → refusal_line (values_of e) ≡ writing_lines w text
+pub writing_refused : {w : Writing} {e : Refusal} (text : List ℕ) → w ≡ Err e → refusal_line (values_of e) ≡ writing_lines w text
 unfolding writing_lines
 writing_refused text h = rw h
 
-pub writing_written : {w : Writing} {n : ℕ} (text : List ℕ) → w ≡ writing.Written n → end_line (hex (take n text)) ≡ writing_lines w text
+pub writing_written : {w : Writing} {n : ℕ} (text : List ℕ) → w ≡ Ok n → end_line (hex (take n text)) ≡ writing_lines w text
 unfolding writing_lines
 writing_written text h = rw h
 
 -- the line of a refused judgement has 21 bytes, and is stored part by part
 module _ (n p : ℕ) where
-  pub no-stored : (l : List ℕ) {a b c d e f g : List ℕ} → a ≡ set l 0 0x4E → b ≡ set a 1 0x4F → c ≡ set b 2 0x20 → d ≡ sets c 3 (digits8 (n ∷ [])) → e ≡ set d 11 0x20 → f ≡ sets e 12 (digits8 (p ∷ [])) → g ≡ set f 20 0x0A
+  pub no-stored : (l : List ℕ) {c d e f g : List ℕ} → c ≡ sets l 0 (0x4E ∷ 0x4F ∷ 0x20 ∷ []) → d ≡ sets c 3 (digits8 (n ∷ [])) → e ≡ set d 11 0x20 → f ≡ sets e 12 (digits8 (p ∷ [])) → g ≡ set f 20 0x0A
       → (21 ≡ length (no_line n p)) × (g ≡ sets l 0 (no_line n p))
   unfolding no_line end_line digits8 hex
-  no-stored l ea eb ec ed ee ef eg = (refl, rw (eg, ef, ee, ed, ec, eb, ea) refl)
+  no-stored l ec ed ee ef eg = (refl, rw (eg, ef, ee, ed, ec) refl)
 
 -- what is printed for each answer of judging
-pub judged-good : {j : Judged} (l : List ℕ) {a b c : List ℕ} → j ≡ judged.Good → a ≡ set l 0 0x4F → b ≡ set a 1 0x4B → c ≡ set b 2 0x0A → (3 ≡ length (judged_line j)) × (c ≡ sets l 0 (judged_line j))
+pub judged-good : {j : Judged} (l : List ℕ) {a b c : List ℕ} → j ≡ Ok tt → a ≡ set l 0 0x4F → b ≡ set a 1 0x4B → c ≡ set b 2 0x0A → (3 ≡ length (judged_line j)) × (c ≡ sets l 0 (judged_line j))
 unfolding judged_line end_line
 judged-good l h ea eb ec = rw h (refl, rw (ec, eb, ea) refl)
 
-pub judged-refused : {j : Judged} {e : Refusal} {r : Reported} → j ≡ judged.Refused e → r ≡ reported_of (values_of e) → no_line r.number r.first ≡ judged_line j
+pub judged-refused : {j : Judged} {e : Refusal} {r : Reported} → j ≡ Err e → r ≡ reported_of (values_of e) → no_line r.number r.first ≡ judged_line j
 unfolding judged_line
 judged-refused {j} {e} h k = ap (λ (x : Reported). no_line x.number x.first) k ∙ rw h

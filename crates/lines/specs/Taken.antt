@@ -1,26 +1,39 @@
 -- A line of hexadecimal in the code's own shape: digits told apart first, then taken.
-use Rattle.std.specs.Prelude.{ℕ, ◌+◌, ◌*◌, List, [], ◌∷◌, Bool, true, false, eqb, length, get_or, drop}
-use Rattle.std.proofs.Math.Option.{Option, none, some}
+use Rattle.std.specs.Prelude.{ℕ, ◌+◌, ◌*◌, ◌/◌, ◌≡◌, refl, List, [], ◌∷◌, Bool, length, get_or, drop}
+use Rattle.std.specs.Prelude.{Option, None, Some}
+use Rattle.std.proofs.Common.{arith}
 use Rattle.std.proofs.lemmas.List.Edits.{sets}
-use Rattle.slices.specs.Digit.{digit_of}
-use Rattle.jer.specs.Octets.{also}
+use Rattle.std.specs.List.{list_all}
+use Rattle.std.specs.Option.{is_some, unwrap_or}
+use Rattle.jer.specs.Octets.{also, hex_value}
 use Rattle.jer.specs.Programs.{line_from, line_at, numbers_in}
 use Rattle.lines.specs.declared.taken.Taken.{Taken}
-use Rattle.lines.specs.declared.taken.Taken.TheVariants as taken
 
-unfoldable pub is_hex : List ℕ → Bool
-is_hex [] = true
-is_hex (b ∷ s) = elim (eqb (digit_of b) 16) [ true ↦ false | false ↦ is_hex s ]
+-- whether all bytes are hexadecimal digits
+abbrev pub is_hex : List ℕ → Bool
+is_hex bs = list_all (λ b. is_some (hex_value b)) bs
 
-unfoldable pub is_some : Option (List ℕ) → Bool
-is_some none = false
-is_some (some xs) = true
+-- a hexadecimal digit's value, 0 for any other byte
+abbrev pub digit_of : ℕ → ℕ
+digit_of b = unwrap_or (hex_value b) 0
 
 -- the octets of digits
 unfoldable pub octets_of : List ℕ → List ℕ
 octets_of [] = []
 octets_of (a ∷ []) = []
 octets_of (a ∷ b ∷ s) = (digit_of a * 16 + digit_of b) ∷ octets_of s
+
+-- how many octets and numbers there are
+pub octets_each : (os : List ℕ) → length os ≡ length os / 1
+octets_each os = omega arith
+
+pub numbers_each : (os : List ℕ) → length (numbers_in os) ≡ length os / 4
+unfolding numbers_in
+numbers_each [] = refl
+numbers_each (a ∷ []) = refl
+numbers_each (a ∷ b ∷ []) = refl
+numbers_each (a ∷ b ∷ c ∷ []) = refl
+numbers_each (a ∷ b ∷ c ∷ d ∷ os) = omega (arith, numbers_each os)
 
 -- the octet, and the number, whose digits stand at i
 abbrev pub octet_at : List ℕ → ℕ → ℕ
@@ -31,13 +44,13 @@ number_at l i = ((octet_at l i * 256 + octet_at l (i + 2)) * 256 + octet_at l (i
 
 -- the numbers of the next line
 unfoldable pub numbers_line : List ℕ → Option (List ℕ)
-numbers_line s = also (line_at 4 s) (λ os. some (numbers_in os))
+numbers_line s = also (line_at 4 s) (λ os. Some (numbers_in os))
 
 -- what taking the line at a place answers, and what the buffer holds afterwards
-unfoldable pub taken_of : List ℕ → ℕ → Option (List ℕ) → Taken
-taken_of s at none = taken.Bad
-taken_of s at (some xs) = taken.Line (length xs) (at + length (line_from (drop at s)).bytes + 1)
+unfoldable pub taken_of : {A : Type 0} → List ℕ → ℕ → Option (List A) → Option Taken
+taken_of s at None = None
+taken_of s at (Some xs) = Some (record { count = length xs; next = at + length (line_from (drop at s)).bytes + 1 })
 
-unfoldable pub after : List ℕ → Option (List ℕ) → List ℕ
-after out none = out
-after out (some xs) = sets out 0 xs
+unfoldable pub after : {A : Type 0} → List A → Option (List A) → List A
+after out None = out
+after out (Some xs) = sets out 0 xs

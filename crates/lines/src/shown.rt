@@ -6,20 +6,15 @@ ghost use Rattle.jer.specs.Answer.{values, values_of};
 ghost use Rattle.jer.specs.Programs.{digits8, end_line, refusal_line};
 ghost use Rattle.lines.specs.Shown.{Shows, four_line, four_lines, reading_lines, writing_lines, no_line, judged_line};
 
-use jer::{Judged, Reading, Refusal, Writing, report};
+use jer::{Counts, Refusal, Reported};
 use octets::encode::put_hex;
-use slices::{part, put};
+use slices::{part, put, put_all};
 
 // The four octets of a number.
 fn octets_of(x: u64) -> [u8; 4]
     ensures { result ≡ x / 2 ^ 24 % 256 ∷ x / 2 ^ 16 % 256 ∷ x / 2 ^ 8 % 256 ∷ x % 256 ∷ [] }
 {
-    [
-        (x / 16777216 % 256) as u8,
-        (x / 65536 % 256) as u8,
-        (x / 256 % 256) as u8,
-        (x % 256) as u8,
-    ]
+    ((x % 4294967296) as u32).to_be_bytes()
 }
 
 // The eight digits of a number.
@@ -50,7 +45,7 @@ pub fn put_refusal(text: &mut [u8], k: usize, e: Refusal) -> usize
     requires { k ≤ 4294960000 }
     ensures { Shows (refusal_line (values_of e)) k text.old result text.new }
 {
-    let r = report(e);
+    let r = Reported::from(e);
     put_four(text, k, 4294967295, r.number as u64, r.first, r.second)
 }
 
@@ -58,7 +53,7 @@ pub fn put_refusal(text: &mut [u8], k: usize, e: Refusal) -> usize
 pub fn put_bad_line(text: &mut [u8], line: u32) -> usize
     ensures { Shows (refusal_line (values 15 line 0)) 0 text.old result text.new }
 {
-    put_four(text, 0, 4294967295, 15, line as u64, 0)
+    put_four(text, 0, 4294967295, 15, u64::from(line), 0)
 }
 
 // Octets as one line.
@@ -76,49 +71,47 @@ pub fn put_rows(text: &mut [u8], rows: &[u32], n: usize) -> usize
     requires { length rows.now ≤ 65536 }
     ensures { Shows (four_lines n rows.now) 0 text.old result text.new }
 {
-    let mut i = 0;
-    let mut j = 0;
+    let mut left = rows;
     let mut k = 0;
-    while 3 < rows.len() - i {
-        if n <= j {
+    for _ in 0..n {
+        let [a, b, c, d, rest @ ..] = left else {
             return k;
-        }
+        };
         k += put_four(
             text,
             k,
-            rows[i] as u64,
-            rows[i + 1] as u64,
-            rows[i + 2] as u64,
-            rows[i + 3] as u64,
+            u64::from(*a),
+            u64::from(*b),
+            u64::from(*c),
+            u64::from(*d),
         );
-        i += 4;
-        j += 1;
+        left = rest;
     }
     k
 }
 
 // What reading answered: rows and pool, or the refusal.
-pub fn put_reading(text: &mut [u8], r: Reading, rows: &[u32], pool: &[u8]) -> usize
+pub fn put_reading(text: &mut [u8], r: Result<Counts, Refusal>, rows: &[u32], pool: &[u8]) -> usize
     requires { (length rows.now ≤ 65536) × (length pool.now ≤ 65536) }
     ensures { Shows (reading_lines r rows.now pool.now) 0 text.old result text.new }
 {
     match r {
-        Reading::Refused(e) => put_refusal(text, 0, e),
-        Reading::Read { rows: n, pool: m } => {
-            let k = put_rows(text, rows, n);
-            k + put_octets(text, k, part(pool, 0, m))
+        Err(e) => put_refusal(text, 0, e),
+        Ok(c) => {
+            let k = put_rows(text, rows, c.rows);
+            k + put_octets(text, k, part(pool, 0, c.pool))
         }
     }
 }
 
 // What writing answered: the text, or the refusal.
-pub fn put_writing(out: &mut [u8], w: Writing, text: &[u8]) -> usize
+pub fn put_writing(out: &mut [u8], w: Result<usize, Refusal>, text: &[u8]) -> usize
     requires { length text.now ≤ 65536 }
     ensures { Shows (writing_lines w text.now) 0 out.old result out.new }
 {
     match w {
-        Writing::Refused(e) => put_refusal(out, 0, e),
-        Writing::Written(n) => put_octets(out, 0, part(text, 0, n)),
+        Err(e) => put_refusal(out, 0, e),
+        Ok(n) => put_octets(out, 0, part(text, 0, n)),
     }
 }
 
@@ -126,9 +119,7 @@ pub fn put_writing(out: &mut [u8], w: Writing, text: &[u8]) -> usize
 fn put_no(text: &mut [u8], number: u64, first: u64) -> usize
     ensures { Shows (no_line number first) 0 text.old result text.new }
 {
-    put(text, 0, 0x4E);
-    put(text, 1, 0x4F);
-    put(text, 2, 0x20);
+    put_all(text, 0, b"NO ");
     put_number(text, 3, number);
     put(text, 11, 0x20);
     put_number(text, 12, first);
@@ -137,18 +128,18 @@ fn put_no(text: &mut [u8], number: u64, first: u64) -> usize
 }
 
 // What judging answered: OK, or the refusal's number and its place or row.
-pub fn put_judged(text: &mut [u8], j: Judged) -> usize
+pub fn put_judged(text: &mut [u8], j: Result<(), Refusal>) -> usize
     ensures { Shows (judged_line j) 0 text.old result text.new }
 {
     match j {
-        Judged::Good => {
+        Ok(()) => {
             put(text, 0, 0x4F);
             put(text, 1, 0x4B);
             put(text, 2, 0x0A);
             3
         }
-        Judged::Refused(e) => {
-            let r = report(e);
+        Err(e) => {
+            let r = Reported::from(e);
             put_no(text, r.number as u64, r.first)
         }
     }

@@ -1,49 +1,45 @@
 // A line of hexadecimal, from a place in what a program was given.
-ghost use Rattle.std.specs.Prelude.{◌≡◌, true, ◌+◌, ◌*◌, ◌<◌, ◌≤◌, length, take, drop, set};
+ghost use Rattle.std.specs.Prelude.{◌≡◌, ◌==◌, ℕ, ◌+◌, ◌*◌, ◌/◌, ◌<◌, ◌≤◌, List, length, get_or, drop};
+ghost use Rattle.std.specs.Option.{option_map, is_some};
+ghost use Rattle.std.specs.List.{position};
+ghost use Rattle.std.proofs.Common.{rules};
 ghost use Rattle.std.proofs.lemmas.List.Edits.{sets};
 ghost use Rattle.jer.specs.Programs.{line_from, octets_in, line_at, numbers_in};
-ghost use Rattle.lines.specs.Taken.{octets_of, octet_at, number_at, is_hex, is_some, numbers_line, taken_of, after};
+ghost use Rattle.lines.specs.Taken.{octets_of, octet_at, number_at, is_hex, numbers_line, taken_of, after, octets_each, numbers_each};
 
-use slices::{digit, part, put, put_number};
+use slices::{hex_value, part, put};
 
+// A line that was taken: how many octets or numbers it has, and the place after it.
 #[derive(Clone, Copy)]
-pub enum Taken {
-    // So many octets or numbers, and the place after the line.
-    Line(usize, usize),
-    // The line is missing, over-long, odd, not hexadecimal or not whole numbers.
-    Bad,
+pub struct Taken {
+    pub count: usize,
+    pub next: usize,
 }
 
 // Digits in a line at the most.
 pub const DIGITS: usize = 16384;
+
+// The place of the first line feed.
+fn line_feed(s: &[u8]) -> Option<usize>
+    ensures { result ≡ position (λ b. b == 0x0A) s.now }
+{
+    s.iter().position(|b| *b == 0x0A)
+}
 
 // How many bytes the line at a place has.
 fn line_len(s: &[u8], at: usize) -> usize
     requires { at ≤ length s.now }
     ensures { result ≡ length (line_from (drop at s.now)).bytes }
 {
-    let mut i = at;
-    while i < s.len() {
-        if s[i] == 0x0A {
-            return i - at;
-        }
-        i += 1;
-    }
-    i - at
+    let rest = &s[at..];
+    line_feed(rest).unwrap_or(rest.len())
 }
 
 // Whether all bytes are hexadecimal digits.
 fn is_hex(line: &[u8]) -> bool
     ensures { result ≡ is_hex line.now }
 {
-    let mut i = 0;
-    while i < line.len() {
-        if digit(line[i] as u32) == 16 {
-            return false;
-        }
-        i += 1;
-    }
-    true
+    line.iter().all(|b| hex_value(*b).is_some())
 }
 
 // Whether a line is hexadecimal, not over-long, of whole units of octets.
@@ -65,94 +61,118 @@ fn is_good(line: &[u8], unit: usize) -> bool
 
 // The octet whose two digits stand at i.
 fn octet(line: &[u8], i: usize) -> u8
-    requires { (is_hex line.now ≡ true) × (i + 1 < length line.now) }
+    requires { i + 1 < length line.now }
     ensures { result ≡ octet_at line.now i }
 {
-    (digit(line[i] as u32) * 16 + digit(line[i + 1] as u32)) as u8
+    hex_value(line[i]).unwrap_or(0) * 16 + hex_value(line[i + 1]).unwrap_or(0)
 }
 
 // The number whose eight digits stand at i.
 fn number(line: &[u8], i: usize) -> u32
-    requires { (is_hex line.now ≡ true) × (i + 7 < length line.now) }
+    requires { i + 7 < length line.now }
     ensures { result ≡ number_at line.now i }
 {
-    let a = octet(line, i) as u32;
-    let b = octet(line, i + 2) as u32;
-    let c = octet(line, i + 4) as u32;
-    let d = octet(line, i + 6) as u32;
+    let a = u32::from(octet(line, i));
+    let b = u32::from(octet(line, i + 2));
+    let c = u32::from(octet(line, i + 4));
+    let d = u32::from(octet(line, i + 6));
     ((a * 256 + b) * 256 + c) * 256 + d
 }
 
-// Stores the octets of digits, as far as there is room.
-fn store_octets(line: &[u8], out: &mut [u8])
-    requires { is_hex line.now ≡ true }
-    ensures { out.new ≡ sets out.old 0 (octets_of line.now) }
+// What a line is made of: octets, or numbers of four octets.
+trait Unit: Copy {
+    // How many octets one has.
+    const OCTETS: usize;
+
+    ghost OCTETS: { ℕ };
+
+    // The units of octets.
+    ghost units: { List ℕ → List Self };
+
+    // A line's k-th unit.
+    fn at(line: &[u8], k: usize) -> Self
+        requires { k < length line.now / 2 / OCTETS }
+        ensures { (d : Self) → result ≡ get_or (units (octets_of line.now)) k d };
+
+    ghost some: { 1 ≤ OCTETS };
+
+    ghost count: { (os : List ℕ) → length (units os) ≡ length os / OCTETS };
+}
+
+impl Unit for u8 {
+    const OCTETS: usize = 1;
+
+    ghost OCTETS = { 1 };
+
+    ghost units = { λ os. os };
+
+    fn at(line: &[u8], k: usize) -> u8 {
+        octet(line, k * 2)
+    }
+
+    ghost some = { Prim.search rules };
+
+    ghost count = { octets_each };
+}
+
+impl Unit for u32 {
+    const OCTETS: usize = 4;
+
+    ghost OCTETS = { 4 };
+
+    ghost units = { numbers_in };
+
+    fn at(line: &[u8], k: usize) -> u32 {
+        number(line, k * 8)
+    }
+
+    ghost some = { Prim.search rules };
+
+    ghost count = { numbers_each };
+}
+
+// Stores the units of digits, as far as there is room.
+fn store<U: Unit>(line: &[u8], out: &mut [U])
+    ensures { out.new ≡ sets out.old 0 (U.units (octets_of line.now)) }
 {
-    let mut i = 0;
-    let mut k = 0;
-    while 1 < line.len() - i {
-        let x = octet(line, i);
-        put(out, k, x);
-        k += 1;
-        i += 2;
+    for k in 0..line.len() / 2 / U::OCTETS {
+        put(out, k, U::at(line, k));
     }
 }
 
-// Stores the numbers of digits, eight each, as far as there is room.
-fn store_numbers(line: &[u8], out: &mut [u32])
-    requires { is_hex line.now ≡ true }
-    ensures { out.new ≡ sets out.old 0 (numbers_in (octets_of line.now)) }
+// The units of the line at a place, stored as far as there is room. A bad line stores nothing.
+fn line<U: Unit>(s: &[u8], at: usize, out: &mut [U]) -> Option<Taken>
+    ensures value { result ≡ taken_of s.now at (option_map U.units (line_at U.OCTETS (drop at s.now))) }
+    ensures out_after { out.new ≡ after out.old (option_map U.units (line_at U.OCTETS (drop at s.now))) }
 {
-    let mut i = 0;
-    let mut k = 0;
-    while 7 < line.len() - i {
-        let x = number(line, i);
-        put_number(out, k, x);
-        k += 1;
-        i += 8;
+    if s.len() <= at {
+        return None;
     }
+    let n = line_len(s, at);
+    let line = part(s, at, n);
+    if !is_good(line, U::OCTETS) {
+        return None;
+    }
+    store(line, out);
+    Some(Taken {
+        count: n / 2 / U::OCTETS,
+        next: at + n + 1,
+    })
 }
 
-// The first n numbers, or all.
-pub fn first_numbers(s: &[u32], n: usize) -> &[u32]
-    ensures { result.now ≡ take n s.now }
-{
-    if s.len() <= n {
-        return s;
-    }
-    &s[..n]
-}
-
-// The octets of the line at a place, stored as far as there is room. A bad line stores nothing.
-pub fn octets_line(s: &[u8], at: usize, out: &mut [u8]) -> Taken
+// The octets of the line at a place, stored as far as there is room. None if the line is missing, over-long, odd or
+// not hexadecimal: it stores nothing.
+pub fn octets_line(s: &[u8], at: usize, out: &mut [u8]) -> Option<Taken>
     ensures value { result ≡ taken_of s.now at (line_at 1 (drop at s.now)) }
     ensures out_after { out.new ≡ after out.old (line_at 1 (drop at s.now)) }
 {
-    if s.len() <= at {
-        return Taken::Bad;
-    }
-    let n = line_len(s, at);
-    let line = part(s, at, n);
-    if !is_good(line, 1) {
-        return Taken::Bad;
-    }
-    store_octets(line, out);
-    Taken::Line(n / 2, at + n + 1)
+    line(s, at, out)
 }
 
-// The numbers of the line at a place, stored as far as there is room. A bad line stores nothing.
-pub fn numbers_line(s: &[u8], at: usize, out: &mut [u32]) -> Taken
+// The numbers of the line at a place, likewise. None also if they are not whole.
+pub fn numbers_line(s: &[u8], at: usize, out: &mut [u32]) -> Option<Taken>
     ensures value { result ≡ taken_of s.now at (numbers_line (drop at s.now)) }
     ensures out_after { out.new ≡ after out.old (numbers_line (drop at s.now)) }
 {
-    if s.len() <= at {
-        return Taken::Bad;
-    }
-    let n = line_len(s, at);
-    let line = part(s, at, n);
-    if !is_good(line, 4) {
-        return Taken::Bad;
-    }
-    store_numbers(line, out);
-    Taken::Line(n / 8, at + n + 1)
+    line(s, at, out)
 }

@@ -1,7 +1,7 @@
 -- Amounts that stay at the greatest 64-bit number.
 use mathlib.Core.Path.{◌≡◌, refl, sym, ap, ◌∙◌}
 use mathlib.Core.Bool.{Bool, true, false}
-use Prim.Native.Nat.{ℕ, ◌+◌, ◌≤◌}
+use Prim.Native.Nat.{ℕ, ◌+◌, ◌≤◌, min}
 use native.Mathlib.Omega.{arith}
 use borrow.Author.Tests.{le-leb, leb-true, leb-false}
 use lib.Dec.{leb}
@@ -21,6 +21,14 @@ amount-over n h = go (leb n greatest) refl
     go : (t : Bool) → leb n greatest ≡ t → greatest ≡ amount n
     go true e = let w : greatest ≡ n = omega (arith, leb-true n greatest e) in w ∙ amount-within n (omega arith)
     go false e = rw (e, amount)
+
+pub amount_is : (n : ℕ) → min n greatest ≡ amount n
+unfolding amount
+amount_is n = go (leb n greatest) refl
+  where
+    go : (t : Bool) → leb n greatest ≡ t → min n greatest ≡ amount n
+    go true e = rw (e, amount) (omega (arith, leb-true n greatest e))
+    go false e = rw (e, amount) (omega (arith, leb-false n greatest e))
 
 -- an amount may be cut before more is added
 pub amount_add : (a b : ℕ) → amount (amount a + b) ≡ amount (a + b)

@@ -2,15 +2,14 @@
 use mathlib.Core.Path.{◌≡◌, refl, ap, ◌∙◌}
 use mathlib.Core.List.{List, [], ◌∷◌, ◌++◌}
 use mathlib.Core.Bool.{Bool, true, false}
-use mathlib.Core.Option.{Option, none, some}
+use Rattle.std.specs.Prelude.{Option, None, Some}
 use Prim.Native.Nat.{ℕ, ◌+◌, ◌-◌, ◌<◌, ◌≤◌}
 use native.Mathlib.Omega.{arith}
 use borrow.Author.Tests.{lt-ltb, le-ltb, ltb-false}
 use lib.Dec.{ltb}
-use Rattle.json_text.specs.Bytes.{In, pick}
 use Rattle.json_text.specs.Utf8.{encode}
-use Rattle.json_text.proofs.Feed.{pick-none, pick-row}
-use Rattle.json_text.proofs.SoundRows.{pick-within, only, ◌⨾◌}
+use Rattle.json_text.proofs.Feed.{pick-none}
+use Rattle.json_text.proofs.SoundRows.{pick-within, ◌⨾◌}
 use Rattle.jer.specs.Octets.{only_if, hex_value, base64_value}
 use Rattle.tokens.specs.declared.strings.Piece.TheVariants.{Bare, Escaped}
 use Rattle.tokens.specs.Strings.{piece_at, denoted}
@@ -33,11 +32,11 @@ encode_ascii : (x : ℕ) → x < 0x80 → encode x ≡ x ∷ []
 unfolding encode
 encode_ascii x h = rw (lt-ltb x 0x80 h, encode)
 
-ascii : (x : ℕ) → x < 0x80 → ascii_value x ≡ some x
+ascii : (x : ℕ) → x < 0x80 → ascii_value x ≡ Some x
 unfolding ascii_value only_if
 ascii x h = rw (lt-ltb x 0x80 h)
 
-wide : (x : ℕ) → 0x80 ≤ x → ascii_value x ≡ none
+wide : (x : ℕ) → 0x80 ≤ x → ascii_value x ≡ None
 unfolding ascii_value only_if
 wide x h = rw (le-ltb x 0x80 h)
 
@@ -61,93 +60,65 @@ module _ {s : List ℕ} {i : ℕ} where
 
 -- ---- a character's value as a digit
 
-ascii-own : (c b : ℕ) → ascii_value c ≡ some b → c ≡ b
+ascii-own : (c b : ℕ) → ascii_value c ≡ Some b → c ≡ b
 unfolding ascii_value only_if
 ascii-own c b e = go (ltb c 0x80) refl
   where
     go : (t : Bool) → ltb c 0x80 ≡ t → c ≡ b
-    go true w = let f : some c ≡ some b = (rw w at e) in cc
-    go false w = let f : none ≡ some b = (rw w at e) in absurd (let z : ◌≡◌ {A = ℕ} 0 1 = cc in omega arith)
+    go true w = let f : Some c ≡ Some b = (rw w at e) in cc
+    go false w = let f : None ≡ Some b = (rw w at e) in absurd (let z : ◌≡◌ {A = ℕ} 0 1 = cc in omega arith)
 
-ascii-wide : (c : ℕ) → ascii_value c ≡ none → 0x80 ≤ c
+ascii-wide : (c : ℕ) → ascii_value c ≡ None → 0x80 ≤ c
 unfolding ascii_value only_if
 ascii-wide c e = go (ltb c 0x80) refl
   where
     go : (t : Bool) → ltb c 0x80 ≡ t → 0x80 ≤ c
-    go true w = let f : some c ≡ none = (rw w at e) in absurd (let z : ◌≡◌ {A = ℕ} 0 1 = cc in omega arith)
+    go true w = let f : Some c ≡ None = (rw w at e) in absurd (let z : ◌≡◌ {A = ℕ} 0 1 = cc in omega arith)
     go false w = ltb-false c 0x80 w
 
 module _ {s : List ℕ} {i b q : ℕ} (d : Digit ascii_value s i b q) where
   own : denoted s i ≡ b ∷ denoted s q
   own = d.here ∙ ap (λ (c : ℕ). c ∷ denoted s q) (ascii-own d.char b d.is)
 
-  pub digit-some : {value : ℕ → Option ℕ} {x : ℕ} → value b ≡ some x → Digit value s i x q
+  pub digit-some : {value : ℕ → Option ℕ} {x : ℕ} → value b ≡ Some x → Digit value s i x q
   digit-some e = record { char = b; here = own; is = e; inside = d.inside; ahead = d.ahead }
 
-  pub digit-none : {value : ℕ → Option ℕ} → value b ≡ none → NoDigit value s i
+  pub digit-none : {value : ℕ → Option ℕ} → value b ≡ None → NoDigit value s i
   digit-none e = record { char = b; rest = denoted s q; here = own; is = e }
 
-pub digit-wide : {value : ℕ → Option ℕ} {s : List ℕ} {i : ℕ} → ((c : ℕ) → 0x80 ≤ c → value c ≡ none) → NoDigit ascii_value s i → NoDigit value s i
+pub digit-wide : {value : ℕ → Option ℕ} {s : List ℕ} {i : ℕ} → ((c : ℕ) → 0x80 ≤ c → value c ≡ None) → NoDigit ascii_value s i → NoDigit value s i
 digit-wide h d = record { char = d.char; rest = d.rest; here = d.here; is = h d.char (ascii-wide d.char d.is) }
-
--- ---- the values of digits, by the ends of their ranges
-
-module _ {b : ℕ} where
-  pub base64-upper : In 0x41 0x5A b → base64_value b ≡ some (b - 0x41)
-  unfolding base64_value
-  base64-upper h = pick-row 0 b _ none h
-
-  pub base64-lower : In 0x61 0x7A b → base64_value b ≡ some (b - 0x47)
-  unfolding base64_value
-  base64-lower h = pick-row 1 b _ none ((λ i. omega arith) ⨾ h)
-
-  pub base64_decimal : In 0x30 0x39 b → base64_value b ≡ some (b + 0x04)
-  unfolding base64_value
-  base64_decimal h = pick-row 2 b _ none ((λ i. omega arith) ⨾ (λ i. omega arith) ⨾ h)
-
-  pub base64-plus : b ≡ 0x2B → base64_value b ≡ some 62
-  unfolding base64_value pick
-  base64-plus e = rw e
-
-  pub base64-slash : b ≡ 0x2F → base64_value b ≡ some 63
-  unfolding base64_value pick
-  base64-slash e = rw e
-
-  module _ (h₁ : b ≡ 0x2B → ⊥) (h₂ : b ≡ 0x2F → ⊥) where
-    pub base64-other : (In 0x30 0x39 b → ⊥) → (In 0x41 0x5A b → ⊥) → (In 0x61 0x7A b → ⊥) → base64_value b ≡ none
-    unfolding base64_value
-    base64-other h₃ h₄ h₅ = pick-none b _ none (h₄ ⨾ h₅ ⨾ h₃ ⨾ (λ i. h₁ (only i)) ⨾ (λ i. h₂ (only i)) ⨾ tt)
 
 -- ---- digits have no other characters, and small values
 
-pub hex-wide : (c : ℕ) → 0x80 ≤ c → hex_value c ≡ none
+pub hex-wide : (c : ℕ) → 0x80 ≤ c → hex_value c ≡ None
 unfolding hex_value
-hex-wide c h = pick-none c _ none ((λ i. omega arith) ⨾ (λ i. omega arith) ⨾ (λ i. omega arith) ⨾ tt)
+hex-wide c h = pick-none c _ None ((λ i. omega arith) ⨾ (λ i. omega arith) ⨾ (λ i. omega arith) ⨾ tt)
 
-pub base64-wide : (c : ℕ) → 0x80 ≤ c → base64_value c ≡ none
+pub base64-wide : (c : ℕ) → 0x80 ≤ c → base64_value c ≡ None
 unfolding base64_value
-base64-wide c h = pick-none c _ none ((λ i. omega arith) ⨾ (λ i. omega arith) ⨾ (λ i. omega arith) ⨾ (λ i. omega arith) ⨾ (λ i. omega arith) ⨾ tt)
+base64-wide c h = pick-none c _ None ((λ i. omega arith) ⨾ (λ i. omega arith) ⨾ (λ i. omega arith) ⨾ (λ i. omega arith) ⨾ (λ i. omega arith) ⨾ tt)
 
 abbrev Below : ℕ → Option ℕ → Type 0
-Below n o = (x : ℕ) → o ≡ some x → x < n
+Below n o = (x : ℕ) → o ≡ Some x → x < n
 
-below-some : {n : ℕ} (y : ℕ) → y < n → Below n (some y)
+below-some : {n : ℕ} (y : ℕ) → y < n → Below n (Some y)
 below-some y h x e = let w : y ≡ x = cc in omega arith
 
-below_none : (n : ℕ) → Below n none
+below_none : (n : ℕ) → Below n None
 below_none n x e = absurd (let z : ◌≡◌ {A = ℕ} 0 1 = cc in omega arith)
 
 pub hex-below : {s : List ℕ} {i x q : ℕ} → Digit hex_value s i x q → x < 16
 unfolding hex_value
 hex-below {x = x} d =
-    pick-within (Below 16) d.char _ none
+    pick-within (Below 16) d.char _ None
     ((λ i. below-some (d.char - 0x30) (omega arith)) ⨾ (λ i. below-some (d.char - 0x37) (omega arith)) ⨾ (λ i. below-some (d.char - 0x57) (omega arith)) ⨾ tt)
     (below_none 16) x d.is
 
 pub base64-below : {s : List ℕ} {i x q : ℕ} → Digit base64_value s i x q → x < 64
 unfolding base64_value
 base64-below {x = x} d =
-    pick-within (Below 64) d.char _ none
+    pick-within (Below 64) d.char _ None
     ((λ i. below-some (d.char - 0x41) (omega arith))
     ⨾ (λ i. below-some (d.char - 0x47) (omega arith))
     ⨾ (λ i. below-some (d.char + 0x04) (omega arith))

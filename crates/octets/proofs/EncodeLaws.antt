@@ -1,29 +1,16 @@
 -- Octets in hexadecimal and in Base64.
-use mathlib.Core.Path.{◌≡◌, refl, sym, ap, ◌∙◌}
+use mathlib.Core.Path.{◌≡◌, refl, sym, ap}
 use mathlib.Core.List.{List, [], ◌∷◌, ◌++◌}
 use Prim.Native.Nat.{ℕ, suc, ◌+◌, ◌-◌, ◌*◌, ◌/◌, ◌%◌, ◌<◌, ◌≤◌}
 use native.Mathlib.Numerals.{add-one}
 use native.Mathlib.Omega.{arith}
-use borrow.Author.Tests.{lt-ltb, le-ltb}
 use native.Mathlib.Nat.{add-zero}
-use lib.ListN.{length, get_or, drop, set, drop_of_length-le}
-use lib.Seq.{drop-cons, sets}
-use Rattle.json_text.specs.Bytes.{pick}
-use Rattle.json_text.proofs.Feed.{pick-row}
-use Rattle.json_text.proofs.SoundRows.{◌⨾◌}
+use lib.ListN.{length, get_or, take, drop, set, drop_of_length-le}
+use lib.Seq.{drop-cons, take-length, sets}
 use Rattle.jer.specs.Octets.{hex_digit, hex, base64_digit, base64}
 use Rattle.octets.proofs.PutLaws.{Putting, putting_next, putting_last}
 
 -- ---- hexadecimal
-
-module _ (x : ℕ) where
-  pub hex_decimal : x < 10 → 0x30 + x ≡ hex_digit x
-  unfolding hex_digit
-  hex_decimal h = rw (lt-ltb x 10 h, hex_digit)
-
-  pub hex-letter : 10 ≤ x → 0x37 + x ≡ hex_digit x
-  unfolding hex_digit
-  hex-letter h = rw (le-ltb x 10 h, hex_digit)
 
 pub hex-one : (b : ℕ) {x y : ℕ} → x ≡ hex_digit (b / 16) → y ≡ hex_digit (b % 16) → x ∷ y ∷ [] ≡ hex (b ∷ [])
 unfolding hex
@@ -48,27 +35,6 @@ module _ (os : List ℕ) (i : ℕ) where
 
 -- ---- Base64
 
-module _ (x : ℕ) where
-  pub base64-upper : x < 26 → x + 0x41 ≡ base64_digit x
-  unfolding base64_digit
-  base64-upper h = sym (pick-row 0 x _ 0x2F (omega arith))
-
-  pub base64-lower : 26 ≤ x → x < 52 → x + 0x47 ≡ base64_digit x
-  unfolding base64_digit
-  base64-lower h k = sym (pick-row 1 x _ 0x2F ((λ i. omega arith) ⨾ (omega arith)))
-
-  pub base64_decimal : 52 ≤ x → x < 62 → x - 0x04 ≡ base64_digit x
-  unfolding base64_digit
-  base64_decimal h k = sym (pick-row 2 x _ 0x2F ((λ i. omega arith) ⨾ (λ i. omega arith) ⨾ (omega arith)))
-
-  pub base64-plus : x ≡ 62 → 0x2B ≡ base64_digit x
-  unfolding base64_digit pick
-  base64-plus e = rw e
-
-  pub base64-slash : x ≡ 63 → 0x2F ≡ base64_digit x
-  unfolding base64_digit pick
-  base64-slash e = rw e
-
 pub base64-length : (os : List ℕ) → length (base64 os) ≡ (length os + 2) / 3 * 4
 unfolding base64
 base64-length [] = refl
@@ -91,31 +57,28 @@ pub two-pads : (a : ℕ) {four : List ℕ} → four ≡ base64 (a ∷ 0 ∷ 0 �
 unfolding base64
 two-pads a e = rw (e, add-zero)
 
-module _ (os : List ℕ) (i : ℕ) where
-  more : i < length os → drop i os ≡ get_or os i 0 ∷ drop (suc i) os
-  more h = drop-cons os i 0 h
+pub base64-more : (l : List ℕ) → 3 ≤ length l → base64 l ≡ base64 (get_or l 0 0 ∷ get_or l 1 0 ∷ get_or l 2 0 ∷ []) ++ base64 (take (length l - 3) (drop 3 l))
+unfolding base64
+base64-more (a ∷ b ∷ c ∷ os) h = let e : suc (suc (suc (length os))) - 3 ≡ length os = omega arith in rw e (ap (λ (l : List ℕ). base64 (a ∷ b ∷ c ∷ []) ++ base64 l) (sym (take-length os)))
+base64-more [] h = absurd (omega arith)
+base64-more (a ∷ []) h = absurd (omega arith)
+base64-more (a ∷ b ∷ []) h = absurd (omega arith)
 
-  two : 1 < length os - i → drop i os ≡ get_or os i 0 ∷ get_or os (i + 1) 0 ∷ drop (i + 2) os
-  two h =
-      let e : i + 2 ≡ suc (suc i) = omega arith in
-      rw (drop-cons os i 0 (omega arith), drop-cons os (suc i) 0 (omega arith), add-one, e)
+pub base64-two : (l : List ℕ) → length l ≡ 2 → base64 l ≡ base64 (get_or l 0 0 ∷ get_or l 1 0 ∷ [])
+base64-two (a ∷ b ∷ []) h = refl
+base64-two [] h = absurd (omega arith)
+base64-two (a ∷ []) h = absurd (omega arith)
+base64-two (a ∷ b ∷ c ∷ os) h = absurd (omega arith)
 
-  pub base64-more : 2 < length os - i → base64 (drop i os) ≡ base64 (get_or os i 0 ∷ get_or os (i + 1) 0 ∷ get_or os (i + 2) 0 ∷ []) ++ base64 (drop (i + 3) os)
-  unfolding base64
-  base64-more h =
-      let e : i + 2 ≡ suc (suc i) = omega arith in
-      let f : i + 3 ≡ suc (suc (suc i)) = omega arith in
-      rw (drop-cons os i 0 (omega arith), drop-cons os (suc i) 0 (omega arith), drop-cons os (suc (suc i)) 0 (omega arith), add-one, e, f)
+pub base64-one : (l : List ℕ) → length l ≡ 1 → base64 l ≡ base64 (get_or l 0 0 ∷ [])
+base64-one (a ∷ []) h = refl
+base64-one [] h = absurd (omega arith)
+base64-one (a ∷ b ∷ os) h = absurd (omega arith)
 
-  pub base64-two : length os - i ≡ 2 → base64 (drop i os) ≡ base64 (get_or os i 0 ∷ get_or os (i + 1) 0 ∷ [])
-  base64-two h = ap base64 (two (omega arith) ∙ rw (drop_of_length-le os {i = i + 2} (omega arith)))
-
-  pub base64-one : length os - i ≡ 1 → base64 (drop i os) ≡ base64 (get_or os i 0 ∷ [])
-  base64-one h = ap base64 (more (omega arith) ∙ rw (drop_of_length-le os {i = suc i} (omega arith)))
-
-  pub base64-done : length os - i ≡ 0 → base64 (drop i os) ≡ []
-  unfolding base64
-  base64-done h = rw (drop_of_length-le os {i = i} (omega arith))
+pub base64-done : (l : List ℕ) → length l ≡ 0 → base64 l ≡ []
+unfolding base64
+base64-done [] h = refl
+base64-done (a ∷ os) h = absurd (omega arith)
 
 -- ---- stored octet by octet, and group by group
 
@@ -125,16 +88,17 @@ module _ (os : List ℕ) (i : ℕ) {before now : List ℕ} {k n : ℕ} where
   unfolding hex
   hex-next p h e l = putting_next p (hex (get_or os i 0 ∷ [])) (hex (drop (i + 1) os)) (hex-more os i h) e l
 
-  module _ (p : Putting (base64 os) (base64 (drop i os)) before now k n) {after : List ℕ} where
-    pub base64-next : 2 < length os - i → after ≡ sets now (k + n) (base64 (get_or os i 0 ∷ get_or os (i + 1) 0 ∷ get_or os (i + 2) 0 ∷ [])) → length after ≡ length now
-        → Putting (base64 os) (base64 (drop (i + 3) os)) before after k (n + 4)
-    unfolding base64
-    base64-next h e l = putting_next p (base64 (get_or os i 0 ∷ get_or os (i + 1) 0 ∷ get_or os (i + 2) 0 ∷ [])) (base64 (drop (i + 3) os)) (base64-more os i h) e l
+-- what is left of the octets, group by group
+module _ (os l : List ℕ) {before now : List ℕ} {k n : ℕ} (p : Putting (base64 os) (base64 l) before now k n) {after : List ℕ} where
+  pub base64-next : 3 ≤ length l → after ≡ sets now (k + n) (base64 (get_or l 0 0 ∷ get_or l 1 0 ∷ get_or l 2 0 ∷ [])) → length after ≡ length now
+      → Putting (base64 os) (base64 (take (length l - 3) (drop 3 l))) before after k (n + 4)
+  unfolding base64
+  base64-next h e w = putting_next p (base64 (get_or l 0 0 ∷ get_or l 1 0 ∷ get_or l 2 0 ∷ [])) (base64 (take (length l - 3) (drop 3 l))) (base64-more l h) e w
 
-    pub base64-last-two : length os - i ≡ 2 → after ≡ sets now (k + n) (base64 (get_or os i 0 ∷ get_or os (i + 1) 0 ∷ [])) → (n + 4 ≡ length (base64 os)) × (after ≡ sets before k (base64 os))
-    unfolding base64
-    base64-last-two h e = putting_last p (base64 (get_or os i 0 ∷ get_or os (i + 1) 0 ∷ [])) (base64-two os i h) e
+  pub base64-last-two : length l ≡ 2 → after ≡ sets now (k + n) (base64 (get_or l 0 0 ∷ get_or l 1 0 ∷ [])) → (n + 4 ≡ length (base64 os)) × (after ≡ sets before k (base64 os))
+  unfolding base64
+  base64-last-two h e = putting_last p (base64 (get_or l 0 0 ∷ get_or l 1 0 ∷ [])) (base64-two l h) e
 
-    pub base64-last-one : length os - i ≡ 1 → after ≡ sets now (k + n) (base64 (get_or os i 0 ∷ [])) → (n + 4 ≡ length (base64 os)) × (after ≡ sets before k (base64 os))
-    unfolding base64
-    base64-last-one h e = putting_last p (base64 (get_or os i 0 ∷ [])) (base64-one os i h) e
+  pub base64-last-one : length l ≡ 1 → after ≡ sets now (k + n) (base64 (get_or l 0 0 ∷ [])) → (n + 4 ≡ length (base64 os)) × (after ≡ sets before k (base64 os))
+  unfolding base64
+  base64-last-one h e = putting_last p (base64 (get_or l 0 0 ∷ [])) (base64-one l h) e

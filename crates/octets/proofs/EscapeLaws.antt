@@ -2,16 +2,16 @@
 use mathlib.Core.Path.{◌≡◌, refl, sym, ap, ◌∙◌}
 use mathlib.Core.List.{List, [], ◌∷◌, ◌++◌}
 use mathlib.Core.Bool.{Bool, true, false, ◌&&◌}
+use Rattle.std.specs.Prelude.{Option, None, Some}
 use Prim.Native.Nat.{ℕ, zero, suc, ◌+◌, ◌*◌, ◌/◌, ◌%◌, ◌<◌, ◌≤◌}
 use native.Mathlib.Numerals.{add-one}
 use native.Mathlib.Omega.{arith}
-use borrow.Author.Tests.{lt-ltb, le-ltb, eq-eqb, ne_eqb, eqb-true, eqb-false}
+use borrow.Author.Tests.{lt-ltb, le-ltb, eqb-true, eqb-false}
 use lib.Dec.{eqb, ltb}
 use lib.ListN.{length, get_or, drop, drop_of_length-le, length-append}
 use lib.Seq.{drop-cons, sets}
 use Rattle.json_text.specs.Bytes.{pick}
-use Rattle.json_text.proofs.Feed.{pick-none}
-use Rattle.json_text.proofs.SoundRows.{pick-within, only, ◌⨾◌}
+use Rattle.json_text.proofs.SoundRows.{pick-within, ◌⨾◌}
 use Rattle.jer.specs.Octets.{hex_digit}
 use Rattle.jer.specs.Table.{same_bytes}
 use Rattle.jer.specs.Write.{escaped, escapes}
@@ -20,14 +20,6 @@ use Rattle.jer.proofs.ValidLaws.{same_bytes-eq}
 use Rattle.octets.specs.Encode.{letter_for}
 use Rattle.octets.proofs.PutLaws.{Putting, putting_next}
 use Rattle.octets.proofs.AmountLaws.{amount-within, amount_add, amount-most}
-
--- ---- the short escapes
-
-module _ (b : ℕ) where
-  pub letter-none : (b ≡ 0x22 → ⊥) → (b ≡ 0x5C → ⊥) → (b ≡ 0x08 → ⊥) → (b ≡ 0x09 → ⊥) → (b ≡ 0x0A → ⊥) → (b ≡ 0x0C → ⊥) → (b ≡ 0x0D → ⊥) → 0 ≡ letter_for b
-  unfolding letter_for
-  letter-none h₁ h₂ h₃ h₄ h₅ h₆ h₇ =
-      sym (pick-none b _ 0 ((λ i. h₁ (only i)) ⨾ (λ i. h₂ (only i)) ⨾ (λ i. h₃ (only i)) ⨾ (λ i. h₄ (only i)) ⨾ (λ i. h₅ (only i)) ⨾ (λ i. h₆ (only i)) ⨾ (λ i. h₇ (only i)) ⨾ tt))
 
 -- ---- a test at every number below n, which antt computes
 
@@ -46,34 +38,31 @@ below f (suc n) t k h = go (f n) refl t (below f n) (eqb k n) refl
 
 -- ---- a byte, by its letter
 
--- with the letter x, or 0
-escaped_by : ℕ → ℕ → List ℕ
-escaped_by x b =
-    elim (eqb x 0) [
-      | true ↦ elim (ltb b 0x20) [ true ↦ 0x5C ∷ 0x75 ∷ 0x30 ∷ 0x30 ∷ hex_digit (b / 16) ∷ hex_digit (b % 16) ∷ [] | false ↦ b ∷ [] ]
-      | false ↦ 0x5C ∷ x ∷ []
-    ]
+-- with its letter, if it has one
+escaped_by : Option ℕ → ℕ → List ℕ
+escaped_by None b = elim (ltb b 0x20) [ true ↦ 0x5C ∷ 0x75 ∷ 0x30 ∷ 0x30 ∷ hex_digit (b / 16) ∷ hex_digit (b % 16) ∷ [] | false ↦ b ∷ [] ]
+escaped_by (Some x) b = 0x5C ∷ x ∷ []
 
 by-letter : (b : ℕ) → b < 256 → escaped b ≡ escaped_by (letter_for b) b
 unfolding escaped escaped_by letter_for pick same_bytes hex_digit
 by-letter b h = same_bytes-eq (escaped b) (escaped_by (letter_for b) b) (below (λ k. same_bytes (escaped k) (escaped_by (letter_for k) k)) 256 refl b h)
 
-module _ {b : ℕ} (f : b < 256) {x : ℕ} (e : x ≡ letter_for b) where
-  by_this : escaped b ≡ escaped_by x b
-  by_this = by-letter b f ∙ ap (λ (y : ℕ). escaped_by y b) (sym e)
+module _ {b : ℕ} (f : b < 256) where
+  by_this : {x : Option ℕ} → x ≡ letter_for b → escaped b ≡ escaped_by x b
+  by_this e = by-letter b f ∙ ap (λ (y : Option ℕ). escaped_by y b) (sym e)
 
-  pub escaped-letter : (x ≡ 0 → ⊥) → escaped b ≡ 0x5C ∷ x ∷ []
+  pub escaped-letter : {x : ℕ} → Some x ≡ letter_for b → escaped b ≡ 0x5C ∷ x ∷ []
   unfolding escaped_by
-  escaped-letter h = by_this ∙ rw (ne_eqb x 0 h, escaped_by)
+  escaped-letter e = by_this e
 
-  module _ (z : x ≡ 0) where
+  module _ (e : None ≡ letter_for b) where
     pub escaped-plain : 0x20 ≤ b → escaped b ≡ b ∷ []
     unfolding escaped_by
-    escaped-plain h = by_this ∙ rw (eq-eqb x 0 z, escaped_by) (rw (le-ltb b 0x20 h))
+    escaped-plain h = by_this e ∙ rw (le-ltb b 0x20 h, escaped_by)
 
     pub escaped_control : b < 0x20 → escaped b ≡ 0x5C ∷ 0x75 ∷ 0x30 ∷ 0x30 ∷ hex_digit (b / 16) ∷ hex_digit (b % 16) ∷ []
     unfolding escaped_by
-    escaped_control h = by_this ∙ rw (eq-eqb x 0 z, escaped_by) (rw (lt-ltb b 0x20 h))
+    escaped_control h = by_this e ∙ rw (lt-ltb b 0x20 h, escaped_by)
 
 pub control_digits : (b : ℕ) {x y : ℕ} → x ≡ hex_digit (b / 16) → y ≡ hex_digit (b % 16)
     → 0x5C ∷ 0x75 ∷ 0x30 ∷ 0x30 ∷ x ∷ y ∷ [] ≡ 0x5C ∷ 0x75 ∷ 0x30 ∷ 0x30 ∷ hex_digit (b / 16) ∷ hex_digit (b % 16) ∷ []

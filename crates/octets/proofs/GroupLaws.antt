@@ -2,7 +2,8 @@
 use mathlib.Core.Path.{◌≡◌, refl, sym, ap, ◌∙◌}
 use mathlib.Core.List.{List, [], ◌∷◌, ◌++◌, append-nil, append_assoc}
 use mathlib.Core.Bool.{Bool, true, false}
-use mathlib.Core.Option.{Option, none, some}
+use Rattle.std.specs.Prelude.{Option, None, Some}
+use Rattle.std.specs.Option.{option_map}
 use Prim.Native.Nat.{ℕ, ◌+◌, ◌*◌, ◌/◌, ◌%◌, ◌<◌, ◌≤◌}
 use native.Mathlib.Omega.{arith}
 use borrow.Author.Tests.{eq-eqb, ne_eqb, eqb-true, ltb-true, ltb-false}
@@ -16,17 +17,16 @@ use Rattle.jer.proofs.ValidLaws.{same_bytes-eq}
 use Rattle.tokens.specs.Strings.{denoted}
 use Rattle.slices.proofs.PartLaws.{sets_append}
 use Rattle.tokens.proofs.StringLaws.{piece_past, denoted-close}
-use Rattle.octets.specs.declared.decode.Found.TheVariants as found
 use Rattle.octets.specs.declared.decode.Next.{Next}
 use Rattle.octets.specs.declared.decode.Next.TheVariants.{End, Is, Other}
 use Rattle.octets.specs.declared.decode.Group.{Group}
 use Rattle.octets.specs.declared.decode.Group.TheVariants as group
-use Rattle.octets.specs.Decode.{found_of, Stored, Digit, NoDigit, Reads, followed, Grouped, First, Tail}
+use Rattle.octets.specs.Decode.{Stored, Digit, NoDigit, Reads, followed, Grouped, First, Tail}
 
 -- ---- no digit comes first
 
 abbrev NoFirst : (ℕ → Option ℕ) → List ℕ → Type 0
-NoFirst value cs = (c : ℕ) (l : List ℕ) → cs ≡ c ∷ l → value c ≡ none
+NoFirst value cs = (c : ℕ) (l : List ℕ) → cs ≡ c ∷ l → value c ≡ None
 
 pub record Without (value : ℕ → Option ℕ) (s : List ℕ) (i : ℕ) : Type 0 where
   pub first : NoFirst value (denoted s i)
@@ -39,24 +39,24 @@ without {value} Other k h = record { first = λ c l e. let w : h.char ≡ c = cc
 
 -- ---- hexadecimal
 
-pub hex-end : {cs : List ℕ} → cs ≡ [] → unhex cs ≡ some []
+pub hex-end : {cs : List ℕ} → cs ≡ [] → unhex cs ≡ Some []
 unfolding unhex
 hex-end e = rw e
 
-pub hex-none : {s : List ℕ} {i : ℕ} → NoDigit hex_value s i → unhex (denoted s i) ≡ none
+pub hex-none : {s : List ℕ} {i : ℕ} → NoDigit hex_value s i → unhex (denoted s i) ≡ None
 unfolding unhex also
 hex-none d = ap unhex d.here ∙ go d.rest
   where
-    go : (l : List ℕ) → unhex (d.char ∷ l) ≡ none
+    go : (l : List ℕ) → unhex (d.char ∷ l) ≡ None
     go [] = refl
     go (b ∷ l) = rw d.is
 
 module _ {s : List ℕ} {i x p : ℕ} (d : Digit hex_value s i x p) where
-  pub hex_half : Without hex_value s p → unhex (denoted s i) ≡ none
+  pub hex_half : Without hex_value s p → unhex (denoted s i) ≡ None
   unfolding unhex also
   hex_half f = ap unhex d.here ∙ go (denoted s p) f.first
     where
-      go : (l : List ℕ) → NoFirst hex_value l → unhex (d.char ∷ l) ≡ none
+      go : (l : List ℕ) → NoFirst hex_value l → unhex (d.char ∷ l) ≡ None
       go [] f = refl
       go (b ∷ l) f = rw (d.is, f b l refl)
 
@@ -66,11 +66,11 @@ module _ {s : List ℕ} {i x p : ℕ} (d : Digit hex_value s i x p) where
 
 -- ---- Base64
 
-pub base64-end : {cs : List ℕ} → cs ≡ [] → unbase64 cs ≡ some []
+pub base64-end : {cs : List ℕ} → cs ≡ [] → unbase64 cs ≡ Some []
 unfolding unbase64
 base64-end e = rw e
 
-base64-no : (a : ℕ) (l : List ℕ) → base64_value a ≡ none → unbase64 (a ∷ l) ≡ none
+base64-no : (a : ℕ) (l : List ℕ) → base64_value a ≡ None → unbase64 (a ∷ l) ≡ None
 unfolding unbase64 last_group full_group also
 base64-no a [] e = refl
 base64-no a (b ∷ []) e = refl
@@ -78,12 +78,12 @@ base64-no a (b ∷ c ∷ []) e = refl
 base64-no a (b ∷ c ∷ d ∷ []) e = rw e
 base64-no a (b ∷ c ∷ d ∷ f ∷ l) e = rw e
 
-pub base64-none : {s : List ℕ} {i : ℕ} → NoDigit base64_value s i → unbase64 (denoted s i) ≡ none
+pub base64-none : {s : List ℕ} {i : ℕ} → NoDigit base64_value s i → unbase64 (denoted s i) ≡ None
 base64-none d = ap unbase64 d.here ∙ base64-no d.char d.rest d.is
 
 -- the first digit is that of x
-module _ (a x : ℕ) (ea : base64_value a ≡ some x) where
-  no_second : (l : List ℕ) → NoFirst base64_value l → unbase64 (a ∷ l) ≡ none
+module _ (a x : ℕ) (ea : base64_value a ≡ Some x) where
+  no_second : (l : List ℕ) → NoFirst base64_value l → unbase64 (a ∷ l) ≡ None
   unfolding unbase64 last_group full_group also
   no_second [] f = refl
   no_second (b ∷ []) f = refl
@@ -91,48 +91,48 @@ module _ (a x : ℕ) (ea : base64_value a ≡ some x) where
   no_second (b ∷ c ∷ d ∷ []) f = rw (ea, f b (c ∷ d ∷ []) refl)
   no_second (b ∷ c ∷ d ∷ e ∷ l) f = rw (ea, f b (c ∷ d ∷ e ∷ l) refl)
 
-  module _ (b y : ℕ) (eb : base64_value b ≡ some y) where
+  module _ (b y : ℕ) (eb : base64_value b ≡ Some y) where
     -- neither a third digit nor two pads
-    no_third : (l : List ℕ) → NoFirst base64_value l → (l ≡ 0x3D ∷ 0x3D ∷ [] → eqb (y % 16) 0 ≡ false) → unbase64 (a ∷ b ∷ l) ≡ none
+    no_third : (l : List ℕ) → NoFirst base64_value l → (l ≡ 0x3D ∷ 0x3D ∷ [] → eqb (y % 16) 0 ≡ false) → unbase64 (a ∷ b ∷ l) ≡ None
     unfolding unbase64 last_group full_group also only_if
     no_third [] f h = refl
     no_third (c ∷ []) f h = refl
     no_third (c ∷ d ∷ []) f h = go (eqb d 0x3D) (eqb c 0x3D) refl refl
       where
-        go : (t u : Bool) → eqb d 0x3D ≡ t → eqb c 0x3D ≡ u → unbase64 (a ∷ b ∷ c ∷ d ∷ []) ≡ none
+        go : (t u : Bool) → eqb d 0x3D ≡ t → eqb c 0x3D ≡ u → unbase64 (a ∷ b ∷ c ∷ d ∷ []) ≡ None
         go true true e g = let w : (c ∷ d ∷ []) ≡ 0x3D ∷ 0x3D ∷ [] = cc (eqb-true d 0x3D e, eqb-true c 0x3D g) in rw (ea, eb, e) (rw (g, h w))
         go true false e g = rw (ea, eb, e) (rw (g, f c (d ∷ []) refl))
         go false u e g = rw (ea, eb, e) (rw (f c (d ∷ []) refl))
     no_third (c ∷ d ∷ e ∷ l) f h = rw (ea, eb, f c (d ∷ e ∷ l) refl)
 
-    pads : (l : List ℕ) → l ≡ 0x3D ∷ 0x3D ∷ [] → eqb (y % 16) 0 ≡ true → unbase64 (a ∷ b ∷ l) ≡ some ((x * 4 + y / 16) ∷ [])
+    pads : (l : List ℕ) → l ≡ 0x3D ∷ 0x3D ∷ [] → eqb (y % 16) 0 ≡ true → unbase64 (a ∷ b ∷ l) ≡ Some ((x * 4 + y / 16) ∷ [])
     unfolding unbase64 last_group also only_if
     pads l e h = rw (e, ea, eb, h)
 
-    module _ (c z : ℕ) (ec : base64_value c ≡ some z) where
+    module _ (c z : ℕ) (ec : base64_value c ≡ Some z) where
       -- a digit is no pad
       unpadded : eqb c 0x3D ≡ false
       unfolding base64_value pick
-      unpadded = ne_eqb c 0x3D (λ e. let w : none ≡ some z = (rw e at ec) in let n : ◌≡◌ {A = ℕ} 0 1 = cc in omega arith)
+      unpadded = ne_eqb c 0x3D (λ e. let w : None ≡ Some z = (rw e at ec) in let n : ◌≡◌ {A = ℕ} 0 1 = cc in omega arith)
 
-      no-fourth : (l : List ℕ) → NoFirst base64_value l → (l ≡ 0x3D ∷ [] → eqb (z % 4) 0 ≡ false) → unbase64 (a ∷ b ∷ c ∷ l) ≡ none
+      no-fourth : (l : List ℕ) → NoFirst base64_value l → (l ≡ 0x3D ∷ [] → eqb (z % 4) 0 ≡ false) → unbase64 (a ∷ b ∷ c ∷ l) ≡ None
       unfolding unbase64 last_group full_group also only_if
       no-fourth [] f h = refl
       no-fourth (d ∷ []) f h = go (eqb d 0x3D) refl
         where
-          go : (t : Bool) → eqb d 0x3D ≡ t → unbase64 (a ∷ b ∷ c ∷ d ∷ []) ≡ none
+          go : (t : Bool) → eqb d 0x3D ≡ t → unbase64 (a ∷ b ∷ c ∷ d ∷ []) ≡ None
           go true e = let w : (d ∷ []) ≡ 0x3D ∷ [] = cc (eqb-true d 0x3D e) in rw (ea, eb, e) (rw unpadded (rw (ec, h w)))
           go false e = rw (ea, eb, e) (rw (ec, f d [] refl))
       no-fourth (d ∷ e ∷ l) f h = rw (ea, eb, ec, f d (e ∷ l) refl)
 
-      pad : (l : List ℕ) → l ≡ 0x3D ∷ [] → eqb (z % 4) 0 ≡ true → unbase64 (a ∷ b ∷ c ∷ l) ≡ some ((x * 4 + y / 16) ∷ (y % 16 * 16 + z / 4) ∷ [])
+      pad : (l : List ℕ) → l ≡ 0x3D ∷ [] → eqb (z % 4) 0 ≡ true → unbase64 (a ∷ b ∷ c ∷ l) ≡ Some ((x * 4 + y / 16) ∷ (y % 16 * 16 + z / 4) ∷ [])
       unfolding unbase64 last_group also only_if
       pad l e h = rw (e, ea, eb) (rw unpadded (rw (ec, h)))
 
-      full : (d w : ℕ) → base64_value d ≡ some w → (l : List ℕ)
+      full : (d w : ℕ) → base64_value d ≡ Some w → (l : List ℕ)
           → unbase64 (a ∷ b ∷ c ∷ d ∷ l) ≡ followed ((x * 4 + y / 16) ∷ (y % 16 * 16 + z / 4) ∷ (z % 4 * 64 + w) ∷ []) (unbase64 l)
       unfolding unbase64 last_group full_group also followed base64_value pick
-      full d w ed [] = rw (ea, eb) (rw (ne_eqb d 0x3D (λ e. let v : none ≡ some w = (rw e at ed) in let n : ◌≡◌ {A = ℕ} 0 1 = cc in omega arith)) (rw (ec, ed)))
+      full d w ed [] = rw (ea, eb) (rw (ne_eqb d 0x3D (λ e. let v : None ≡ Some w = (rw e at ed) in let n : ◌≡◌ {A = ℕ} 0 1 = cc in omega arith)) (rw (ec, ed)))
       full d w ed (e ∷ l) = rw (ea, eb, ec, ed)
 
 -- ---- the second half of a group of four
@@ -203,7 +203,7 @@ module _ {s : List ℕ} {i z p : ℕ} (d : Digit base64_value s i z p) where
 -- ---- a group of four
 
 module _ {s : List ℕ} {i x p : ℕ} (d : Digit base64_value s i x p) where
-  pub base64_half : Without base64_value s p → unbase64 (denoted s i) ≡ none
+  pub base64_half : Without base64_value s p → unbase64 (denoted s i) ≡ None
   base64_half f = ap unbase64 d.here ∙ no_second d.char x d.is (denoted s p) f.first
 
   pub base64-first : {y q : ℕ} → Digit base64_value s p y q → (r : Group) → Tail s q x y r → First unbase64 s (unbase64 (denoted s i)) i r
@@ -222,13 +222,13 @@ module _ {s : List ℕ} {i x p : ℕ} (d : Digit base64_value s i x p) where
 
 followed-nil : (o : Option (List ℕ)) → o ≡ followed [] o
 unfolding followed also
-followed-nil none = refl
-followed-nil (some os) = refl
+followed-nil None = refl
+followed-nil (Some os) = refl
 
 followed-again : (xs ys : List ℕ) (o : Option (List ℕ)) → followed xs (followed ys o) ≡ followed (xs ++ ys) o
 unfolding followed also
-followed-again xs ys none = refl
-followed-again xs ys (some os) = rw append_assoc
+followed-again xs ys None = refl
+followed-again xs ys (Some os) = rw append_assoc
 
 -- up to i the string at p has n octets, which are stored from j on
 pub record Decoding (octets : List ℕ → Option (List ℕ)) (s : List ℕ) (p : ℕ) (before : List ℕ) (j : ℕ) (now : List ℕ) (i n : ℕ) : Type 0 where
@@ -243,15 +243,15 @@ pub decoding-start : (octets : List ℕ → Option (List ℕ)) (s : List ℕ) (p
 decoding-start octets s p before j = record { xs = []; inv = followed-nil (octets (denoted s p)); count = refl; stored = refl; few = omega arith; kept = refl }
 
 module _ {octets : List ℕ → Option (List ℕ)} {s : List ℕ} {p : ℕ} {before : List ℕ} {j : ℕ} {now : List ℕ} {i n : ℕ} (d : Decoding octets s p before j now i n) where
-  pub decoding-end : octets (denoted s i) ≡ some [] → (found.Octets n ≡ found_of (octets (denoted s p))) × Stored now before j (octets (denoted s p))
+  pub decoding-end : octets (denoted s i) ≡ Some [] → (Some n ≡ option_map length (octets (denoted s p))) × Stored now before j (octets (denoted s p))
   unfolding followed also
   decoding-end e =
-      let w : octets (denoted s p) ≡ some d.xs = d.inv ∙ ap (followed d.xs) e ∙ ap (λ (l : List ℕ). some l) (append-nil d.xs) in
-      rw w (ap (λ (k : ℕ). found.Octets k) (sym d.count), d.stored)
+      let w : octets (denoted s p) ≡ Some d.xs = d.inv ∙ ap (followed d.xs) e ∙ ap (λ (l : List ℕ). Some l) (append-nil d.xs) in
+      rw w (ap (λ (k : ℕ). Some k) (sym d.count), d.stored)
 
-  pub decoding-bad : octets (denoted s i) ≡ none → (found.Bad ≡ found_of (octets (denoted s p))) × Stored now before j (octets (denoted s p))
+  pub decoding-bad : octets (denoted s i) ≡ None → (None ≡ option_map length (octets (denoted s p))) × Stored now before j (octets (denoted s p))
   unfolding followed also
-  decoding-bad e = let w : octets (denoted s p) ≡ none = d.inv ∙ ap (followed d.xs) e in rw w (refl, tt)
+  decoding-bad e = let w : octets (denoted s p) ≡ None = d.inv ∙ ap (followed d.xs) e in rw w (refl, tt)
 
   module _ {x y z k q : ℕ} (g : Grouped octets s (octets (denoted s i)) i x y z k q) where
     pub group_length : k ≡ length (take k (x ∷ y ∷ z ∷ []))

@@ -131,6 +131,21 @@ module _ {n m : ℕ} {before now : List ℕ} {k i : ℕ} (p : PuttingDigits n m 
         kept = l ∙ p.kept;
       }
 
+  -- more than one digit is left while the place is not the first
+  pub putting_more : 1 ≤ i → 10 ≤ m
+  putting_more h = go (ltb m 10) refl
+    where
+      go : (t : Bool) → ltb m 10 ≡ t → 10 ≤ m
+      go true e = absurd (omega (arith, p.many, ap length (digits_last p.left (ltb-true m 10 e))))
+      go false e = ltb-false m 10 e
+
+  pub putting_small : i ≡ 0 → m < 10
+  putting_small h = go (ltb m 10) refl
+    where
+      go : (t : Bool) → ltb m 10 ≡ t → m < 10
+      go true e = ltb-true m 10 e
+      go false e = absurd (omega (arith, putting_inside (ltb-false m 10 e)))
+
   pub putting_done : m < 10 → {after : List ℕ} → after ≡ set now k (0x30 + m) → after ≡ sets before k (digits 20 n [])
   putting_done h e =
       let z : i ≡ 0 = omega (arith, p.many, ap length (digits_last p.left h)) in
@@ -148,8 +163,8 @@ module _ (n : ℕ) where
   unfolding int_text
   int-plus h = rw (lt-ltb n 9223372036854775808 h, int_text)
 
-  pub int-minus : 9223372036854775808 ≤ n → n < 18446744073709551616 → int_text n ≡ 0x2D ∷ digits 20 (18446744073709551615 - n + 1) []
+  pub int-minus : (m : ℕ) → 9223372036854775808 ≤ n → n < 18446744073709551616 → m < 18446744073709551616 → (m + n) % 18446744073709551616 ≡ 0 → int_text n ≡ 0x2D ∷ digits 20 m []
   unfolding int_text
-  int-minus h k =
-      let w : 18446744073709551616 - n ≡ 18446744073709551615 - n + 1 = omega arith in
+  int-minus m h k l e =
+      let w : 18446744073709551616 - n ≡ m = omega arith in
       rw (le-ltb n 9223372036854775808 h, int_text, w)

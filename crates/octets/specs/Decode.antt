@@ -1,25 +1,18 @@
 -- What the answers of decoding stand for.
-use Rattle.std.specs.Prelude.{ℕ, ◌<◌, ◌≤◌, ◌≡◌, List, [], ◌∷◌, ◌++◌, Bool, true, false, ltb, length, take}
-use Rattle.std.proofs.Math.Option.{Option, none, some}
+use Rattle.std.specs.Prelude.{ℕ, ◌<◌, ◌≤◌, ◌≡◌, List, [], ◌∷◌, ◌++◌, ltb, length, take}
+use Rattle.std.specs.Prelude.{Option, None, Some}
 use Rattle.std.proofs.lemmas.List.Edits.{sets}
-use Rattle.jer.specs.Octets.{also, only_if, unhex, base64_value, unbase64}
+use Rattle.jer.specs.Octets.{also, only_if, base64_value, unbase64}
 use Rattle.tokens.specs.Strings.{denoted}
-use Rattle.octets.specs.declared.decode.Found.{Found}
-use Rattle.octets.specs.declared.decode.Found.TheVariants as found
 use Rattle.octets.specs.declared.decode.Next.{Next}
 use Rattle.octets.specs.declared.decode.Next.TheVariants as next
 use Rattle.octets.specs.declared.decode.Group.{Group}
 use Rattle.octets.specs.declared.decode.Group.TheVariants as group
 
--- how many octets there are, if the characters are those of octets
-abbrev pub found_of : Option (List ℕ) → Found
-found_of none = found.Bad
-found_of (some os) = found.Octets (length os)
-
 -- the octets stand in the pool from j on, and the rest is as it was; of a string that has none nothing is said
 abbrev pub Stored : List ℕ → List ℕ → ℕ → Option (List ℕ) → Type 0
-Stored after before j none = Unit {0}
-Stored after before j (some os) = after ≡ sets before j os
+Stored after before j None = Unit {0}
+Stored after before j (Some os) = after ≡ sets before j os
 
 -- ---- one character
 
@@ -31,7 +24,7 @@ ascii_value c = only_if (ltb c 0x80) c
 pub record Digit (value : ℕ → Option ℕ) (s : List ℕ) (i x q : ℕ) : Type 0 where
   pub char : ℕ
   pub here : denoted s i ≡ char ∷ denoted s q
-  pub is : value char ≡ some x
+  pub is : value char ≡ Some x
   pub inside : i < length s
   pub ahead : i < q
 
@@ -40,7 +33,7 @@ pub record NoDigit (value : ℕ → Option ℕ) (s : List ℕ) (i : ℕ) : Type 
   pub char : ℕ
   pub rest : List ℕ
   pub here : denoted s i ≡ char ∷ rest
-  pub is : value char ≡ none
+  pub is : value char ≡ None
 
 -- the character at i, by its value
 abbrev pub Reads : (ℕ → Option ℕ) → List ℕ → ℕ → Next → Type 0
@@ -52,7 +45,7 @@ Reads value s i next.Other = NoDigit value s i
 
 -- some octets and those that follow them
 unfoldable pub followed : List ℕ → Option (List ℕ) → Option (List ℕ)
-followed xs rest = also rest (λ os. some (xs ++ os))
+followed xs rest = also rest (λ os. Some (xs ++ os))
 
 -- a group of octets stands before those that follow it at q
 pub record Grouped (octets : List ℕ → Option (List ℕ)) (s : List ℕ) (whole : Option (List ℕ)) (i x y z n q : ℕ) : Type 0 where
@@ -63,9 +56,9 @@ pub record Grouped (octets : List ℕ → Option (List ℕ)) (s : List ℕ) (who
 
 -- the octets `whole`, whose last characters stand at i, by their first group
 abbrev pub First : (List ℕ → Option (List ℕ)) → List ℕ → Option (List ℕ) → ℕ → Group → Type 0
-First octets s whole i group.End = whole ≡ some []
+First octets s whole i group.End = whole ≡ Some []
 First octets s whole i (group.Octets x y z n q) = Grouped octets s whole i x y z n q
-First octets s whole i group.Other = whole ≡ none
+First octets s whole i group.Other = whole ≡ None
 
 -- at i
 abbrev pub Groups : (List ℕ → Option (List ℕ)) → List ℕ → ℕ → Group → Type 0
@@ -73,9 +66,4 @@ Groups octets s i r = First octets s (octets (denoted s i)) i r
 
 -- at i, after the Base64 digits of x and y
 abbrev pub Tail : List ℕ → ℕ → ℕ → ℕ → Group → Type 0
-Tail s i x y r = (a b : ℕ) → base64_value a ≡ some x → base64_value b ≡ some y → First unbase64 s (unbase64 (a ∷ b ∷ denoted s i)) i r
-
--- Base64 or hexadecimal
-abbrev pub decoding : Bool → List ℕ → Option (List ℕ)
-decoding true cs = unbase64 cs
-decoding false cs = unhex cs
+Tail s i x y r = (a b : ℕ) → base64_value a ≡ Some x → base64_value b ≡ Some y → First unbase64 s (unbase64 (a ∷ b ∷ denoted s i)) i r

@@ -1,20 +1,12 @@
 // Octets from the characters that a string denotes, from the place after its opening quotation mark.
-ghost use Rattle.std.specs.Prelude.{◌≡◌, ◌≤◌, ◌<◌, length};
+ghost use Rattle.std.specs.Prelude.{◌≡◌, ◌≤◌, ◌<◌, ℕ, List, Option, length, IfSome};
+ghost use Rattle.std.specs.Option.{option_map};
 ghost use Rattle.jer.specs.Octets.{hex_value, unhex, base64_value, unbase64};
 ghost use Rattle.tokens.specs.Strings.{denoted};
-ghost use Rattle.octets.specs.Decode.{found_of, Stored, ascii_value, Reads, Groups, Tail, decoding};
+ghost use Rattle.octets.specs.Decode.{Stored, ascii_value, Reads, Groups, Tail};
 
-use slices::{digit, put_all};
+use slices::{hex_value, put_all};
 use tokens::strings::{Piece, piece_at, same_as};
-
-// What a string of octets has.
-#[derive(Clone, Copy)]
-pub enum Found {
-    // So many octets.
-    Octets(usize),
-    // No octets: another character, or a group that is not whole.
-    Bad,
-}
 
 // The next character of a string, or the next digit.
 #[derive(Clone, Copy)]
@@ -32,7 +24,7 @@ pub enum Next {
 pub enum Group {
     // The string's end.
     End,
-    // The first so many of three octets, and the place after the group.
+    // The first so many of three octets, and the place after the group. The octets stand by value: a slice would need a buffer beside the enum.
     Octets(u8, u8, u8, usize, usize),
     // No group.
     Other,
@@ -62,6 +54,22 @@ pub fn next_char(s: &[u8], i: usize) -> Next
     }
 }
 
+// A Base64 digit's value.
+#[tactic(auto, unfolding(jer::specs::Octets::base64_value, json_text::specs::Bytes::pick))]
+pub fn base64_value(b: u8) -> Option<u8>
+    ensures value { result ≡ base64_value b }
+    ensures few { IfSome result (λ x. x < 64) }
+{
+    match b {
+        0x2B => Some(62),
+        0x2F => Some(63),
+        0x30..=0x39 => Some(b + 0x04),
+        0x41..=0x5A => Some(b - 0x41),
+        0x61..=0x7A => Some(b - 0x47),
+        _ => None,
+    }
+}
+
 // The hexadecimal digit at i.
 fn hex_digit(s: &[u8], i: usize) -> Next
     requires { length s.now ≤ 65536 }
@@ -70,30 +78,10 @@ fn hex_digit(s: &[u8], i: usize) -> Next
     match next_char(s, i) {
         Next::End => Next::End,
         Next::Other => Next::Other,
-        Next::Is(b, q) => {
-            let x = digit(b as u32);
-            if x == 16 {
-                return Next::Other;
-            }
-            Next::Is(x as u8, q)
-        }
-    }
-}
-
-// Two hexadecimal digits.
-fn hex_group(s: &[u8], i: usize) -> Group
-    requires { length s.now ≤ 65536 }
-    ensures { Groups unhex s.now i result }
-{
-    match hex_digit(s, i) {
-        Next::End => Group::End,
-        Next::Other => Group::Other,
-        Next::Is(x, p) => {
-            let Next::Is(y, q) = hex_digit(s, p) else {
-                return Group::Other;
-            };
-            Group::Octets(x * 16 + y, 0, 0, 1, q)
-        }
+        Next::Is(b, q) => match hex_value(b) {
+            Some(x) => Next::Is(x, q),
+            None => Next::Other,
+        },
     }
 }
 
@@ -105,13 +93,9 @@ fn base64_digit(s: &[u8], i: usize) -> Next
     match next_char(s, i) {
         Next::End => Next::End,
         Next::Other => Next::Other,
-        Next::Is(b, q) => match b {
-            0x2B => Next::Is(62, q),
-            0x2F => Next::Is(63, q),
-            0x30..=0x39 => Next::Is(b + 0x04, q),
-            0x41..=0x5A => Next::Is(b - 0x41, q),
-            0x61..=0x7A => Next::Is(b - 0x47, q),
-            _ => Next::Other,
+        Next::Is(b, q) => match base64_value(b) {
+            Some(x) => Next::Is(x, q),
+            None => Next::Other,
         },
     }
 }
@@ -142,50 +126,74 @@ fn base64_tail(s: &[u8], i: usize, x: u8, y: u8) -> Group
     Group::Octets(x * 4 + y / 16, y % 16 * 16 + z / 4, z % 4 * 64 + w, 3, q)
 }
 
-// Four Base64 digits.
-fn base64_group(s: &[u8], i: usize) -> Group
-    requires { length s.now ≤ 65536 }
-    ensures { Groups unbase64 s.now i result }
-{
-    match base64_digit(s, i) {
-        Next::End => Group::End,
-        Next::Other => Group::Other,
-        Next::Is(x, p) => {
-            let Next::Is(y, q) = base64_digit(s, p) else {
-                return Group::Other;
-            };
-            base64_tail(s, q, x, y)
+// A way to write octets as characters, group by group.
+trait Coding {
+    // The octets of characters.
+    ghost octets: { List ℕ → Option (List ℕ) };
+
+    // The group at i.
+    fn group(s: &[u8], i: usize) -> Group
+        requires { length s.now ≤ 65536 }
+        ensures { Groups octets s.now i result };
+}
+
+// Two hexadecimal digits a group.
+struct Hex;
+
+impl Coding for Hex {
+    ghost octets = { unhex };
+
+    fn group(s: &[u8], i: usize) -> Group {
+        match hex_digit(s, i) {
+            Next::End => Group::End,
+            Next::Other => Group::Other,
+            Next::Is(x, p) => {
+                let Next::Is(y, q) = hex_digit(s, p) else {
+                    return Group::Other;
+                };
+                Group::Octets(x * 16 + y, 0, 0, 1, q)
+            }
         }
     }
 }
 
-// The next group, of Base64 or of hexadecimal.
-fn next_group(s: &[u8], i: usize, base64: bool) -> Group
-    requires { length s.now ≤ 65536 }
-    ensures { Groups (decoding base64) s.now i result }
-{
-    if base64 {
-        base64_group(s, i)
-    } else {
-        hex_group(s, i)
+// Four Base64 digits a group.
+struct Base64;
+
+impl Coding for Base64 {
+    ghost octets = { unbase64 };
+
+    fn group(s: &[u8], i: usize) -> Group {
+        match base64_digit(s, i) {
+            Next::End => Group::End,
+            Next::Other => Group::Other,
+            Next::Is(x, p) => {
+                let Next::Is(y, q) = base64_digit(s, p) else {
+                    return Group::Other;
+                };
+                base64_tail(s, q, x, y)
+            }
+        }
     }
 }
 
-// Stores the octets of the string at p, from j on, as far as there is room.
-fn octets(s: &[u8], p: usize, pool: &mut [u8], j: usize, base64: bool) -> Found
+// Stores the octets of the string at p, from j on, as far as there is room. Returns how many they are, if its
+// characters are those of octets.
+fn octets<C: Coding>(s: &[u8], p: usize, pool: &mut [u8], j: usize) -> Option<usize>
     requires { (length s.now ≤ 65536) × (j ≤ 4294967296) }
-    ensures value { result ≡ found_of (decoding base64 (denoted s.now p)) }
-    ensures stored { Stored pool.new pool.old j (decoding base64 (denoted s.now p)) }
+    ensures value { result ≡ option_map length (C.octets (denoted s.now p)) }
+    ensures stored { Stored pool.new pool.old j (C.octets (denoted s.now p)) }
 {
     let mut i = p;
     let mut n = 0;
+    // A group ends where its last character does: the step varies.
     loop {
-        match next_group(s, i, base64) {
+        match C::group(s, i) {
             Group::End => {
-                return Found::Octets(n);
+                return Some(n);
             }
             Group::Other => {
-                return Found::Bad;
+                return None;
             }
             Group::Octets(x, y, z, len, q) => {
                 let group = [x, y, z];
@@ -198,19 +206,19 @@ fn octets(s: &[u8], p: usize, pool: &mut [u8], j: usize, base64: bool) -> Found
 }
 
 // The octets of the string at p in hexadecimal, from j on.
-pub fn hex_octets(s: &[u8], p: usize, pool: &mut [u8], j: usize) -> Found
+pub fn hex_octets(s: &[u8], p: usize, pool: &mut [u8], j: usize) -> Option<usize>
     requires { (length s.now ≤ 65536) × (j ≤ 4294967296) }
-    ensures value { result ≡ found_of (unhex (denoted s.now p)) }
+    ensures value { result ≡ option_map length (unhex (denoted s.now p)) }
     ensures stored { Stored pool.new pool.old j (unhex (denoted s.now p)) }
 {
-    octets(s, p, pool, j, false)
+    octets::<Hex>(s, p, pool, j)
 }
 
 // The octets of the string at p in Base64, from j on.
-pub fn base64_octets(s: &[u8], p: usize, pool: &mut [u8], j: usize) -> Found
+pub fn base64_octets(s: &[u8], p: usize, pool: &mut [u8], j: usize) -> Option<usize>
     requires { (length s.now ≤ 65536) × (j ≤ 4294967296) }
-    ensures value { result ≡ found_of (unbase64 (denoted s.now p)) }
+    ensures value { result ≡ option_map length (unbase64 (denoted s.now p)) }
     ensures stored { Stored pool.new pool.old j (unbase64 (denoted s.now p)) }
 {
-    octets(s, p, pool, j, true)
+    octets::<Base64>(s, p, pool, j)
 }

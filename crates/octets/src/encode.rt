@@ -7,6 +7,7 @@ ghost use Rattle.jer.specs.Calls.{amount};
 use slices::put_all;
 
 // A hexadecimal digit in upper case.
+#[tactic(auto, unfolding(jer::specs::Octets::hex_digit))]
 pub fn hex_digit(x: u8) -> u8
     requires { x < 16 }
     ensures { result ≡ hex_digit x }
@@ -20,14 +21,10 @@ pub fn put_hex(text: &mut [u8], k: usize, octets: &[u8]) -> usize
     ensures value { result ≡ length (hex octets.now) }
     ensures text_after { text.new ≡ sets text.old k (hex octets.now) }
 {
-    let mut i = 0;
     let mut n = 0;
-    while i < octets.len() {
-        let b = octets[i];
-        let pair = [hex_digit(b / 16), hex_digit(b % 16)];
-        put_all(text, k + n, &pair[..]);
+    for b in octets {
+        put_all(text, k + n, &[hex_digit(b / 16), hex_digit(b % 16)]);
         n += 2;
-        i += 1;
     }
     n
 }
@@ -36,10 +33,11 @@ pub fn put_hex(text: &mut [u8], k: usize, octets: &[u8]) -> usize
 pub fn hex_len(octets: &[u8]) -> u64
     ensures { result ≡ amount (length (hex octets.now)) }
 {
-    (octets.len() as u64) * 2
+    octets.len() as u64 * 2
 }
 
 // A Base64 digit.
+#[tactic(auto, unfolding(jer::specs::Octets::base64_digit, json_text::specs::Bytes::pick))]
 fn base64_digit(x: u8) -> u8
     requires { x < 64 }
     ensures { result ≡ base64_digit x }
@@ -71,33 +69,35 @@ pub fn put_base64(text: &mut [u8], k: usize, octets: &[u8]) -> usize
     ensures value { result ≡ length (base64 octets.now) }
     ensures text_after { text.new ≡ sets text.old k (base64 octets.now) }
 {
-    let mut i = 0;
+    let mut left = octets;
     let mut n = 0;
-    while 2 < octets.len() - i {
-        let four = group(octets[i], octets[i + 1], octets[i + 2]);
-        put_all(text, k + n, &four[..]);
+    // Three octets a turn, and what is left.
+    while let [a, b, c, rest @ ..] = left {
+        put_all(text, k + n, &group(*a, *b, *c));
         n += 4;
-        i += 3;
+        left = rest;
     }
-    if octets.len() - i == 2 {
-        let mut four = group(octets[i], octets[i + 1], 0);
-        four[3] = 0x3D;
-        put_all(text, k + n, &four[..]);
-        return n + 4;
+    match left {
+        [] => n,
+        [a] => {
+            let mut four = group(*a, 0, 0);
+            four[2] = 0x3D;
+            four[3] = 0x3D;
+            put_all(text, k + n, &four);
+            n + 4
+        }
+        [a, b, ..] => {
+            let mut four = group(*a, *b, 0);
+            four[3] = 0x3D;
+            put_all(text, k + n, &four);
+            n + 4
+        }
     }
-    if octets.len() - i == 1 {
-        let mut four = group(octets[i], 0, 0);
-        four[2] = 0x3D;
-        four[3] = 0x3D;
-        put_all(text, k + n, &four[..]);
-        return n + 4;
-    }
-    n
 }
 
 // How many bytes it makes.
 pub fn base64_len(octets: &[u8]) -> u64
     ensures { result ≡ amount (length (base64 octets.now)) }
 {
-    ((octets.len() as u64) + 2) / 3 * 4
+    (octets.len() as u64 + 2) / 3 * 4
 }

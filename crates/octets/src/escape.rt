@@ -9,19 +9,20 @@ use crate::amount::add;
 use crate::encode::hex_digit;
 use slices::{put, put_all};
 
-// The letter of a byte's short escape, 0 if it has none.
-fn letter_for(b: u8) -> u8
+// The letter of a byte's short escape, if it has one.
+#[tactic(auto, unfolding(crate::specs::Encode::letter_for, json_text::specs::Bytes::pick))]
+fn letter_for(b: u8) -> Option<u8>
     ensures { result ≡ letter_for b }
 {
     match b {
-        0x22 => 0x22,
-        0x5C => 0x5C,
-        0x08 => 0x62,
-        0x09 => 0x74,
-        0x0A => 0x6E,
-        0x0C => 0x66,
-        0x0D => 0x72,
-        _ => 0,
+        0x22 => Some(0x22),
+        0x5C => Some(0x5C),
+        0x08 => Some(0x62),
+        0x09 => Some(0x74),
+        0x0A => Some(0x6E),
+        0x0C => Some(0x66),
+        0x0D => Some(0x72),
+        _ => None,
     }
 }
 
@@ -31,18 +32,19 @@ fn put_escaped(text: &mut [u8], k: usize, b: u8) -> usize
     ensures value { result ≡ length (escaped b) }
     ensures text_after { text.new ≡ sets text.old k (escaped b) }
 {
-    let letter = letter_for(b);
-    if letter != 0 {
-        let two = [0x5C, letter];
-        put_all(text, k, &two[..]);
+    if let Some(letter) = letter_for(b) {
+        put_all(text, k, &[0x5C, letter]);
         return 2;
     }
     if 0x20 <= b {
         put(text, k, b);
         return 1;
     }
-    let six = [0x5C, 0x75, 0x30, 0x30, hex_digit(b / 16), hex_digit(b % 16)];
-    put_all(text, k, &six[..]);
+    put_all(
+        text,
+        k,
+        &[0x5C, 0x75, 0x30, 0x30, hex_digit(b / 16), hex_digit(b % 16)],
+    );
     6
 }
 
@@ -50,10 +52,10 @@ fn put_escaped(text: &mut [u8], k: usize, b: u8) -> usize
 fn escaped_len(b: u8) -> u64
     ensures { result ≡ length (escaped b) }
 {
-    if letter_for(b) != 0 {
-        return 2;
+    match letter_for(b) {
+        Some(_) => 2,
+        None => { if 0x20 <= b { 1 } else { 6 } }
     }
-    if 0x20 <= b { 1 } else { 6 }
 }
 
 // Stores the bytes of a string, escaped where they must be. Returns how many bytes that makes.
@@ -62,12 +64,9 @@ pub fn put_escapes(text: &mut [u8], k: usize, octets: &[u8]) -> usize
     ensures value { result ≡ length (escapes octets.now) }
     ensures text_after { text.new ≡ sets text.old k (escapes octets.now) }
 {
-    let mut i = 0;
     let mut n = 0;
-    while i < octets.len() {
-        let b = octets[i];
-        n += put_escaped(text, k + n, b);
-        i += 1;
+    for b in octets {
+        n += put_escaped(text, k + n, *b);
     }
     n
 }
@@ -76,12 +75,9 @@ pub fn put_escapes(text: &mut [u8], k: usize, octets: &[u8]) -> usize
 pub fn escapes_len(octets: &[u8]) -> u64
     ensures { result ≡ amount (length (escapes octets.now)) }
 {
-    let mut i = 0;
     let mut n: u64 = 0;
-    while i < octets.len() {
-        let b = octets[i];
-        n = add(n, escaped_len(b));
-        i += 1;
+    for b in octets {
+        n = add(n, escaped_len(*b));
     }
     n
 }

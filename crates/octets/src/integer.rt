@@ -12,6 +12,7 @@ fn digit_count(n: u64) -> usize
 {
     let mut m = n;
     let mut count = 1;
+    // No index: the number falls.
     while 10 <= m {
         m /= 10;
         count += 1;
@@ -28,11 +29,9 @@ fn put_digits(text: &mut [u8], k: usize, n: u64) -> usize
 {
     let count = digit_count(n);
     let mut m = n;
-    let mut i = count - 1;
-    while 10 <= m {
-        put(text, k + i, 0x30 + (m % 10) as u8);
+    for j in 1..count {
+        put(text, k + (count - j), 0x30 + (m % 10) as u8);
         m /= 10;
-        i -= 1;
     }
     put(text, k, 0x30 + m as u8);
     count
@@ -42,7 +41,7 @@ fn put_digits(text: &mut [u8], k: usize, n: u64) -> usize
 fn joined(low: u32, high: u32) -> u64
     ensures { result ≡ high * 2 ^ 32 + low }
 {
-    (high as u64) * 4294967296 + (low as u64)
+    u64::from(high) * 4294967296 + u64::from(low)
 }
 
 // Stores the INTEGER of two halves. Returns how many bytes that makes.
@@ -56,7 +55,7 @@ pub fn put_integer(text: &mut [u8], k: usize, low: u32, high: u32) -> usize
         return put_digits(text, k, n);
     }
     put(text, k, 0x2D);
-    1 + put_digits(text, k + 1, 18446744073709551615 - n + 1)
+    1 + put_digits(text, k + 1, n.wrapping_neg())
 }
 
 // How many bytes it makes.
@@ -67,5 +66,5 @@ pub fn integer_len(low: u32, high: u32) -> u64
     if n < 9223372036854775808 {
         return digit_count(n) as u64;
     }
-    1 + digit_count(18446744073709551615 - n + 1) as u64
+    1 + digit_count(n.wrapping_neg()) as u64
 }

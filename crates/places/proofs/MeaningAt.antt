@@ -1,9 +1,11 @@
 -- Reading by places gives what the typed reading of the text's tree gives, and ends where the value ends.
+use Rattle.jer.specs.declared.Token.{Token}
+use Rattle.jer.specs.declared.Token.TheVariants as tok
 use Prim.Native.Nat.{ℕ, zero, suc, ◌^◌, ◌≤◌, ◌<◌}
 use mathlib.Core.Path.{◌≡◌, refl, sym, ◌∙◌}
 use mathlib.Core.List.{List, [], ◌++◌, append-nil}
 use mathlib.Core.Bool.{Bool, true, false, ◌&&◌, not}
-use mathlib.Core.Option.{Option, none, some}
+use Rattle.std.specs.Prelude.{Option, None, Some}
 use native.Mathlib.Omega.{arith}
 use borrow.Author.Tests.{lt-ltb, eqb-true}
 use lib.Dec.{eqb}
@@ -12,7 +14,7 @@ use Rattle.json_text.specs.Bytes.{past}
 use Rattle.json_text.specs.Tree.{Json, Items, Members, place_of}
 use Rattle.json_text.specs.Grammar as grammar
 use Rattle.json_text.specs.Grammar.{Value, Text}
-use Rattle.jer.specs.Table.{Table, SEQUENCE, SEQUENCE-OF, CHOICE, kind_of, is_type, extensible, is_array, is_unwrapped, type_at, Token, t_array, t_object, alternative}
+use Rattle.jer.specs.Table.{Table, SEQUENCE, SEQUENCE-OF, CHOICE, kind_of, is_type, extensible, is_array, is_unwrapped, type_at, alternative}
 use Rattle.jer.specs.Value.{Val, v_choice}
 use Rattle.jer.specs.Answer.{Res, ok, no, bind}
 use Rattle.jer.specs.Read.{read, picked, unwrapping, read_array, read_braces, elements, entries}
@@ -62,12 +64,12 @@ module _ (t : Table) (s : List ℕ) (c : Sane t) (few : length s ≤ 65536) wher
     picked-means : (r : ℕ) → is_type t r ≡ true → is_unwrapped t r ≡ true → (x : Option ℕ) → alternative t r (token_for j) ≡ x
         → picked_at (plain (token_for j)) t r p x ≡ ending q (picked t r (place_of j) (λ u. plain_of j t u) x)
     unfolding picked_at picked bind ending
-    picked-means r h w none e = go' (extensible t r) refl
+    picked-means r h w None e = go' (extensible t r) refl
       where
-        go' : (b : Bool) → extensible t r ≡ b → picked_at (plain (token_for j)) t r p none ≡ ending q (picked t r (place_of j) (λ u. plain_of j t u) none)
+        go' : (b : Bool) → extensible t r ≡ b → picked_at (plain (token_for j)) t r p None ≡ ending q (picked t r (place_of j) (λ u. plain_of j t u) None)
         go' true y = rw (y, picked_at, picked, value-place k.value)
         go' false y = rw (y, picked_at, picked, value-place k.value)
-    picked-means r h w (some i) e =
+    picked-means r h w (Some i) e =
         let l = alternative-found t r (token_for j) i e in
         let a : ℕ = type_at t r i in
         let h₁ = c.member r i h l in
@@ -88,27 +90,27 @@ module _ (t : Table) (s : List ℕ) (c : Sane t) (few : length s ≤ 65536) wher
   LeafMeans j r p q = is_leaf j ≡ true → leaf_at t s (token_for j) r p ≡ ending q (plain_of j t r)
 
   module _ (d : ℕ) (value : Reader) (reads : Reads t s d value) where
-    array_plain : {is : Items} (p q r : ℕ) → is_type t r ≡ true → InArray d s is p q → bracket_at value d t s t_array r p ≡ ending q (read_array t p (elements is t) r)
+    array_plain : {is : Items} (p q r : ℕ) → is_type t r ≡ true → InArray d s is p q → bracket_at value d t s tok.Array r p ≡ ending q (read_array t p (elements is t) r)
     unfolding bracket_at read_array bind ending
     array_plain {is} p q r h k = list (eqb (kind_of t r) SEQUENCE-OF) refl
       where
-        sequence : (b : Bool) → is_array t r ≡ b → eqb (kind_of t r) SEQUENCE-OF ≡ false → bracket_at value d t s t_array r p ≡ ending q (read_array t p (elements is t) r)
+        sequence : (b : Bool) → is_array t r ≡ b → eqb (kind_of t r) SEQUENCE-OF ≡ false → bracket_at value d t s tok.Array r p ≡ ending q (read_array t p (elements is t) r)
         sequence true y w = rw (w, bracket_at, read_array, y) (array-means t s d value reads r p q c h k)
         sequence false y w = rw (w, bracket_at, read_array, y)
 
-        list : (b : Bool) → eqb (kind_of t r) SEQUENCE-OF ≡ b → bracket_at value d t s t_array r p ≡ ending q (read_array t p (elements is t) r)
+        list : (b : Bool) → eqb (kind_of t r) SEQUENCE-OF ≡ b → bracket_at value d t s tok.Array r p ≡ ending q (read_array t p (elements is t) r)
         list true w = rw (w, bracket_at, read_array) (list-means t s d value reads r p q (c.element r (eqb-true (kind_of t r) SEQUENCE-OF w)) k)
         list false w = sequence (is_array t r) refl w
 
-    object-plain : {ms : Members} (p q r : ℕ) → is_type t r ≡ true → InObject d s ms p q → bracket_at value d t s t_object r p ≡ ending q (read_braces t p (entries ms t) r)
+    object-plain : {ms : Members} (p q r : ℕ) → is_type t r ≡ true → InObject d s ms p q → bracket_at value d t s tok.Object r p ≡ ending q (read_braces t p (entries ms t) r)
     unfolding bracket_at read_braces bind ending
     object-plain {ms} p q r h k = choice (eqb (kind_of t r) CHOICE) refl
       where
-        sequence : (b : Bool) → (eqb (kind_of t r) SEQUENCE && not (is_array t r)) ≡ b → eqb (kind_of t r) CHOICE ≡ false → bracket_at value d t s t_object r p ≡ ending q (read_braces t p (entries ms t) r)
+        sequence : (b : Bool) → (eqb (kind_of t r) SEQUENCE && not (is_array t r)) ≡ b → eqb (kind_of t r) CHOICE ≡ false → bracket_at value d t s tok.Object r p ≡ ending q (read_braces t p (entries ms t) r)
         sequence true y w = rw (w, bracket_at, read_braces, y) (object-means t s value r c h d reads p q k)
         sequence false y w = rw (w, bracket_at, read_braces, y)
 
-        choice : (b : Bool) → eqb (kind_of t r) CHOICE ≡ b → bracket_at value d t s t_object r p ≡ ending q (read_braces t p (entries ms t) r)
+        choice : (b : Bool) → eqb (kind_of t r) CHOICE ≡ b → bracket_at value d t s tok.Object r p ≡ ending q (read_braces t p (entries ms t) r)
         choice true w = rw (w, bracket_at, read_braces) (choice-means t s d value reads r c h p q k)
         choice false w = sequence (eqb (kind_of t r) SEQUENCE && not (is_array t r)) refl w
 

@@ -3,7 +3,7 @@ use Prim.Native.Nat.{ℕ, ◌+◌}
 use mathlib.Core.Path.{◌≡◌, refl}
 use mathlib.Core.List.{List}
 use mathlib.Core.Bool.{Bool, true, false}
-use mathlib.Core.Option.{Option, none, some}
+use Rattle.std.specs.Prelude.{Option, None, Some}
 use lib.Dec.{eqb}
 use Rattle.json_text.specs.Tree.{Json, Members, mcons}
 use Rattle.jer.specs.Table.{Table, is_type, extensible, type_at, position}
@@ -40,13 +40,13 @@ module _ (t : Table) (s : List ℕ) (d : ℕ) (value : Reader) (reads : Reads t 
   chosen-means : {j : Json} {u e : ℕ} (o p : ℕ) (a : List ℕ) → value_place s p ≡ u → Stands d s j u e → (x : Option ℕ) → position t r a ≡ x
       → chosen_at value t s r o p x ≡ ending (past_space s e + 1) (read_chosen t r o (record { place = p; name = a; is_null = null? j; means = λ r. read j t r }) x)
   unfolding chosen_at read_chosen bind ending
-  chosen-means {j} {u} {e} o p a v g none w = go' (extensible t r) refl
+  chosen-means {j} {u} {e} o p a v g None w = go' (extensible t r) refl
     where
       go' : (b : Bool) → extensible t r ≡ b
-          → chosen_at value t s r o p none ≡ ending (past_space s e + 1) (read_chosen t r o (record { place = p; name = a; is_null = null? j; means = λ r. read j t r }) none)
+          → chosen_at value t s r o p None ≡ ending (past_space s e + 1) (read_chosen t r o (record { place = p; name = a; is_null = null? j; means = λ r. read j t r }) None)
       go' true y = rw (y, chosen_at, read_chosen)
       go' false y = rw (y, chosen_at, read_chosen)
-  chosen-means {j} {u} {e} o p a v g (some i) w =
+  chosen-means {j} {u} {e} o p a v g (Some i) w =
       let l = position-found t r a i w in
       rw (v, reads.reads g (type_at t r i) (c.member r i h l.1)) (made_ends e (λ q. past_space s q + 1) (v_choice i) (read j t (type_at t r i)))
 

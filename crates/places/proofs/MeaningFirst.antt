@@ -1,4 +1,6 @@
 -- What the first byte of a value tells: its token, whether it is null, and whether it is a word.
+use Rattle.jer.specs.declared.Token.{Token}
+use Rattle.jer.specs.declared.Token.TheVariants as tok
 use Prim.Native.Nat.{ℕ, zero, suc}
 use mathlib.Core.Path.{◌≡◌, refl, sym, ◌∙◌}
 use mathlib.Core.List.{List, [], ◌∷◌}
@@ -9,7 +11,6 @@ use lib.Dec.{eqb}
 use Rattle.json_text.specs.Bytes.{In, Row, on, pick}
 use Rattle.json_text.specs.Tree.{Json, jnull, jbool, jint, jreal, jstr, jarr, jobj}
 use Rattle.json_text.proofs.Feed.{in-true, pick-none}
-use Rattle.jer.specs.Table.{Token, t_null, t_boolean, t_number, t_string, t_array, t_object}
 use Rattle.jer.specs.Read.{null?}
 use Rattle.tokens.specs.Places.{byte_at}
 use Rattle.tokens.specs.Skip.{is_opening, past_word, past_with, past_value}
@@ -21,27 +22,27 @@ use Rattle.places.proofs.MeaningStands.{Stands, stands_byte, stands-passed}
 -- ---- its token
 
 abbrev pub token_for : Json → Token
-token_for (jnull p) = t_null
-token_for (jbool p b) = t_boolean
-token_for (jint p m n) = t_number
-token_for (jreal p) = t_number
-token_for (jstr p s) = t_string
-token_for (jarr p is) = t_array
-token_for (jobj p ms) = t_object
+token_for (jnull p) = tok.Null
+token_for (jbool p b) = tok.Boolean
+token_for (jint p m n) = tok.Number
+token_for (jreal p) = tok.Number
+token_for (jstr p s) = tok.String
+token_for (jarr p is) = tok.Array
+token_for (jobj p ms) = tok.Object
 
 abbrev token_rows : List (Row Token)
 token_rows =
-    on 0x22 0x22 (λ b. t_string) ∷ on 0x5B 0x5B (λ b. t_array) ∷ on 0x66 0x66 (λ b. t_boolean) ∷ on 0x6E 0x6E (λ b. t_null) ∷ on 0x74 0x74 (λ b. t_boolean) ∷ on 0x7B 0x7B (λ b. t_object) ∷ []
+    on 0x22 0x22 (λ b. tok.String) ∷ on 0x5B 0x5B (λ b. tok.Array) ∷ on 0x66 0x66 (λ b. tok.Boolean) ∷ on 0x6E 0x6E (λ b. tok.Null) ∷ on 0x74 0x74 (λ b. tok.Boolean) ∷ on 0x7B 0x7B (λ b. tok.Object) ∷ []
 
-byte_token : {j : Json} {b : ℕ} → FirstByte j b → pick b token_rows t_number ≡ token_for j
+byte_token : {j : Json} {b : ℕ} → FirstByte j b → pick b token_rows tok.Number ≡ token_for j
 unfolding pick
 byte_token of_null = refl
 byte_token of_true = refl
 byte_token of_false = refl
 byte_token of_minus = refl
-byte_token (of_digit {b = b} h) = pick-none b token_rows t_number (omega arith)
+byte_token (of_digit {b = b} h) = pick-none b token_rows tok.Number (omega arith)
 byte_token of_real_minus = refl
-byte_token (of_real_digit {b = b} h) = pick-none b token_rows t_number (omega arith)
+byte_token (of_real_digit {b = b} h) = pick-none b token_rows tok.Number (omega arith)
 byte_token of_string = refl
 byte_token of_array = refl
 byte_token of_object = refl

@@ -1,13 +1,14 @@
 -- Names of one type: positions, and entries looked up by them.
+use Rattle.jer.specs.declared.Token.{Token}
 use Prim.Native.Nat.{ℕ, zero, suc, ◌+◌, ◌≤◌, ◌<◌}
 use mathlib.Core.Path.{◌≡◌, refl, sym, ◌∙◌}
 use mathlib.Core.List.{List, [], ◌∷◌}
 use mathlib.Core.Bool.{Bool, true, false}
-use mathlib.Core.Option.{some}
+use Rattle.std.specs.Prelude.{Some}
 use native.Mathlib.Omega.{arith}
 use borrow.Author.Tests.{eqb-true, eq-eqb, ltb-true, ltb-false}
 use lib.Dec.{eqb, ltb}
-use Rattle.jer.specs.Table.{Table, is_type, count_of, name_at, first_where, same_bytes, position, Token, alternative}
+use Rattle.jer.specs.Table.{Table, is_type, count_of, name_at, first_where, same_bytes, position, alternative}
 use Rattle.jer.specs.Read.{Entry, lookup}
 use Rattle.jer.specs.Sane.{Sane}
 
@@ -28,20 +29,20 @@ same_self [] = refl
 same_self (a ∷ x) = rw (eq-eqb a a refl, same_bytes) (same_self x)
 
 -- what is found passes the test
-first_found : (f : ℕ → Bool) (i n k : ℕ) → first_where f i n ≡ some k → (f k ≡ true) × (i ≤ k) × (k < i + n)
+first_found : (f : ℕ → Bool) (i n k : ℕ) → first_where f i n ≡ Some k → (f k ≡ true) × (i ≤ k) × (k < i + n)
 unfolding first_where
 first_found f i zero k h = absurd (let z : ◌≡◌ {A = ℕ} 0 1 = cc in omega arith)
 first_found f i (suc n) k h = go' (f i) refl (first_found f (suc i) n k)
   where
-    go' : (b : Bool) → f i ≡ b → (first_where f (suc i) n ≡ some k → (f k ≡ true) × (suc i ≤ k) × (k < suc i + n)) → (f k ≡ true) × (i ≤ k) × (k < i + suc n)
+    go' : (b : Bool) → f i ≡ b → (first_where f (suc i) n ≡ Some k → (f k ≡ true) × (suc i ≤ k) × (k < suc i + n)) → (f k ≡ true) × (i ≤ k) × (k < i + suc n)
     go' true w ih = let e : i ≡ k = let z = rw (w, first_where) at h in cc in (rw (← e) w, omega arith, omega arith)
     go' false w ih = let g = ih (rw (w, first_where) at h) in (g.0, omega arith, omega arith)
 
-pub position-found : (t : Table) (r : ℕ) (s : List ℕ) (i : ℕ) → position t r s ≡ some i → (name_at t r i ≡ s) × (i < count_of t r)
+pub position-found : (t : Table) (r : ℕ) (s : List ℕ) (i : ℕ) → position t r s ≡ Some i → (name_at t r i ≡ s) × (i < count_of t r)
 unfolding position
 position-found t r s i h = let g = first_found _ 0 (count_of t r) i h in (same-eq (name_at t r i) s g.0, omega arith)
 
-pub alternative-found : (t : Table) (r : ℕ) (k : Token) (i : ℕ) → alternative t r k ≡ some i → i < count_of t r
+pub alternative-found : (t : Table) (r : ℕ) (k : Token) (i : ℕ) → alternative t r k ≡ Some i → i < count_of t r
 unfolding alternative
 alternative-found t r k i h = let g = first_found _ 0 (count_of t r) i h in omega arith
 
@@ -60,7 +61,7 @@ names-differ t r i j c h a b n = go' (ltb i j) refl
         let m : j < i = omega arith in
         turned _ refl (c.differ r j i h m a)
 
-pub lookup-met : (e : Entry) (es : List Entry) → lookup e.name (e ∷ es) ≡ some e
+pub lookup-met : (e : Entry) (es : List Entry) → lookup e.name (e ∷ es) ≡ Some e
 unfolding lookup
 lookup-met e es = rw (same_self e.name, lookup)
 

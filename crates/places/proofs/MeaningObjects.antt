@@ -1,9 +1,10 @@
 -- Sequences as objects: the scan of the names, then the members in table order.
+use Rattle.std.specs.Prelude.{is_some}
 use Prim.Native.Nat.{ℕ, zero, suc, ◌+◌, ◌≤◌, ◌<◌}
 use mathlib.Core.Path.{◌≡◌, refl, sym, ◌∙◌}
 use mathlib.Core.List.{List, [], ◌∷◌}
 use mathlib.Core.Bool.{Bool, true, false, ◌&&◌}
-use mathlib.Core.Option.{Option, none, some}
+use Rattle.std.specs.Prelude.{Option, None, Some, Result, Ok, Err}
 use native.Mathlib.Omega.{arith}
 use borrow.Author.Tests.{eqb-true, eqb-false}
 use lib.Dec.{eqb}
@@ -11,14 +12,14 @@ use lib.ListN.{length, get_or, set, length-set}
 use lib.Seq.{get_or-set_same, get_or-set_other}
 use Rattle.json_text.specs.Tree.{Json, Members, mcons}
 use Rattle.jer.specs.declared.Refusal.{Refusal}
-use Rattle.jer.specs.Table.{Table, is_type, extensible, count_of, type_at, name_at, may_miss, position, is_some}
+use Rattle.jer.specs.Table.{Table, is_type, extensible, count_of, type_at, name_at, may_miss, position}
 use Rattle.jer.specs.Value.{v_seq}
 use Rattle.jer.specs.Answer.{Res, ok, no, bind}
 use Rattle.jer.specs.Read.{Entry, null?, read, entries, lookup, names_good, null_absent, with_absent, with_present, read_member, read_members, read_object}
 use Rattle.jer.specs.Sane.{Sane}
 use Rattle.tokens.specs.Strings.{denoted}
 use Rattle.tokens.specs.Skip.{past_value}
-use Rattle.places.specs.ByPlaces.{ending, Reader, is_null_at, Follows, Part, follows_at, after_part, bit_of, with_bit, value_place, Scanned, Closed, Stopped, scanned, scan_at, member_found, member_then, members_at, no_places, after_scan, object_at}
+use Rattle.places.specs.ByPlaces.{ending, Reader, is_null_at, Follows, Part, follows_at, after_part, bit_of, with_bit, value_place, Scanned, scanned, scan_at, member_found, member_then, members_at, no_places, after_scan, object_at}
 use Rattle.places.proofs.MeaningBits.{no-bit, bit-set, bit_kept}
 use Rattle.places.proofs.MeaningNames.{position-found, names-differ, lookup-met, lookup-other}
 use Rattle.places.proofs.MeaningStands.{Stands, stands-passed, Membered, no_member, member, member_count, InObject}
@@ -33,11 +34,10 @@ record Reached (t : Table) (s : List ℕ) (value : Reader) (p : ℕ) (e : Entry)
 
 -- a member was not met and has no entry, or was met and its value stands at p
 data Met (t : Table) (s : List ℕ) (value : Reader) : Bool → ℕ → Option Entry → Type 0 where
-  unmet : {p : ℕ} → Met t s value false p none
-  met : {p : ℕ} {e : Entry} → Reached t s value p e → Met t s value true p (some e)
+  unmet : {p : ℕ} → Met t s value false p None
+  met : {p : ℕ} {e : Entry} → Reached t s value p e → Met t s value true p (Some e)
 
 met_some : {t : Table} {s : List ℕ} {value : Reader} {b : Bool} {p : ℕ} {o : Option Entry} → Met t s value b p o → is_some o ≡ b
-unfolding is_some
 met_some unmet = refl
 met_some (met g) = refl
 
@@ -57,9 +57,9 @@ unfolding no_places lookup
 tied_none t s value r = record { long = refl; each = λ i h. rw (no-bit i) unmet }
 
 -- a scan that ends at q and the names judged alike
-data Judged (t : Table) (s : List ℕ) (value : Reader) (r q : ℕ) : Scanned → Res (List Entry) → Type 0 where
-  refused : {z : Refusal} {m : ℕ} {places : List ℕ} → Judged t s value r q (scanned (Stopped z) m places) (no z)
-  taken : {m : ℕ} {places : List ℕ} {es : List Entry} → Tied t s value r m places es → Judged t s value r q (scanned (Closed q) m places) (ok es)
+data Judged (t : Table) (s : List ℕ) (value : Reader) (r q : ℕ) : Result Scanned Refusal → Res (List Entry) → Type 0 where
+  refused : {z : Refusal} → Judged t s value r q (Err z) (no z)
+  taken : {m : ℕ} {places : List ℕ} {es : List Entry} → Tied t s value r m places es → Judged t s value r q (Ok (scanned q m places)) (ok es)
 
 module _ (t : Table) (s : List ℕ) (value : Reader) (r : ℕ) (c : Sane t) (h : is_type t r ≡ true) where
   tied_more : {m u i : ℕ} {places : List ℕ} {es : List Entry} {e : Entry} → Tied t s value r m places es → i < count_of t r → name_at t r i ≡ e.name → Reached t s value u e
@@ -121,22 +121,22 @@ module _ (t : Table) (s : List ℕ) (value : Reader) (r : ℕ) (c : Sane t) (h :
         next : after_part s (past_value d s (value_place s p)) ≡ f
         next = rw (v, stands-passed g, x)
 
-        seen : (i : ℕ) → position t r a ≡ some i → is_some (lookup a es) ≡ bit_of m i
+        seen : (i : ℕ) → position t r a ≡ Some i → is_some (lookup a es) ≡ bit_of m i
         seen i w = let l = position-found t r a i w in rw l.0 at (tied_met k l.1)
 
-        unknown : (b : Bool) → extensible t r ≡ b → position t r a ≡ none → Alike q (suc n) (Part p) (mcons p a j ms) m places es
+        unknown : (b : Bool) → extensible t r ≡ b → position t r a ≡ None → Alike q (suc n) (Part p) (mcons p a j ms) m places es
         unknown true y w = rw (o, w, scan_at, names_good, y, next) (ih m places es k)
         unknown false y w = rw (o, w, scan_at, names_good, y) refused
 
-        known : (b : Bool) (i : ℕ) → bit_of m i ≡ b → position t r a ≡ some i → Alike q (suc n) (Part p) (mcons p a j ms) m places es
+        known : (b : Bool) (i : ℕ) → bit_of m i ≡ b → position t r a ≡ Some i → Alike q (suc n) (Part p) (mcons p a j ms) m places es
         known true i y w = rw (o, w, scan_at, names_good, y, seen i w ∙ y) refused
         known false i y w =
             let l = position-found t r a i w in
             rw (o, w, scan_at, names_good, y, seen i w ∙ y, next, v) (ih (with_bit m i) (set places i u) _ (tied_more k l.1 l.0 (stands_reached p a g)))
 
         go' : (z : Option ℕ) → position t r a ≡ z → Alike q (suc n) (Part p) (mcons p a j ms) m places es
-        go' none w = unknown (extensible t r) refl w
-        go' (some i) w = known (bit_of m i) i refl w
+        go' None w = unknown (extensible t r) refl w
+        go' (Some i) w = known (bit_of m i) i refl w
 
     scan_means : {q m : ℕ} {f : Follows} {ms : Members} {places : List ℕ} {es : List Entry} → Membered d s f ms q → (n : ℕ) → member_count ms ≤ n → Tied t s value r m places es → Alike q n f ms m places es
     unfolding scan_at names_good entries follows_at
@@ -149,6 +149,6 @@ module _ (t : Table) (s : List ℕ) (value : Reader) (r : ℕ) (c : Sane t) (h :
     unfolding object_at read_object after_scan bind ending
     object-means p q k = go' (scan_means k.membered (length s) k.few (tied_none t s value r))
       where
-        go' : {x : Scanned} {y : Res (List Entry)} → Judged t s value r q x y → after_scan value t s r p x ≡ ending q (bind y (λ es. bind (read_members t r p es 0 (count_of t r)) (λ ps. ok (v_seq ps))))
+        go' : {x : Result Scanned Refusal} {y : Res (List Entry)} → Judged t s value r q x y → after_scan value t s r p x ≡ ending q (bind y (λ es. bind (read_members t r p es 0 (count_of t r)) (λ ps. ok (v_seq ps))))
         go' refused = refl
         go' (taken m) = rw (members_mean p 0 (count_of t r) (omega arith) m)

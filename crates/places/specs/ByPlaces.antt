@@ -1,13 +1,16 @@
 -- Typed reading by places of the text, in the shape of the code: open recursion, one knot on the brackets that may be open.
 -- `proofs/` shows that on a JSON text it is the meaning of the text's tree (`read` of crate jer); public contracts cite that meaning alone.
+use Rattle.jer.specs.declared.Token.{Token}
+use Rattle.jer.specs.declared.Token.TheVariants as tok
 use Rattle.std.specs.Prelude.{ℕ, zero, suc, ◌+◌, ◌/◌, ◌%◌, ◌^◌, List, [], ◌∷◌, Bool, true, false, ◌&&◌, not, eqb, ltb, length, get_or, set, replicate}
-use Rattle.std.proofs.Math.Option.{Option, none, some}
+use Rattle.std.specs.Prelude.{Option, None, Some, Result, Ok, Err}
 use Rattle.std.specs.Int.Bits.{bit_or}
 use Rattle.json_text.specs.Bytes.{on, pick}
 use Rattle.jer.specs.declared.Cause.TheVariants.{TooDeep, OtherKind, BadNumber, UnknownName, RepeatedName, Missing, Surplus, NotOne, Unknown}
 use Rattle.jer.specs.declared.Limit.TheVariants.{LentRoom}
+use Rattle.jer.specs.declared.Refusal.{Refusal}
 use Rattle.jer.specs.declared.Refusal.TheVariants.{AtByte, Amounts}
-use Rattle.jer.specs.Table.{Table, BOOLEAN, INTEGER, NULL, SEQUENCE, SEQUENCE-OF, CHOICE, kind_of, extensible, is_array, is_unwrapped, element_of, count_of, type_at, may_miss, position, Token, t_null, t_boolean, t_number, t_string, t_array, t_object, alternative}
+use Rattle.jer.specs.Table.{Table, BOOLEAN, INTEGER, NULL, SEQUENCE, SEQUENCE-OF, CHOICE, kind_of, extensible, is_array, is_unwrapped, element_of, count_of, type_at, may_miss, position, alternative}
 use Rattle.jer.specs.Value.{Val, v_bool, v_int, v_null, v_seq, v_list, v_choice, Vals, vnil, vcons, Parts, pnil, absent, present}
 use Rattle.jer.specs.Answer.{Res, ok, no, bind, at}
 use Rattle.jer.specs.Read.{read_string, at_kind, null_absent, missing_element}
@@ -18,15 +21,11 @@ use Rattle.tokens.specs.Skip.{past_word, past_value, parts_past}
 use Rattle.tokens.specs.Numbers.{integer_at}
 pub use Rattle.places.specs.declared.Follows.{Follows}
 pub use Rattle.places.specs.declared.Follows.TheVariants.{Part, Shut}
-pub use Rattle.places.specs.declared.Ended.{Ended}
-pub use Rattle.places.specs.declared.Ended.TheVariants.{Closed, Stopped}
 pub use Rattle.places.specs.declared.Scanned.{Scanned}
 pub use Rattle.places.specs.declared.Member.{Member}
 use Rattle.places.specs.declared.Member.TheVariants as member
 pub use Rattle.places.specs.declared.Element.{Element}
 use Rattle.places.specs.declared.Element.TheVariants as element
-pub use Rattle.places.specs.declared.One.{One}
-use Rattle.places.specs.declared.One.TheVariants as one
 
 -- what was read, and the place after it
 pub record Got (A : Type 0) : Type 0 where
@@ -50,30 +49,30 @@ Reader = ℕ → ℕ → Res (Got Val)
 unfoldable pub token_at : List ℕ → ℕ → Token
 token_at s p =
     pick (byte_at s p)
-    (on 0x22 0x22 (λ b. t_string)
-    ∷ on 0x5B 0x5B (λ b. t_array)
-    ∷ on 0x66 0x66 (λ b. t_boolean)
-    ∷ on 0x6E 0x6E (λ b. t_null)
-    ∷ on 0x74 0x74 (λ b. t_boolean)
-    ∷ on 0x7B 0x7B (λ b. t_object)
+    (on 0x22 0x22 (λ b. tok.String)
+    ∷ on 0x5B 0x5B (λ b. tok.Array)
+    ∷ on 0x66 0x66 (λ b. tok.Boolean)
+    ∷ on 0x6E 0x6E (λ b. tok.Null)
+    ∷ on 0x74 0x74 (λ b. tok.Boolean)
+    ∷ on 0x7B 0x7B (λ b. tok.Object)
     ∷ [])
-    t_number
+    tok.Number
 
 unfoldable pub is_null_at : List ℕ → ℕ → Bool
 is_null_at s p = eqb (byte_at s p) 0x6E
 
 unfoldable pub integer_read : ℕ → Option ℕ → Res Val
-integer_read p none = at BadNumber p
-integer_read p (some n) = ok (v_int n)
+integer_read p None = at BadNumber p
+integer_read p (Some n) = ok (v_int n)
 
 -- a leaf at p, by its token; the type at r is not UNWRAPPED
 unfoldable pub leaf_at : Table → List ℕ → Token → Reader
-leaf_at t s t_null r p = ending (past_word s p) (at_kind t r NULL p (ok v_null))
-leaf_at t s t_boolean r p = ending (past_word s p) (at_kind t r BOOLEAN p (ok (v_bool (eqb (byte_at s p) 0x74))))
-leaf_at t s t_number r p = ending (past_word s p) (at_kind t r INTEGER p (integer_read p (integer_at s p)))
-leaf_at t s t_string r p = ending (string_end s (p + 1)) (read_string t p (denoted s (p + 1)) r)
-leaf_at t s t_array r p = at OtherKind p
-leaf_at t s t_object r p = at OtherKind p
+leaf_at t s tok.Null r p = ending (past_word s p) (at_kind t r NULL p (ok v_null))
+leaf_at t s tok.Boolean r p = ending (past_word s p) (at_kind t r BOOLEAN p (ok (v_bool (eqb (byte_at s p) 0x74))))
+leaf_at t s tok.Number r p = ending (past_word s p) (at_kind t r INTEGER p (integer_read p (integer_at s p)))
+leaf_at t s tok.String r p = ending (string_end s (p + 1)) (read_string t p (denoted s (p + 1)) r)
+leaf_at t s tok.Array r p = at OtherKind p
+leaf_at t s tok.Object r p = at OtherKind p
 
 -- ---- what follows a part of a bracket
 
@@ -111,15 +110,15 @@ got_absent rest = bind rest (λ g. ok (got (absent g.value) g.next))
 unfoldable pub got_present : Val → Res (Got Parts) → Res (Got Parts)
 got_present v rest = bind rest (λ g. ok (got (present v g.value) g.next))
 
--- after the last member, in a bracket in which d more may be open
-unfoldable pub surplus_at : ℕ → Table → List ℕ → ℕ → Follows → Ended
-surplus_at d t s r (Shut q) = Closed q
-surplus_at d t s r (Part q) = elim (extensible t r) [ true ↦ Closed (parts_past (λ p. past_value d s p) s (length s) q) | false ↦ Stopped (AtByte Surplus q) ]
+-- the place after the bracket, in which d more may be open, from what follows its last member
+unfoldable pub surplus_at : ℕ → Table → List ℕ → ℕ → Follows → Result ℕ Refusal
+surplus_at d t s r (Shut q) = Ok q
+surplus_at d t s r (Part q) = elim (extensible t r) [ true ↦ Ok (parts_past (λ p. past_value d s p) s (length s) q) | false ↦ Err (AtByte Surplus q) ]
 
 -- no member is left
-unfoldable pub no_more : Ended → Res (Got Parts)
-no_more (Closed q) = ok (got pnil q)
-no_more (Stopped e) = no e
+unfoldable pub no_more : Result ℕ Refusal → Res (Got Parts)
+no_more (Ok q) = ok (got pnil q)
+no_more (Err e) = no e
 
 -- the member i: absent, with what follows it; missing, at the array's end; or at a place
 unfoldable pub element_found : Table → List ℕ → ℕ → ℕ → Follows → Element
@@ -153,22 +152,22 @@ with_bit x k = bit_or x (2 ^ k)
 unfoldable pub value_place : List ℕ → ℕ → ℕ
 value_place s q = past_space s (past_space s (string_end s (q + 1)) + 1)
 
--- the members met, where their values stand, and how the names end
-abbrev pub scanned : Ended → ℕ → List ℕ → Scanned
-scanned e met places = record { end = e; met = met; places = places }
+-- the place after the names, the members met, and where their values stand
+abbrev pub scanned : ℕ → ℕ → List ℕ → Scanned
+scanned next met places = record { next = next; met = met; places = places }
 
 -- the names from here on in text order, at most n of them
-unfoldable pub scan_at : ℕ → Table → List ℕ → ℕ → ℕ → Follows → ℕ → List ℕ → Scanned
-scan_at d t s r zero f met places = scanned (Closed (follows_at f)) met places
-scan_at d t s r (suc n) (Shut q) met places = scanned (Closed q) met places
+unfoldable pub scan_at : ℕ → Table → List ℕ → ℕ → ℕ → Follows → ℕ → List ℕ → Result Scanned Refusal
+scan_at d t s r zero f met places = Ok (scanned (follows_at f) met places)
+scan_at d t s r (suc n) (Shut q) met places = Ok (scanned q met places)
 scan_at d t s r (suc n) (Part q) met places =
     elim (position t r (denoted s (q + 1))) [
-      | none ↦ elim (extensible t r) [
+      | None ↦ elim (extensible t r) [
         | true ↦ scan_at d t s r n (after_part s (past_value d s (value_place s q))) met places
-        | false ↦ scanned (Stopped (AtByte UnknownName q)) met places
+        | false ↦ Err (AtByte UnknownName q)
       ]
-      | some i ↦ elim (bit_of met i) [
-        | true ↦ scanned (Stopped (AtByte RepeatedName q)) met places
+      | Some i ↦ elim (bit_of met i) [
+        | true ↦ Err (AtByte RepeatedName q)
         | false ↦ scan_at d t s r n (after_part s (past_value d s (value_place s q))) (with_bit met i) (set places i (value_place s q))
       ]
     ]
@@ -192,12 +191,9 @@ members_at value t s r o met places i (suc n) = member_then value t r o i (membe
 unfoldable pub no_places : List ℕ
 no_places = replicate 64 0
 
-unfoldable pub after_scan : Reader → Table → List ℕ → ℕ → ℕ → Scanned → Res (Got Val)
-after_scan value t s r o x =
-    elim x.end [
-      | Stopped e ↦ no e
-      | Closed q ↦ ending q (bind (members_at value t s r o x.met x.places 0 (count_of t r)) (λ ps. ok (v_seq ps)))
-    ]
+unfoldable pub after_scan : Reader → Table → List ℕ → ℕ → ℕ → Result Scanned Refusal → Res (Got Val)
+after_scan value t s r o (Err e) = no e
+after_scan value t s r o (Ok x) = ending x.next (bind (members_at value t s r o x.met x.places 0 (count_of t r)) (λ ps. ok (v_seq ps)))
 
 unfoldable pub object_at : Reader → ℕ → Table → List ℕ → Reader
 object_at value d t s r p = after_scan value t s r p (scan_at d t s r (length s) (first_part s 0x7D p) 0 no_places)
@@ -205,18 +201,18 @@ object_at value d t s r p = after_scan value t s r p (scan_at d t s r (length s)
 -- ---- wrapped choices
 
 unfoldable pub chosen_at : Reader → Table → List ℕ → ℕ → ℕ → ℕ → Option ℕ → Res (Got Val)
-chosen_at value t s r p q none = elim (extensible t r) [ true ↦ at Unknown p | false ↦ at UnknownName q ]
-chosen_at value t s r p q (some i) = bind (value (type_at t r i) (value_place s q)) (λ g. ok (got (v_choice i g.value) (past_space s g.next + 1)))
+chosen_at value t s r p q None = elim (extensible t r) [ true ↦ at Unknown p | false ↦ at UnknownName q ]
+chosen_at value t s r p q (Some i) = bind (value (type_at t r i) (value_place s q)) (λ g. ok (got (v_choice i g.value) (past_space s g.next + 1)))
 
 -- the name of the one member, in whose value d brackets may be open
-unfoldable pub one_at : ℕ → List ℕ → Follows → One
-one_at d s (Shut q) = one.NotOne
-one_at d s (Part q) = elim (eqb (byte_at s (past_space s (past_value d s (value_place s q)))) 0x2C) [ true ↦ one.NotOne | false ↦ one.At q ]
+unfoldable pub one_at : ℕ → List ℕ → Follows → Option ℕ
+one_at d s (Shut q) = None
+one_at d s (Part q) = elim (eqb (byte_at s (past_space s (past_value d s (value_place s q)))) 0x2C) [ true ↦ None | false ↦ Some q ]
 
 -- the one member
-unfoldable pub member_at : Reader → Table → List ℕ → ℕ → ℕ → One → Res (Got Val)
-member_at value t s r p one.NotOne = at NotOne p
-member_at value t s r p (one.At q) = chosen_at value t s r p q (position t r (denoted s (q + 1)))
+unfoldable pub member_at : Reader → Table → List ℕ → ℕ → ℕ → Option ℕ → Res (Got Val)
+member_at value t s r p None = at NotOne p
+member_at value t s r p (Some q) = chosen_at value t s r p q (position t r (denoted s (q + 1)))
 
 unfoldable pub choice_at : Reader → ℕ → Table → List ℕ → Reader
 choice_at value d t s r p = member_at value t s r p (one_at d s (first_part s 0x7D p))
@@ -233,16 +229,16 @@ within t r g =
 
 -- a value in a bracket, given how its parts are read, in which d brackets may be open; its type is not UNWRAPPED
 unfoldable pub bracket_at : Reader → ℕ → Table → List ℕ → Token → Reader
-bracket_at value d t s t_null r p = leaf_at t s t_null r p
-bracket_at value d t s t_boolean r p = leaf_at t s t_boolean r p
-bracket_at value d t s t_number r p = leaf_at t s t_number r p
-bracket_at value d t s t_string r p = leaf_at t s t_string r p
-bracket_at value d t s t_array r p =
+bracket_at value d t s tok.Null r p = leaf_at t s tok.Null r p
+bracket_at value d t s tok.Boolean r p = leaf_at t s tok.Boolean r p
+bracket_at value d t s tok.Number r p = leaf_at t s tok.Number r p
+bracket_at value d t s tok.String r p = leaf_at t s tok.String r p
+bracket_at value d t s tok.Array r p =
     elim (eqb (kind_of t r) SEQUENCE-OF) [
       | true ↦ list_at value t s r p
       | false ↦ elim (is_array t r) [ true ↦ array_at value d t s r p | false ↦ at OtherKind p ]
     ]
-bracket_at value d t s t_object r p =
+bracket_at value d t s tok.Object r p =
     elim (eqb (kind_of t r) CHOICE) [
       | true ↦ choice_at value d t s r p
       | false ↦ elim (eqb (kind_of t r) SEQUENCE && not (is_array t r)) [ true ↦ object_at value d t s r p | false ↦ at OtherKind p ]
@@ -250,16 +246,16 @@ bracket_at value d t s t_object r p =
 
 -- where no bracket may be opened any more
 unfoldable pub shallow_at : Table → List ℕ → Token → Reader
-shallow_at t s t_null r p = leaf_at t s t_null r p
-shallow_at t s t_boolean r p = leaf_at t s t_boolean r p
-shallow_at t s t_number r p = leaf_at t s t_number r p
-shallow_at t s t_string r p = leaf_at t s t_string r p
-shallow_at t s t_array r p = at TooDeep p
-shallow_at t s t_object r p = at TooDeep p
+shallow_at t s tok.Null r p = leaf_at t s tok.Null r p
+shallow_at t s tok.Boolean r p = leaf_at t s tok.Boolean r p
+shallow_at t s tok.Number r p = leaf_at t s tok.Number r p
+shallow_at t s tok.String r p = leaf_at t s tok.String r p
+shallow_at t s tok.Array r p = at TooDeep p
+shallow_at t s tok.Object r p = at TooDeep p
 
 unfoldable pub picked_at : Reader → Table → ℕ → ℕ → Option ℕ → Res (Got Val)
-picked_at plain t r p none = elim (extensible t r) [ true ↦ at Unknown p | false ↦ at OtherKind p ]
-picked_at plain t r p (some i) = bind (bind (plain (type_at t r i) p) (within t (type_at t r i))) (λ g. ok (got (v_choice i g.value) g.next))
+picked_at plain t r p None = elim (extensible t r) [ true ↦ at Unknown p | false ↦ at OtherKind p ]
+picked_at plain t r p (Some i) = bind (bind (plain (type_at t r i) p) (within t (type_at t r i))) (λ g. ok (got (v_choice i g.value) g.next))
 
 -- a value, given how one is read whose type is not UNWRAPPED
 unfoldable pub value_with : (Token → Reader) → Table → List ℕ → Reader

@@ -3,8 +3,6 @@
 // What the code and the definitions answer alike is declared here, once.
 #![tactic(auto)]
 
-use jer::Refusal;
-
 // What follows the opening bracket, or a part of a bracket.
 #[derive(Clone, Copy)]
 pub enum Follows {
@@ -14,19 +12,10 @@ pub enum Follows {
     Shut(usize),
 }
 
-// How a bracket's end is found, before its values are read.
-#[derive(Clone, Copy)]
-pub enum Ended {
-    // All before it is good; the place after the closing bracket.
-    Closed(usize),
-    // The first that is not, by its refusal.
-    Stopped(Refusal),
-}
-
-// An object's names: the members met and, of each, where its value stands. An enum cannot hold an array: it stands beside.
+// An object's names: the place after its closing bracket, the members met and, of each, where its value stands.
 #[derive(Clone, Copy)]
 pub struct Scanned {
-    pub end: Ended,
+    pub next: usize,
     pub met: u64,
     pub places: [u32; 64],
 }
@@ -49,11 +38,4 @@ pub enum Element {
     Missing(usize),
     // Where its value stands.
     There(usize),
-}
-
-// The name of the one member of an object.
-#[derive(Clone, Copy)]
-pub enum One {
-    At(usize),
-    NotOne,
 }

@@ -1,12 +1,9 @@
 -- Demand 1: each call has one answer and leaves one content of each buffer; a refused call writes nothing.
 -- 01: "For each call from outside, its contract determines number, amounts and every byte lent, so that two results allowed by it are shown equal"
+use Rattle.jer.specs.Answer.{Judged, Reading, Readings, Writing}
 use mathlib.Core.Path.{◌≡◌, sym, ◌∙◌}
 use mathlib.Core.List.{List}
 use Prim.Native.Nat.{ℕ}
-use Rattle.jer.specs.declared.Judged.{Judged}
-use Rattle.jer.specs.declared.Reading.{Reading}
-use Rattle.jer.specs.declared.Readings.{Readings}
-use Rattle.jer.specs.declared.Writing.{Writing}
 use Rattle.jer.specs.Table.{Table}
 use Rattle.jer.specs.CallClauses.{TableCall, TextCall, ReadCall, WriteCall}
 use Rattle.jer.specs.Each.{EachCall}

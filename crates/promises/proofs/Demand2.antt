@@ -1,18 +1,17 @@
 -- Demand 2: what is written is read back as the same table; what was read is written, and never longer; reading needs bounded room.
+use Rattle.std.specs.Prelude.{Err, Ok}
+use Rattle.jer.specs.Answer.{read_as}
+use Rattle.jer.specs.Answer.{Reading, Writing}
 use Prim.Native.Nat.{ℕ, ◌*◌, ◌≤◌}
 use mathlib.Core.Path.{◌≡◌, refl, sym, ap, ◌∙◌}
 use mathlib.Core.List.{List}
-use mathlib.Core.Option.{none}
+use Rattle.std.specs.Prelude.{None}
 use native.Mathlib.Omega.{arith}
 use lib.ListN.{length, take}
 use borrow.Author.Tests.{le-leb}
 use Rattle.jer.specs.declared.Limit.TheVariants.{LentRoom}
 use Rattle.jer.specs.declared.Refusal.{Refusal}
 use Rattle.jer.specs.declared.Refusal.TheVariants.{Amounts}
-use Rattle.jer.specs.declared.Reading.{Reading}
-use Rattle.jer.specs.declared.Reading.TheVariants as reading
-use Rattle.jer.specs.declared.Writing.{Writing}
-use Rattle.jer.specs.declared.Writing.TheVariants as writing
 use Rattle.jer.specs.Table.{Table}
 use Rattle.jer.specs.Valid.{first_bad}
 use Rattle.jer.specs.Value.{Val}
@@ -34,7 +33,7 @@ use Rattle.promises.proofs.Outcomes.{stored, stored-rows, stored-pool, ReadRefus
 
 -- a text with room for it, within the house size, is written
 writes : {t : Table} {ns pool text text' : List ℕ} {w : Writing} (bs : List ℕ) → write_text t ns pool ≡ ok bs → length bs ≤ 65536 → length bs ≤ length text
-    → WriteCall t ns pool text w text' → (w ≡ writing.Written (length bs)) × (text' ≡ over bs text)
+    → WriteCall t ns pool text w text' → (w ≡ Ok (length bs)) × (text' ≡ over bs text)
 unfolding write_answer text_after
 writes bs e size room c =
     let a = rw e at c.answer in
@@ -44,15 +43,15 @@ writes bs e size room c =
     (rw (le-leb _ _ room, write_answer) at a', rw (le-leb _ _ room, text_after) at b')
 
 -- "Given room and within the sizes, writing a well-formed value gives the one text that document 01 describes"
-pub well_formed_is-written : {t : Table} {v : Val} {text text' : List ℕ} {w : Writing} → first_bad t ≡ none → Fits t 32 0 v → length (write v t 0) ≤ 65536 → length (write v t 0) ≤ length text
-    → WriteCall t (row_numbers t v) (pool_of v) text w text' → (w ≡ writing.Written (length (write v t 0))) × (text' ≡ over (write v t 0) text)
+pub well_formed_is-written : {t : Table} {v : Val} {text text' : List ℕ} {w : Writing} → first_bad t ≡ None → Fits t 32 0 v → length (write v t 0) ≤ 65536 → length (write v t 0) ≤ length text
+    → WriteCall t (row_numbers t v) (pool_of v) text w text' → (w ≡ Ok (length (write v t 0))) × (text' ≡ over (write v t 0) text)
 unfolding row_numbers
 well_formed_is-written {t} {v} good f size room c = writes (write v t 0) (said t _ _ v good (judged-rows t (valid_sane t good) f)) size room c
 
 -- "and reading that text gives that value": whatever table was written, reading the text that was stored gives that table, in each buffer
-pub written-is-read : {t : Table} {ns pool text text' rows bytes rows' bytes' : List ℕ} {n : ℕ} {r : Reading} → Words ns → Octets pool → WriteCall t ns pool text (writing.Written n) text'
+pub written-is-read : {t : Table} {ns pool text text' rows bytes rows' bytes' : List ℕ} {n : ℕ} {r : Reading} → Words ns → Octets pool → WriteCall t ns pool text (Ok n) text'
     → length ns ≤ length rows → length pool ≤ length bytes → ReadCall t (take n text') rows bytes r rows' bytes'
-    → (k : ℕ) × (length ns ≡ k * 4) × (r ≡ reading.Read k (length pool)) × (rows' ≡ over ns rows) × (bytes' ≡ over pool bytes)
+    → (k : ℕ) × (length ns ≡ k * 4) × (r ≡ read_as k (length pool)) × (rows' ≡ over ns rows) × (bytes' ≡ over pool bytes)
 unfolding row_numbers
 written-is-read {t} {ns} {pool} {text} {text'} {rows} {bytes} {n = n} ws os c row_room poolRoom d =
     let w = written t ns pool text n text' c in
@@ -69,8 +68,8 @@ written-is-read {t} {ns} {pool} {text} {text'} {rows} {bytes} {n = n} ws os c ro
 
 -- "Writing what was read never gives a longer text": the table that a reading stored is written, with room for as many bytes as the text
 -- had, and the text written is not longer than the one read
-pub read-is-written : {t : Table} {s rows pool rows' pool' text text' : List ℕ} {n m : ℕ} {w : Writing} → ReadCall t s rows pool (reading.Read n m) rows' pool'
-    → length s ≤ length text → WriteCall t (take (n * 4) rows') (take m pool') text w text' → (k : ℕ) × (w ≡ writing.Written k) × (k ≤ length s)
+pub read-is-written : {t : Table} {s rows pool rows' pool' text text' : List ℕ} {n m : ℕ} {w : Writing} → ReadCall t s rows pool (read_as n m) rows' pool'
+    → length s ≤ length text → WriteCall t (take (n * 4) rows') (take m pool') text w text' → (k : ℕ) × (w ≡ Ok k) × (k ≤ length s)
 unfolding row_numbers
 read-is-written {t} {s} {rows} {pool} {rows'} {pool'} {text} {n = n} {m = m} c room d =
     let x = stored t s rows pool n m rows' pool' c in
@@ -96,14 +95,14 @@ room-enough {t} {s} {rows} {pool} {v = v} y a b c =
     stores v (means-read t s v y) (has_room t v (length rows) (length pool) (omega (arith, k, numbers-length t v)) (omega (arith, k))) c
 
 -- what a reading used
-pub read-bounds : {t : Table} {s rows pool rows' pool' : List ℕ} {n m : ℕ} → ReadCall t s rows pool (reading.Read n m) rows' pool' → (n ≤ 130 * length s) × (m ≤ length s)
+pub read-bounds : {t : Table} {s rows pool rows' pool' : List ℕ} {n m : ℕ} → ReadCall t s rows pool (read_as n m) rows' pool' → (n ≤ 130 * length s) × (m ≤ length s)
 read-bounds {t} {s} {rows} {pool} {rows'} {pool'} {n} {m} c =
     let x = stored t s rows pool n m rows' pool' c in
     let k = means-bounds (means t s x.value x.means) in
     (omega (arith, k, x.row_count), omega (arith, k, x.pool_count))
 
 -- the amounts of 14
-pub needed_bounds : {t : Table} {s rows pool rows' pool' : List ℕ} {n m : ℕ} → ReadCall t s rows pool (reading.Refused (Amounts LentRoom n m)) rows' pool' → (n ≤ 130 * length s) × (m ≤ length s)
+pub needed_bounds : {t : Table} {s rows pool rows' pool' : List ℕ} {n m : ℕ} → ReadCall t s rows pool (Err (Amounts LentRoom n m)) rows' pool' → (n ≤ 130 * length s) × (m ≤ length s)
 needed_bounds {t} {s} {rows} {pool} {n = n} {m = m} c = go (Amounts LentRoom n m) (read-refused t s rows pool c) refl
   where
     none-early : (e : Refusal) → ReadRefusal e → e ≡ Amounts LentRoom n m → ⊥
@@ -119,7 +118,7 @@ needed_bounds {t} {s} {rows} {pool} {n = n} {m = m} c = go (Amounts LentRoom n m
         (omega (arith, k), omega (arith, k))
 
 -- with so much room 14 is never the answer
-pub never_14 : {t : Table} {s rows pool rows' pool' : List ℕ} {e : Refusal} → 130 * length s * 4 ≤ length rows → length s ≤ length pool → ReadCall t s rows pool (reading.Refused e) rows' pool'
+pub never_14 : {t : Table} {s rows pool rows' pool' : List ℕ} {e : Refusal} → 130 * length s * 4 ≤ length rows → length s ≤ length pool → ReadCall t s rows pool (Err e) rows' pool'
     → number_of e ≡ 14 → ⊥
 unfolding number_of
 never_14 {t} {s} {rows} {pool} a b c = go (read-refused t s rows pool c)

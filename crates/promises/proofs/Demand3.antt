@@ -1,14 +1,14 @@
 -- Demand 3: two good tables, the newer made from the older by additions.
+use Rattle.std.specs.Prelude.{Ok}
+use Rattle.jer.specs.Answer.{read_as}
+use Rattle.jer.specs.Answer.{Reading}
 use Prim.Native.Nat.{ℕ}
 use mathlib.Core.Path.{◌≡◌, sym, ap, ◌∙◌}
 use mathlib.Core.List.{List}
 use mathlib.Core.Bool.{Bool, true}
-use mathlib.Core.Option.{none}
+use Rattle.std.specs.Prelude.{None}
 use native.Mathlib.Omega.{arith}
 use lib.ListN.{length, take}
-use Rattle.jer.specs.declared.Reading.{Reading}
-use Rattle.jer.specs.declared.Reading.TheVariants as reading
-use Rattle.jer.specs.declared.Writing.TheVariants as writing
 use Rattle.jer.specs.Table.{Table}
 use Rattle.jer.specs.Valid.{first_bad}
 use Rattle.jer.specs.Value.{Val}
@@ -29,8 +29,8 @@ use Rattle.promises.proofs.Outcomes.{stored as was-stored, written}
 module _ {new old : Table} {R : ℕ → ℕ → Type 0} (pair : ByAdditions new old R) where
   -- "if the newer reads a text, the older, with the same room, reads that value cut down to what it knows, or refuses by 11, exactly when
   -- the cut value still holds an item or alternative that it lacks": v is what the text means at the newer table
-  pub older-reads-cut : {s rows pool rows₂ pool₂ a b c d : List ℕ} {n m : ℕ} {r : Reading} → first_bad old ≡ none → SameRoom rows pool rows₂ pool₂ → ReadCall new s rows pool (reading.Read n m) a b
-      → ReadCall old s rows₂ pool₂ r c d → (v : Val) × Means new s v × Stores new v rows pool (reading.Read n m) a b × Older old rows₂ pool₂ v r c d (lacks (cut v old 0) old 0)
+  pub older-reads-cut : {s rows pool rows₂ pool₂ a b c d : List ℕ} {n m : ℕ} {r : Reading} → first_bad old ≡ None → SameRoom rows pool rows₂ pool₂ → ReadCall new s rows pool (read_as n m) a b
+      → ReadCall old s rows₂ pool₂ r c d → (v : Val) × Means new s v × Stores new v rows pool (read_as n m) a b × Older old rows₂ pool₂ v r c d (lacks (cut v old 0) old 0)
   older-reads-cut {s} {rows} {pool} {rows₂} {pool₂} {a} {b} {c} {d} {n} {m} {r} good same x y =
       let w = was-stored new s rows pool n m a b x in
       let v = w.value in
@@ -43,8 +43,8 @@ module _ {new old : Table} {R : ℕ → ℕ → Type 0} (pair : ByAdditions new 
 
   -- "What is written under the older is read under the newer, given room, as that value with all additions absent.": v is the value whose
   -- table was written
-  pub newer-reads-written : {ns pool text text' rows bytes c d : List ℕ} {n : ℕ} {r : Reading} → first_bad new ≡ none → Words ns → Octets pool
-      → WriteCall old ns pool text (writing.Written n) text' → ReadCall new (take n text') rows bytes r c d
+  pub newer-reads-written : {ns pool text text' rows bytes c d : List ℕ} {n : ℕ} {r : Reading} → first_bad new ≡ None → Words ns → Octets pool
+      → WriteCall old ns pool text (Ok n) text' → ReadCall new (take n text') rows bytes r c d
       → (v : Val) × TableOf old v ns pool × (roomy new (grow v new 0) (length rows) (length bytes) ≡ true → Stores new (grow v new 0) rows bytes r c d)
   newer-reads-written {ns} {pool} {text} {text'} {n = n} good ws os x y =
       let w = written old ns pool text n text' x in

@@ -1,16 +1,15 @@
 -- Judging and reading a text, at the level of the calls, by the grammar alone: the machine in `json_text` need not be believed.
+use Rattle.std.specs.Prelude.{Err, Ok}
+use Rattle.jer.specs.Answer.{Judged, Reading}
 use Prim.Native.Nat.{ℕ, ◌≤◌}
 use mathlib.Core.Path.{◌≡◌, refl, sym, ap, ◌∙◌}
 use mathlib.Core.List.{List}
-use mathlib.Core.Option.{none}
+use Rattle.std.specs.Prelude.{None}
 use lib.ListN.{length}
 use Rattle.json_text.specs.Tree.{Json}
 use Rattle.json_text.specs.Grammar.{Text, NotJsonAt, TooDeepAt}
 use Rattle.jer.specs.declared.Cause.TheVariants.{NotJson, TooDeep}
 use Rattle.jer.specs.declared.Refusal.TheVariants.{AtByte}
-use Rattle.jer.specs.declared.Judged.{Judged}
-use Rattle.jer.specs.declared.Judged.TheVariants as judged
-use Rattle.jer.specs.declared.Reading.{Reading}
 use Rattle.jer.specs.Table.{Table}
 use Rattle.jer.specs.Valid.{first_bad}
 use Rattle.jer.specs.Read.{read_whole}
@@ -38,27 +37,27 @@ module _ {s : List ℕ} {r : Judged} (size : length s ≤ 65536) (c : TextCall s
   judges q e = let h : Judges s r = rw c (text-judges s) in rw e at h
 
   -- within the size: Good exactly when the grammar has a tree for the text with at most 32 open brackets
-  pub good_exactly : Exactly (r ≡ judged.Good) ((j : Json) × Text 32 j s)
+  pub good_exactly : Exactly (r ≡ Ok tt) ((j : Json) × Text 32 j s)
   good_exactly = (λ e. go (judges _ e), λ x. c ∙ sym (judges-text (json size x.1)))
     where
-      go : Judges s judged.Good → (j : Json) × Text 32 j s
+      go : Judges s (Ok tt) → (j : Json) × Text 32 j s
       go (json {j} l t) = (j, t)
 
   -- 3 at p exactly when no JSON text can begin so after the byte at p, and one can before it
-  pub not-json_exactly : (p : ℕ) → Exactly (r ≡ judged.Refused (AtByte NotJson p)) (NotJsonAt 32 s p)
-  not-json_exactly p = (λ e. go (judged.Refused (AtByte NotJson p)) (judges _ e) refl, λ x. c ∙ sym (judges-text (broken size x)))
+  pub not-json_exactly : (p : ℕ) → Exactly (r ≡ Err (AtByte NotJson p)) (NotJsonAt 32 s p)
+  not-json_exactly p = (λ e. go (Err (AtByte NotJson p)) (judges _ e) refl, λ x. c ∙ sym (judges-text (broken size x)))
     where
-      go : (q : Judged) → Judges s q → q ≡ judged.Refused (AtByte NotJson p) → NotJsonAt 32 s p
+      go : (q : Judged) → Judges s q → q ≡ Err (AtByte NotJson p) → NotJsonAt 32 s p
       go q (long l) e = never (cc)
       go q (broken {p = o} l x) e = let w : o ≡ p = cc in rw w at x
       go q (deep l x) e = never (cc)
       go q (json l t) e = never (cc)
 
   -- 4 at p exactly when the byte at p opens a bracket too many
-  pub too_deep_exactly : (p : ℕ) → Exactly (r ≡ judged.Refused (AtByte TooDeep p)) (TooDeepAt 32 s p)
-  too_deep_exactly p = (λ e. go (judged.Refused (AtByte TooDeep p)) (judges _ e) refl, λ x. c ∙ sym (judges-text (deep size x)))
+  pub too_deep_exactly : (p : ℕ) → Exactly (r ≡ Err (AtByte TooDeep p)) (TooDeepAt 32 s p)
+  too_deep_exactly p = (λ e. go (Err (AtByte TooDeep p)) (judges _ e) refl, λ x. c ∙ sym (judges-text (deep size x)))
     where
-      go : (q : Judged) → Judges s q → q ≡ judged.Refused (AtByte TooDeep p) → TooDeepAt 32 s p
+      go : (q : Judged) → Judges s q → q ≡ Err (AtByte TooDeep p) → TooDeepAt 32 s p
       go q (long l) e = never (cc)
       go q (broken l x) e = never (cc)
       go q (deep {p = o} l x) e = let w : o ≡ p = cc in rw w at x
@@ -79,7 +78,7 @@ read_exactly {t} {s} {rows} {pool} = (
 )
 
 -- given a tree of the grammar for the text, they are those of the typed reading of that tree
-pub read-by-tree : {t : Table} {j : Json} {s rows pool : List ℕ} {r : Reading} {rows' pool' : List ℕ} → first_bad t ≡ none → Text 32 j s → length s ≤ 65536 → ReadCall t s rows pool r rows' pool'
+pub read-by-tree : {t : Table} {j : Json} {s rows pool : List ℕ} {r : Reading} {rows' pool' : List ℕ} → first_bad t ≡ None → Text 32 j s → length s ≤ 65536 → ReadCall t s rows pool r rows' pool'
     → (r ≡ read_answer t (length rows) (length pool) (read_whole t j)) × (rows' ≡ rows_after t rows (length pool) (read_whole t j)) × (pool' ≡ pool_after t (length rows) pool (read_whole t j))
 read-by-tree {t} {j} {s} {rows} {pool} good x l c =
     let e = sym (reads-text {t = t} {s = s} (typed good l x refl)) in
@@ -88,5 +87,5 @@ read-by-tree {t} {j} {s} {rows} {pool} good x l c =
 -- ---- value tables
 
 -- the tables that are judged to be a value are those of well-formed values, one for each
-pub values_exactly : {t : Table} {ns pool : List ℕ} {v : Val} → first_bad t ≡ none → Words ns → Octets pool → Exactly (judge t ns pool ≡ ok v) (TableOf t v ns pool)
+pub values_exactly : {t : Table} {ns pool : List ℕ} {v : Val} → first_bad t ≡ None → Words ns → Octets pool → Exactly (judge t ns pool ≡ ok v) (TableOf t v ns pool)
 values_exactly {t} {ns} {pool} {v} good ws os = (λ e. judge-fits t ns pool v ws os e, λ w. rw (w.rows, w.bytes) (judged-rows t (valid_sane t good) w.fits))

@@ -1,9 +1,12 @@
 -- Demand 2, the sender's options; the mapper's question; and skipped values: of two calls, whatever their buffers hold.
+use Rattle.std.specs.Prelude.{Ok}
+use Rattle.jer.specs.Answer.{read_as}
+use Rattle.jer.specs.Answer.{Reading}
 use Prim.Native.Nat.{ℕ, ◌≤◌}
 use mathlib.Core.Path.{◌≡◌, refl, sym, ap, ◌∙◌}
 use mathlib.Core.List.{List, [], ◌∷◌}
 use mathlib.Core.Bool.{true, false}
-use mathlib.Core.Option.{none}
+use Rattle.std.specs.Prelude.{None}
 use native.Mathlib.Omega.{arith}
 use lib.Dec.{lit<}
 use lib.ListN.{length}
@@ -11,8 +14,6 @@ use Rattle.json_text.specs.Tree.{Json, jnull, jint, jarr, inil, icons}
 use Rattle.json_text.specs.Grammar.{Text}
 use Rattle.jer.specs.declared.Cause.TheVariants.{OtherKind, Missing}
 use Rattle.jer.specs.declared.Refusal.TheVariants.{AtByte}
-use Rattle.jer.specs.declared.Reading.{Reading}
-use Rattle.jer.specs.declared.Reading.TheVariants as reading
 use Rattle.jer.specs.Table.{Table}
 use Rattle.jer.specs.Valid.{first_bad}
 use Rattle.jer.specs.Value.{Val}
@@ -56,18 +57,18 @@ module _ {t : Table} {s u rows pool rows₂ pool₂ a b c d : List ℕ} {n m n�
 
 -- in the same room a value is stored alike
 same-room-stores : {t : Table} {s u rows pool rows₂ pool₂ a b c d : List ℕ} {n m : ℕ} {r : Reading} → SameRoom rows pool rows₂ pool₂ → (w : Stored t s rows pool n m a b) → read_text t u ≡ ok w.value
-    → ReadCall t u rows₂ pool₂ r c d → (r ≡ reading.Read n m) × SameTable n m a b n m c d
+    → ReadCall t u rows₂ pool₂ r c d → (r ≡ read_as n m) × SameTable n m a b n m c d
 same-room-stores {t} {s} {u} {rows} {pool} {rows₂} {pool₂} {a} {b} {c} {d} {n} {m} {r} same w e y =
     let room : roomy t w.value (length rows₂) (length pool₂) ≡ true = ap (λ (k : ℕ). roomy t w.value k (length pool₂)) (sym same.numbers) ∙ ap (roomy t w.value (length rows)) (sym same.bytes) ∙ w.room in
     let z = stores w.value e room y in
-    let q : r ≡ reading.Read n m = z.answer ∙ sym (ap (λ (i : ℕ). reading.Read i (length (pool_of w.value))) w.row_count) ∙ sym (ap (reading.Read n) w.pool_count) in
+    let q : r ≡ read_as n m = z.answer ∙ sym (ap (λ (i : ℕ). read_as i (length (pool_of w.value))) w.row_count) ∙ sym (ap (read_as n) w.pool_count) in
     (q, same-stored w (record { value = w.value; means = e; room = room; row_count = w.row_count; pool_count = w.pool_count; rows_left = z.rows_left; pool_left = z.pool_left }) refl)
 
 module _ {t : Table} {j k : Json} (s u : List ℕ) (js : Text 32 j s) (ku : Text 32 k u) {rows pool rows₂ pool₂ : List ℕ} where
   -- "A text is read as the value that X.697 gives it, whatever options its sender chose": a text that says the same with other options
   -- gets, in the same room, the same answer and the same value table
-  pub respelled_calls : {n m : ℕ} {r : Reading} {a b c d : List ℕ} → length u ≤ 65536 → SameRoom rows pool rows₂ pool₂ → Respelled t 0 j k → ReadCall t s rows pool (reading.Read n m) a b
-      → ReadCall t u rows₂ pool₂ r c d → (r ≡ reading.Read n m) × SameTable n m a b n m c d
+  pub respelled_calls : {n m : ℕ} {r : Reading} {a b c d : List ℕ} → length u ≤ 65536 → SameRoom rows pool rows₂ pool₂ → Respelled t 0 j k → ReadCall t s rows pool (read_as n m) a b
+      → ReadCall t u rows₂ pool₂ r c d → (r ≡ read_as n m) × SameTable n m a b n m c d
   respelled_calls {n} {m} {r} {a} {b} {c} {d} size same h x y =
       let w = stored t s rows pool n m a b x in
       let e = means t s w.value w.means in
@@ -75,7 +76,7 @@ module _ {t : Table} {j k : Json} (s u : List ℕ) (js : Text 32 j s) (ku : Text
 
   -- The mapper's question: of two texts that are read, into any buffers, the value tables are equal exactly when one text says what the
   -- other says.
-  pub equal_exactly : {n m n₂ m₂ : ℕ} {a b c d : List ℕ} → ReadCall t s rows pool (reading.Read n m) a b → ReadCall t u rows₂ pool₂ (reading.Read n₂ m₂) c d
+  pub equal_exactly : {n m n₂ m₂ : ℕ} {a b c d : List ℕ} → ReadCall t s rows pool (read_as n m) a b → ReadCall t u rows₂ pool₂ (read_as n₂ m₂) c d
       → Exactly (SameTable n m a b n₂ m₂ c d) (Respelled t 0 j k)
   equal_exactly {n} {m} {n₂} {m₂} {a} {b} {c} {d} x y =
       let w = stored t s rows pool n m a b x in
@@ -88,8 +89,8 @@ module _ {t : Table} {j k : Json} (s u : List ℕ) (js : Text 32 j s) (ku : Text
 
   -- "Two texts that differ only inside the values of skipped members, both JSON within the sizes, get the same rows and pool, or the same
   -- refusal number."
-  pub skipped_calls : {r q : Reading} {a b c d : List ℕ} → first_bad t ≡ none → length s ≤ 65536 → length u ≤ 65536 → SameRoom rows pool rows₂ pool₂ → SkipAlike t 0 j k → ReadCall t s rows pool r a b
-      → ReadCall t u rows₂ pool₂ q c d → SameReading r q × ((n m : ℕ) → r ≡ reading.Read n m → SameTable n m a b n m c d)
+  pub skipped_calls : {r q : Reading} {a b c d : List ℕ} → first_bad t ≡ None → length s ≤ 65536 → length u ≤ 65536 → SameRoom rows pool rows₂ pool₂ → SkipAlike t 0 j k → ReadCall t s rows pool r a b
+      → ReadCall t u rows₂ pool₂ q c d → SameReading r q × ((n m : ℕ) → r ≡ read_as n m → SameTable n m a b n m c d)
   unfolding read_answer
   skipped_calls {r} {q} {a} {b} {c} {d} good l size same h x y = (rw (x.answer, y.answer) (answers (read_text t s) (read_text t u) alike), λ n m e. table n m e)
     where
@@ -104,7 +105,7 @@ module _ {t : Table} {j k : Json} (s u : List ℕ) (js : Text 32 j s) (ku : Text
       value v w same_value e = e
       value v w (same_number f) e = absurd (let z : ◌≡◌ {A = ℕ} 0 1 = cc in omega arith)
 
-      table : (n m : ℕ) → r ≡ reading.Read n m → SameTable n m a b n m c d
+      table : (n m : ℕ) → r ≡ read_as n m → SameTable n m a b n m c d
       table n m e =
           let v = stored t s rows pool n m a b (rw e at x) in
           (same-room-stores same v (value (read_text t s) (read_text t u) alike v.means) y).1

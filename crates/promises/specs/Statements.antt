@@ -1,8 +1,9 @@
 -- What the theorems about the calls say beside the calls' own contracts.
+use Rattle.std.specs.Prelude.{Err, Ok}
+use Rattle.jer.specs.Answer.{read_as}
+use Rattle.jer.specs.Answer.{Reading}
 use Rattle.std.specs.Prelude.{ℕ, ◌*◌, ◌≡◌, List, Bool, true, false, length, take}
 use Rattle.jer.specs.declared.Refusal.{Refusal}
-use Rattle.jer.specs.declared.Reading.{Reading}
-use Rattle.jer.specs.declared.Reading.TheVariants as reading
 use Rattle.jer.specs.Table.{Table}
 use Rattle.jer.specs.Value.{Val}
 use Rattle.jer.specs.Answer.{Res, number_of}
@@ -27,14 +28,14 @@ pub record SameTable (n m : ℕ) (rows pool : List ℕ) (n₂ m₂ : ℕ) (rows�
 
 -- a call stores the value v: r and both buffers afterwards
 pub record Stores (t : Table) (v : Val) (rows pool : List ℕ) (r : Reading) (rows' pool' : List ℕ) : Type 0 where
-  pub answer : r ≡ reading.Read (length (rows_of v t 0 0)) (length (pool_of v))
+  pub answer : r ≡ read_as (length (rows_of v t 0 0)) (length (pool_of v))
   pub rows_left : rows' ≡ over (row_numbers t v) rows
   pub pool_left : pool' ≡ over (pool_of v) pool
 
 -- what the older table answers where the newer one read v: the value cut down is stored; or 11, with nothing touched, if it still lacks something
 pub data Older (old : Table) (rows pool : List ℕ) (v : Val) (r : Reading) (rows' pool' : List ℕ) : Bool → Type 0 where
   cut_down : Stores old (cut v old 0) rows pool r rows' pool' → Older old rows pool v r rows' pool' false
-  lacking : {e : Refusal} → number_of e ≡ 11 → r ≡ reading.Refused e → rows' ≡ rows → pool' ≡ pool → Older old rows pool v r rows' pool' true
+  lacking : {e : Refusal} → number_of e ≡ 11 → r ≡ Err e → rows' ≡ rows → pool' ≡ pool → Older old rows pool v r rows' pool' true
 
 -- a reading by the grammar: what the text says at the table, answered and stored
 pub record ReadsBy (t : Table) (s rows pool : List ℕ) (r : Reading) (rows' pool' : List ℕ) : Type 0 where

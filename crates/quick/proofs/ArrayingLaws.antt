@@ -4,6 +4,7 @@ use mathlib.Core.Path.{◌≡◌, refl, sym, ap, ◌∙◌}
 use mathlib.Core.List.{List, [], ◌∷◌, ◌++◌}
 use mathlib.Core.Bool.{true, false, ◌&&◌}
 use native.Mathlib.Numerals.{add-one}
+use Rattle.std.specs.Prelude.{Some}
 use native.Mathlib.Omega.{arith}
 use lib.Count.{ones}
 use lib.ListN.{length, get_or, set, length-set, length-append}
@@ -133,7 +134,7 @@ module _ {t : Table} {s z : List ℕ} {r j end k met has n m : ℕ} {es : List E
 -- ---- the end
 
 pub array-closed : (t : Table) (s z y x : List ℕ) (d r p j end k met has n m next : ℕ) (es : List Element) (g : Got) (o : Ordered t s y r j end k met has n m es) → kind_of t r ≡ SEQUENCE → Alike z y 0 j
-    → Shut t r y x j met has n m end next g → Stood t s d r p next (v_seq o.parts) → p < next → next ≤ length s → j + 3 + count_of t r + n ≤ end → end ≤ length y → p + m ≤ next → Walked t s z x d r p j g
+    → Shut t r y x j met has n m end next g → Stood t s d r p next (v_seq o.parts) → p < next → next ≤ length s → j + 3 + count_of t r + n ≤ end → end ≤ length y → p + m ≤ next → Walked t s z x d r p j (Some g)
 array-closed t s z y x d r p j end k met has n m next es g o kd al sh st ah pl wo ins fe =
     let c = o.counted in
     let w = ordered-few o in
@@ -237,7 +238,7 @@ module _ {t : Table} {s z₀ z y : List ℕ} {d r p j at end k met has n m : ℕ
       }
 
   pub arraying_last : {x : List ℕ} {h : Got} {q b : ℕ} → kind_of t r ≡ SEQUENCE → is_array t r ≡ true → q ≡ byte_at s p → q ≡ 0x5B → b ≡ byte_at s c → b ≡ 0x5D → g.next ≤ c
-      → Shut t r y x j g.met g.present (n + g.rows) (m + g.pool) g.tape (c + 1) h → Walked t s z₀ x (d + 1) r p j h
+      → Shut t r y x j g.met g.present (n + g.rows) (m + g.pool) g.tape (c + 1) h → Walked t s z₀ x (d + 1) r p j (Some h)
   arraying_last {x} {h} {q} {b} kd ar qp qe bc f l sh =
       let v = arraying_behind in
       let o = v.ordered in
@@ -248,7 +249,7 @@ module _ {t : Table} {s z₀ z y : List ℕ} {d r p j at end k met has n m : ℕ
       (omega (arith, a.ahead, st.ahead)) (omega arith) (omega (arith, a.words, st.words)) st.inside (omega (arith, a.few, st.few))
 
 pub array-none : {t : Table} {s z₀ z x : List ℕ} (d : ℕ) {r p j at q b : ℕ} {h : Got} → Spaces s (p + 1) at → p + 1 ≤ at → Alike z₀ z 0 (j + 3) → ((i : ℕ) → i < count_of t r → get_or z (j + 3 + i) 0 ≡ 0) → {end : ℕ} → end ≡ j + 3 + count_of t r → end ≤ length z
-    → kind_of t r ≡ SEQUENCE → is_array t r ≡ true → q ≡ byte_at s p → q ≡ 0x5B → b ≡ byte_at s at → b ≡ 0x5D → Shut t r z x j 0 0 0 0 end (at + 1) h → Walked t s z₀ x (d + 1) r p j h
+    → kind_of t r ≡ SEQUENCE → is_array t r ≡ true → q ≡ byte_at s p → q ≡ 0x5B → b ≡ byte_at s at → b ≡ 0x5D → Shut t r z x j 0 0 0 0 end (at + 1) h → Walked t s z₀ x (d + 1) r p j (Some h)
 array-none {t} {s} {z₀} {z} {x} d {r} {p} {j} {at} {q} {b} {h} sp a al f {end} ee l kd ar qp qe bc be sh' =
     let o = ordered-none t s z r j f in
     let sh : Shut t r z x j 0 0 0 0 (j + 3 + count_of t r) (at + 1) h = rw (← ee) sh' in

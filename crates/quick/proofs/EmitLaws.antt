@@ -6,7 +6,7 @@ use native.Mathlib.Nat.{add-zero}
 use native.Mathlib.Numerals.{add-one}
 use native.Mathlib.Omega.{arith}
 use mathlib.Core.Bool.{Bool, true, false}
-use mathlib.Core.Option.{Option, some}
+use Rattle.std.specs.Prelude.{Option, Some}
 use borrow.Author.Tests.{ltb-true, ltb-false}
 use lib.Dec.{ltb}
 use lib.ListN.{length, get_or, take, drop}
@@ -209,7 +209,7 @@ pub escaped_emitted : {s z : List ℕ} {t : Table} {r j k : ℕ} {v : Val} (o i 
 unfolding rows_of pool_of numbers
 escaped_emitted {s} {z} {t} {r} {j} {k} {v} o i q rows rows' pool pool' e short ge u f n w = go (by-leaf w (omega arith))
   where
-    stored : {x : List ℕ} {y : Option (List ℕ)} → y ≡ some x → Stored pool' pool o y → pool' ≡ sets pool o x
+    stored : {x : List ℕ} {y : Option (List ℕ)} → y ≡ Some x → Stored pool' pool o y → pool' ≡ sets pool o x
     stored h k = rw h at k
 
     word : {l : Leaf} → Words s t r l (get_or z j 0) (get_or z (j + 1) 0) → Stores rows rows' pool pool' i o q (numbers (rows_of (v_leaf l) t r o)) (pool_of (v_leaf l))

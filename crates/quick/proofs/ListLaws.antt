@@ -136,18 +136,18 @@ module _ (t : Table) (s : List ℕ) (d e : ℕ) where
       }
 
   -- from a₀ up to a stand the items vs, each with its comma: what follows them completes them
-  pub record Some (a₀ a : ℕ) (vs : Vals) : Type 0 where
+  pub record Items-so-far (a₀ a : ℕ) (vs : Vals) : Type 0 where
     pub then : (q : ℕ) (us : Vals) → Ends a q us → Ends a₀ q (vapp vs us)
 
-  pub some-none : (a : ℕ) → Some a a vnil
+  pub items-none : (a : ℕ) → Items-so-far a a vnil
   unfolding vapp
-  some-none a = record { then = λ q us k. k }
+  items-none a = record { then = λ q us k. k }
 
-  pub some_more : (a₀ a b : ℕ) (vs : Vals) (v : Val) → Some a₀ a vs → Item a b v → byte_at s b ≡ 0x2C → Some a₀ (b + 1) (vsnoc vs v)
-  some_more a₀ a b vs v k i h = rw (add-one b) (record { then = λ q us m. rw (vapp_snoc vs v us) (k.then q (vcons v us) (ends_more a b q v us i h m)) })
+  pub items_more : (a₀ a b : ℕ) (vs : Vals) (v : Val) → Items-so-far a₀ a vs → Item a b v → byte_at s b ≡ 0x2C → Items-so-far a₀ (b + 1) (vsnoc vs v)
+  items_more a₀ a b vs v k i h = rw (add-one b) (record { then = λ q us m. rw (vapp_snoc vs v us) (k.then q (vcons v us) (ends_more a b q v us i h m)) })
 
-  pub some-last : (a₀ a b : ℕ) (vs : Vals) (v : Val) → Some a₀ a vs → Item a b v → byte_at s b ≡ 0x5D → Ends a₀ (b + 1) (vsnoc vs v)
-  some-last a₀ a b vs v k i h = rw (add-one b, vapp-last vs v) (k.then (suc b) (vcons v vnil) (ends_last a b v i h))
+  pub items-last : (a₀ a b : ℕ) (vs : Vals) (v : Val) → Items-so-far a₀ a vs → Item a b v → byte_at s b ≡ 0x5D → Ends a₀ (b + 1) (vsnoc vs v)
+  items-last a₀ a b vs v k i h = rw (add-one b, vapp-last vs v) (k.then (suc b) (vcons v vnil) (ends_last a b v i h))
 
 -- ---- the array
 

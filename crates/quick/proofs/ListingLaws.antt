@@ -2,6 +2,7 @@
 use Prim.Native.Nat.{ℕ, suc, ◌+◌, ◌<◌, ◌≤◌}
 use mathlib.Core.Path.{◌≡◌, refl, sym, ◌∙◌}
 use mathlib.Core.List.{List}
+use Rattle.std.specs.Prelude.{Some}
 use native.Mathlib.Numerals.{add-one}
 use native.Mathlib.Omega.{arith}
 use lib.ListN.{length}
@@ -13,7 +14,7 @@ use Rattle.quick.specs.declared.Got.{Got}
 use Rattle.quick.specs.Stood.{Spaces}
 use Rattle.quick.specs.Tape.{headed, Alike, a_list, Listed, no_item}
 use Rattle.quick.specs.Taken.{Headed, Taken, Walked}
-use Rattle.quick.proofs.ListLaws.{vsnoc, count_snoc, rows_snoc, pool_snoc, Item, item-padded, Some, some-none, some_more, some-last, list-stood, empty-stood}
+use Rattle.quick.proofs.ListLaws.{vsnoc, count_snoc, rows_snoc, pool_snoc, Item, item-padded, Items-so-far, items-none, items_more, items-last, list-stood, empty-stood}
 use Rattle.quick.proofs.TapeLaws.{alike_part, listed-alike, listed_snoc}
 use Rattle.quick.proofs.WalkLaws.{alike_same, alike_then, mark-inside, headed-after, header, bracket-closed}
 
@@ -22,7 +23,7 @@ pub record Listing (t : Table) (s z₀ z : List ℕ) (d r p j at end count n m :
   pub place : ℕ
   pub items : Vals
   pub due : Spaces s place at
-  pub some : Some t s d (element_of t r) (p + 1) place items
+  pub so_far : Items-so-far t s d (element_of t r) (p + 1) place items
   pub listed : Listed s z t (element_of t r) items (j + 3) end
   pub counted : count ≡ count_vals items
   pub rows : n ≡ length (item_rows items t (element_of t r) 0)
@@ -43,7 +44,7 @@ listing_start t s z d r p j at h a l =
       place = p + 1;
       items = vnil;
       due = h;
-      some = some-none t s d (element_of t r) (p + 1);
+      so_far = items-none t s d (element_of t r) (p + 1);
       listed = no_item refl;
       counted = refl;
       rows = refl;
@@ -66,13 +67,13 @@ list-pool : (vs : Vals) → length (pool_of (v_list vs)) ≡ length (item_pool v
 unfolding pool_of
 list-pool vs = refl
 
-module _ {t : Table} {s z₀ z y : List ℕ} {d r p j at end count n m : ℕ} (k : Listing t s z₀ z d r p j at end count n m) {e : ℕ} (el : e ≡ element_of t r) {g : Got} (w : Walked t s z y d e at end g) where
-  pub listing_kept : Alike z₀ y 0 j
-  listing_kept = alike_then z₀ z y 0 j k.kept (alike_part 0 j w.kept (omega arith) (omega (arith, k.start)))
+pub listing_kept : {t : Table} {s z₀ z y : List ℕ} {d r p j at end count n m : ℕ} → Listing t s z₀ z d r p j at end count n m → Alike z y 0 end → Alike z₀ y 0 j
+listing_kept {z₀ = z₀} {z = z} {y = y} {j = j} k f = alike_then z₀ z y 0 j k.kept (alike_part 0 j f (omega arith) (omega (arith, k.start)))
 
-  module _ (some' : g.next ≡ 0 → ⊥) (keep : length y ≡ length z) where
+module _ {t : Table} {s z₀ z y : List ℕ} {d r p j at end count n m : ℕ} (k : Listing t s z₀ z d r p j at end count n m) {e : ℕ} (el : e ≡ element_of t r) {g : Got} (w : Walked t s z y d e at end (Some g)) where
+  module _ (keep : length y ≡ length z) where
     listing_taken : Taken t s y d (element_of t r) at end g
-    listing_taken = rw (← el) (w.taken (omega (arith, some')))
+    listing_taken = rw (← el) w.taken
 
     -- numbers after the item
     pub listing_bounds : (at < g.next) × (g.next ≤ length s) × (end + g.rows < g.tape) × (g.tape ≤ length z₀) × (at + g.pool ≤ g.next)
@@ -103,12 +104,12 @@ module _ {t : Table} {s z₀ z y : List ℕ} {d r p j at end count n m : ℕ} (k
             place = c + 1;
             items = vsnoc k.items listing_taken.value;
             due = h.0;
-            some = some_more t s d (element_of t r) (p + 1) k.place c k.items listing_taken.value k.some listing_item (sym bc ∙ f);
+            so_far = items_more t s d (element_of t r) (p + 1) k.place c k.items listing_taken.value k.so_far listing_item (sym bc ∙ f);
             listed = listing_listed;
             counted = listing_counted;
             rows = listing_rows;
             pool = listing_pool;
-            kept = listing_kept;
+            kept = listing_kept k w.kept;
             same = omega (arith, k.same);
             start = omega (arith, k.start);
             inside = listing_taken.inside;
@@ -119,20 +120,20 @@ module _ {t : Table} {s z₀ z y : List ℕ} {d r p j at end count n m : ℕ} (k
           }
 
       pub listing_last : {x : List ℕ} {h : Got} {q : ℕ} → kind_of t r ≡ SEQUENCE-OF → q ≡ byte_at s p → q ≡ 0x5B → b ≡ 0x5D → x ≡ headed y j (count + 1) (n + g.rows + 1) g.tape
-          → Headed (n + g.rows) (m + g.pool) g.tape (c + 1) h → Walked t s z₀ x (d + 1) r p j h
+          → Headed (n + g.rows) (m + g.pool) g.tape (c + 1) h → Walked t s z₀ x (d + 1) r p j (Some h)
       listing_last {x} {h} {q} e qp qe f u hd =
           let v = listing_bounds in
           let l = sp.1 in
           let vs = vsnoc k.items listing_taken.value in
           let i = mark-inside s c b 0x5D bc f (omega arith) in
-          bracket-closed t s z₀ y x (d + 1) r p j (count + 1) (n + g.rows) (m + g.pool) g.tape (c + 1) (v_list vs) h listing_kept (omega (arith, k.start, k.inside)) u hd
-          (rw (add-one d) (list-stood t s d r p e (sym qp ∙ qe) (c + 1) vs (some-last t s d (element_of t r) (p + 1) k.place c k.items listing_taken.value k.some listing_item (sym bc ∙ f))))
+          bracket-closed t s z₀ y x (d + 1) r p j (count + 1) (n + g.rows) (m + g.pool) g.tape (c + 1) (v_list vs) h (listing_kept k w.kept) (omega (arith, k.start, k.inside)) u hd
+          (rw (add-one d) (list-stood t s d r p e (sym qp ∙ qe) (c + 1) vs (items-last t s d (element_of t r) (p + 1) k.place c k.items listing_taken.value k.so_far listing_item (sym bc ∙ f))))
           (let hh = header y j (count + 1) (n + g.rows) g.tape (omega (arith, k.start, k.inside)) in
           a_list e (rw (← listing_counted, ← listing_rows) hh) (listed-alike (headed y j (count + 1) (n + g.rows + 1) g.tape) listing_listed (headed-after y j (count + 1) (n + g.rows + 1) g.tape g.tape)))
           (omega (arith, list-rows vs t r, listing_rows)) (omega (arith, list-pool vs, listing_pool)) (omega (arith, k.ahead)) (omega arith) (omega (arith, k.words)) listing_taken.inside (omega (arith, k.few))
 
 pub list-none : (t : Table) (s z x : List ℕ) (d r p j at b q : ℕ) (h : Got) → kind_of t r ≡ SEQUENCE-OF → j + 3 ≤ length z → q ≡ byte_at s p → q ≡ 0x5B → Spaces s (p + 1) at → p + 1 ≤ at → b ≡ byte_at s at → b ≡ 0x5D
-    → x ≡ headed z j 0 1 (j + 3) → Headed 0 0 (j + 3) (at + 1) h → Walked t s z x (d + 1) r p j h
+    → x ≡ headed z j 0 1 (j + 3) → Headed 0 0 (j + 3) (at + 1) h → Walked t s z x (d + 1) r p j (Some h)
 unfolding count_vals rows_of pool_of above
 list-none t s z x d r p j at b q h e l qp qe sp sl bc f u hd =
     let i = mark-inside s at b 0x5D bc f (omega arith) in

@@ -2,18 +2,18 @@
 use Prim.Native.Nat.{ℕ, zero, suc, ◌+◌, ◌/◌, ◌%◌, ◌^◌, ◌<◌, max}
 use mathlib.Core.Path.{◌≡◌, refl, sym, ap, ◌∙◌}
 use mathlib.Core.List.{List}
-use mathlib.Core.Bool.{Bool, true, false, ◌&&◌, not}
+use mathlib.Core.Bool.{Bool, true, false}
 use native.Mathlib.Nat.{pow-suc, pow-succ', div-one, div-div-eq-div-mul}
 use native.Mathlib.Omega.{arith}
-use borrow.Author.Tests.{eqb-true, eqb-false, eq-eqb, ne_eqb}
+use borrow.Author.Tests.{eqb-true, eqb-false, ne_eqb}
 use lib.Bits.{bit_or, or_step, or_zero_r}
 use lib.Count.{ones, ones_step}
 use lib.Dec.{eqb}
 use lib.ListN.{drop}
 use Rattle.json_text.specs.Bytes.{In}
 use Rattle.json_text.specs.Tree.{Json}
-use Rattle.jer.specs.Table.{Table, optional, type_at, may_miss, null_taken}
-use Rattle.jer.specs.Read.{null?, null_absent}
+use Rattle.jer.specs.Table.{Table, may_miss}
+use Rattle.jer.specs.Read.{null?}
 use Rattle.tokens.specs.Places.{byte_at}
 use Rattle.tokens.proofs.TieFirst.{FirstByte, of_null, of_true, of_false, of_minus, of_digit, of_real_minus, of_real_digit, of_string, of_array, of_object, first_byte}
 use Rattle.places.specs.ByPlaces.{bit_of, with_bit}
@@ -75,25 +75,3 @@ missing-more t r met k f g i l h = go (eqb i k) refl
     go : (b : Bool) → eqb i k ≡ b → may_miss t r i ≡ true
     go true e = let w = eqb-true i k e in ap (λ (x : ℕ). may_miss t r x) w ∙ g (ap (λ (x : ℕ). bit_of met x) (sym w) ∙ h)
     go false e = f i (omega (arith, eqb-false i k e)) h
-
-pub null-no : (t : Table) (r i : ℕ) (b : Bool) → b ≡ optional t r i → not b ≡ true → false ≡ null_absent t r i
-unfolding null_absent
-null-no t r i true e h = absurd (never h)
-null-no t r i false e h = rw (← e)
-
-pub null_yes : (t : Table) (r i m : ℕ) (b c : Bool) → b ≡ optional t r i → not b ≡ false → m ≡ type_at t r i → c ≡ null_taken t m → not c ≡ null_absent t r i
-unfolding null_absent
-null_yes t r i m true c e h f g = rw (← e, g, f)
-null_yes t r i m false c e h f g = absurd (never (sym h))
-
-pub absent-no : (t : Table) (s : List ℕ) (r i p b : ℕ) → b ≡ byte_at s p → (b ≡ 0x6E → ⊥) → false ≡ (eqb (byte_at s p) 0x6E && null_absent t r i)
-absent-no t s r i p b e h = rw (← e, ne_eqb b 0x6E h)
-
-pub absent_yes : (t : Table) (s : List ℕ) (r i p b : ℕ) (c : Bool) → b ≡ byte_at s p → b ≡ 0x6E → c ≡ null_absent t r i → c ≡ (eqb (byte_at s p) 0x6E && null_absent t r i)
-absent_yes t s r i p b c e h f = rw (← e, eq-eqb b 0x6E h) f
-
-pub missing-no : (t : Table) (s : List ℕ) (r i p b : ℕ) → b ≡ byte_at s p → (b ≡ 0x6E → ⊥) → false ≡ (eqb (byte_at s p) 0x6E && may_miss t r i)
-missing-no t s r i p b e h = rw (← e, ne_eqb b 0x6E h)
-
-pub missing_yes : (t : Table) (s : List ℕ) (r i p b : ℕ) (c : Bool) → b ≡ byte_at s p → b ≡ 0x6E → c ≡ may_miss t r i → c ≡ (eqb (byte_at s p) 0x6E && may_miss t r i)
-missing_yes t s r i p b c e h f = rw (← e, eq-eqb b 0x6E h) f

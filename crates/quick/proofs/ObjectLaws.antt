@@ -1,9 +1,10 @@
 -- Objects: the members met so far as parts in table order, of which one more is set at a time, in whatever order the text has them.
+use Rattle.std.specs.Prelude.{is_some}
 use Prim.Native.Nat.{ℕ, zero, suc, ◌+◌, ◌<◌}
 use mathlib.Core.Path.{◌≡◌, refl, sym, ap, ◌∙◌}
 use mathlib.Core.List.{List, [], ◌∷◌, ◌++◌, append_assoc}
 use mathlib.Core.Bool.{true, false, ◌&&◌, not}
-use mathlib.Core.Option.{none, some}
+use Rattle.std.specs.Prelude.{None, Some}
 use native.Mathlib.Numerals.{add-one}
 use native.Mathlib.Omega.{arith}
 use lib.Dec.{eqb}
@@ -13,7 +14,7 @@ use Rattle.json_text.specs.Tree.{Json, jobj, Members, mnil, mcons, msnoc}
 use Rattle.json_text.specs.Grammar as grammar
 use Rattle.json_text.specs.Grammar.{Quoted, Padded, padded, Name, name, Named, last_member, more_members, no_members}
 use Rattle.json_text.proofs.TakesTree.{mapp, mapp_snoc}
-use Rattle.jer.specs.Table.{Table, kind_of, is_unwrapped, is_array, extensible, count_of, type_at, name_at, may_miss, same_bytes, position, is_some, SEQUENCE, CHOICE}
+use Rattle.jer.specs.Table.{Table, kind_of, is_unwrapped, is_array, extensible, count_of, type_at, name_at, may_miss, same_bytes, position, SEQUENCE, CHOICE}
 use Rattle.jer.specs.Value.{Val, v_seq, Parts, pnil, absent, present}
 use Rattle.jer.specs.Answer.{ok, bind}
 use Rattle.jer.specs.Read.{Entry, null?, read, entries, lookup, names_good, null_absent, with_absent, with_present, read_member, read_members, read_object, read_braces, unwrapping}
@@ -29,13 +30,13 @@ use Rattle.quick.proofs.PartLaws.{set_part}
 
 pub data Agrees (t : Table) (r : ℕ) (es : List Entry) : ℕ → Parts → Type 0 where
   no_part : {i : ℕ} → i ≡ count_of t r → Agrees t r es i pnil
-  unmet : {i : ℕ} {ps : Parts} → i < count_of t r → lookup (name_at t r i) es ≡ none → Agrees t r es (suc i) ps → Agrees t r es i (absent ps)
-  nulled : {i : ℕ} {ps : Parts} {e : Entry} → i < count_of t r → lookup (name_at t r i) es ≡ some e → (e.is_null && null_absent t r i) ≡ true → Agrees t r es (suc i) ps → Agrees t r es i (absent ps)
-  valued : {i : ℕ} {ps : Parts} {e : Entry} {v : Val} → i < count_of t r → lookup (name_at t r i) es ≡ some e → (e.is_null && null_absent t r i) ≡ false → e.means (type_at t r i) ≡ ok v → Agrees t r es (suc i) ps
+  unmet : {i : ℕ} {ps : Parts} → i < count_of t r → lookup (name_at t r i) es ≡ None → Agrees t r es (suc i) ps → Agrees t r es i (absent ps)
+  nulled : {i : ℕ} {ps : Parts} {e : Entry} → i < count_of t r → lookup (name_at t r i) es ≡ Some e → (e.is_null && null_absent t r i) ≡ true → Agrees t r es (suc i) ps → Agrees t r es i (absent ps)
+  valued : {i : ℕ} {ps : Parts} {e : Entry} {v : Val} → i < count_of t r → lookup (name_at t r i) es ≡ Some e → (e.is_null && null_absent t r i) ≡ false → e.means (type_at t r i) ≡ ok v → Agrees t r es (suc i) ps
       → Agrees t r es i (present v ps)
 
 -- at the end: every member that was not met may miss
-pub agrees-read : {t : Table} {r i : ℕ} {es : List Entry} {ps : Parts} (o n : ℕ) → Agrees t r es i ps → ((j : ℕ) → j < count_of t r → lookup (name_at t r j) es ≡ none → may_miss t r j ≡ true) → i + n ≡ count_of t r
+pub agrees-read : {t : Table} {r i : ℕ} {es : List Entry} {ps : Parts} (o n : ℕ) → Agrees t r es i ps → ((j : ℕ) → j < count_of t r → lookup (name_at t r j) es ≡ None → may_miss t r j ≡ true) → i + n ≡ count_of t r
     → read_members t r o es i n ≡ ok ps
 unfolding read_members read_member with_absent with_present bind
 agrees-read o zero (no_part e) f h = refl
@@ -52,7 +53,7 @@ module _ (t : Table) (r : ℕ) (es : List Entry) (e : Entry) (m : ℕ) (h : name
   same-lookup : (j : ℕ) → j < count_of t r → (j ≡ m → ⊥) → lookup (name_at t r j) (e ∷ es) ≡ lookup (name_at t r j) es
   same-lookup j l n = lookup-other (name_at t r j) e es (d j l n)
 
-  here-lookup : (j : ℕ) → j ≡ m → lookup (name_at t r j) (e ∷ es) ≡ some e
+  here-lookup : (j : ℕ) → j ≡ m → lookup (name_at t r j) (e ∷ es) ≡ Some e
   here-lookup j f = ap (λ (k : ℕ). lookup (name_at t r k) (e ∷ es)) f ∙ ap (λ (n : List ℕ). lookup n (e ∷ es)) h ∙ lookup-met e es
 
   -- of the members after m nothing changes
@@ -63,23 +64,23 @@ module _ (t : Table) (r : ℕ) (es : List Entry) (e : Entry) (m : ℕ) (h : name
   agrees_after (valued {i = i} b a c g k) l = valued b (same-lookup i b (λ z. omega arith) ∙ a) c g (agrees_after k (omega arith))
 
   -- a null for its absence
-  pub agrees-nulled : {i : ℕ} {ps : Parts} → Agrees t r es i ps → (n : ℕ) → i + n ≡ m → lookup (name_at t r m) es ≡ none → (e.is_null && null_absent t r m) ≡ true → Agrees t r (e ∷ es) i ps
+  pub agrees-nulled : {i : ℕ} {ps : Parts} → Agrees t r es i ps → (n : ℕ) → i + n ≡ m → lookup (name_at t r m) es ≡ None → (e.is_null && null_absent t r m) ≡ true → Agrees t r (e ∷ es) i ps
   agrees-nulled (no_part f) n g u w = no_part f
   agrees-nulled (unmet {i = i} b a k) zero g u w = let z : i ≡ m = omega arith in nulled b (here-lookup i z) (ap (λ (y : ℕ). e.is_null && null_absent t r y) z ∙ w) (agrees_after k (omega arith))
   agrees-nulled (unmet {i = i} b a k) (suc n) g u w = unmet b (same-lookup i b (λ z. omega arith) ∙ a) (agrees-nulled k n (omega arith) u w)
   agrees-nulled (nulled {i = i} b a c k) zero g u w = let z : i ≡ m = omega arith in absurd (no-some (sym a ∙ ap (λ (y : ℕ). lookup (name_at t r y) es) z ∙ u))
     where
-      no-some : {x : Entry} → some x ≡ none → ⊥
+      no-some : {x : Entry} → Some x ≡ None → ⊥
       no-some q = let y : ◌≡◌ {A = ℕ} 0 1 = cc in omega arith
   agrees-nulled (nulled {i = i} b a c k) (suc n) g u w = nulled b (same-lookup i b (λ z. omega arith) ∙ a) c (agrees-nulled k n (omega arith) u w)
   agrees-nulled (valued {i = i} b a c f k) zero g u w = let z : i ≡ m = omega arith in absurd (no-some (sym a ∙ ap (λ (y : ℕ). lookup (name_at t r y) es) z ∙ u))
     where
-      no-some : {x : Entry} → some x ≡ none → ⊥
+      no-some : {x : Entry} → Some x ≡ None → ⊥
       no-some q = let y : ◌≡◌ {A = ℕ} 0 1 = cc in omega arith
   agrees-nulled (valued {i = i} b a c f k) (suc n) g u w = valued b (same-lookup i b (λ z. omega arith) ∙ a) c f (agrees-nulled k n (omega arith) u w)
 
   -- a value
-  pub agrees-valued : {i : ℕ} {ps : Parts} (v : Val) → Agrees t r es i ps → (n : ℕ) → i + n ≡ m → m < count_of t r → lookup (name_at t r m) es ≡ none → (e.is_null && null_absent t r m) ≡ false → e.means (type_at t r m) ≡ ok v
+  pub agrees-valued : {i : ℕ} {ps : Parts} (v : Val) → Agrees t r es i ps → (n : ℕ) → i + n ≡ m → m < count_of t r → lookup (name_at t r m) es ≡ None → (e.is_null && null_absent t r m) ≡ false → e.means (type_at t r m) ≡ ok v
       → Agrees t r (e ∷ es) i (set_part ps n v)
   unfolding set_part
   agrees-valued v (no_part f) n g l u w x = absurd (omega arith)
@@ -88,12 +89,12 @@ module _ (t : Table) (r : ℕ) (es : List Entry) (e : Entry) (m : ℕ) (h : name
   agrees-valued v (unmet {i = i} b a k) (suc n) g l u w x = unmet b (same-lookup i b (λ z. omega arith) ∙ a) (agrees-valued v k n (omega arith) l u w x)
   agrees-valued v (nulled {i = i} b a c k) zero g l u w x = let z : i ≡ m = omega arith in absurd (no-some (sym a ∙ ap (λ (y : ℕ). lookup (name_at t r y) es) z ∙ u))
     where
-      no-some : {x : Entry} → some x ≡ none → ⊥
+      no-some : {x : Entry} → Some x ≡ None → ⊥
       no-some q = let y : ◌≡◌ {A = ℕ} 0 1 = cc in omega arith
   agrees-valued v (nulled {i = i} b a c k) (suc n) g l u w x = nulled b (same-lookup i b (λ z. omega arith) ∙ a) c (agrees-valued v k n (omega arith) l u w x)
   agrees-valued v (valued {i = i} b a c f k) zero g l u w x = let z : i ≡ m = omega arith in absurd (no-some (sym a ∙ ap (λ (y : ℕ). lookup (name_at t r y) es) z ∙ u))
     where
-      no-some : {x : Entry} → some x ≡ none → ⊥
+      no-some : {x : Entry} → Some x ≡ None → ⊥
       no-some q = let y : ◌≡◌ {A = ℕ} 0 1 = cc in omega arith
   agrees-valued v (valued {i = i} b a c f k) (suc n) g l u w x = valued b (same-lookup i b (λ z. omega arith) ∙ a) c f (agrees-valued v k n (omega arith) l u w x)
 
@@ -177,8 +178,8 @@ module _ (t : Table) (s : List ℕ) (d r : ℕ) where
 
   -- a name that is taken: known and not met, or unknown in an extensible type
   pub data Takes (es : List Entry) (e : Entry) : List Entry → Type 0 where
-    knows : {i : ℕ} → position t r e.name ≡ some i → is_some (lookup e.name es) ≡ false → Takes es e (e ∷ es)
-    skips : position t r e.name ≡ none → extensible t r ≡ true → Takes es e es
+    knows : {i : ℕ} → position t r e.name ≡ Some i → is_some (lookup e.name es) ≡ false → Takes es e (e ∷ es)
+    skips : position t r e.name ≡ None → extensible t r ≡ true → Takes es e es
 
   one_name : {es es' : List Entry} {e : Entry} (rest : List Entry) → Takes es e es' → names_good t r es (e ∷ rest) ≡ names_good t r es' rest
   unfolding names_good
@@ -231,7 +232,7 @@ read-object : (t : Table) (r p : ℕ) (ms : Members) (es : List Entry) (ps : Par
 read-object t r p ms es ps k a n m = read-braces t r p ms es ps (not-unwrapped t r SEQUENCE k refl) (ap (λ (x : ℕ). eqb x CHOICE) k) (object-kind t r k a) n m
 
 module _ (t : Table) (s : List ℕ) (d r p q : ℕ) (es : List Entry) (ps : Parts) (k : kind_of t r ≡ SEQUENCE) (na : is_array t r ≡ false) (h : byte_at s p ≡ 0x7B) (a : Agrees t r es 0 ps)
-    (f : (j : ℕ) → j < count_of t r → lookup (name_at t r j) es ≡ none → may_miss t r j ≡ true) where
+    (f : (j : ℕ) → j < count_of t r → lookup (name_at t r j) es ≡ None → may_miss t r j ≡ true) where
   pub object-stood : Object t s d r (p + 1) q es → Stood t s (suc d) r p q (v_seq ps)
   unfolding past
   object-stood o' =

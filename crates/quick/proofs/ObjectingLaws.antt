@@ -1,15 +1,17 @@
 -- SEQUENCE as an object: what is known after some members, one member more, and its end.
+use Rattle.std.specs.Prelude.{is_some}
 use Prim.Native.Nat.{ℕ, suc, ◌+◌, ◌-◌, ◌<◌, ◌≤◌}
 use mathlib.Core.Path.{◌≡◌, refl, sym, ap, ◌∙◌}
 use mathlib.Core.List.{List, [], ◌∷◌}
 use mathlib.Core.Bool.{true, false}
-use mathlib.Core.Option.{none}
+use Rattle.std.specs.Prelude.{None}
 use native.Mathlib.Numerals.{add-one}
+use Rattle.std.specs.Prelude.{Some}
 use native.Mathlib.Omega.{arith}
 use lib.Count.{ones}
 use lib.ListN.{length, get_or, length-set}
 use Rattle.json_text.specs.Tree.{Json}
-use Rattle.jer.specs.Table.{Table, table, field, kind_of, is_type, is_array, count_of, name_at, may_miss, is_some, SEQUENCE}
+use Rattle.jer.specs.Table.{Table, table, field, kind_of, is_type, is_array, count_of, name_at, may_miss, SEQUENCE}
 use Rattle.jer.specs.Value.{v_seq, Parts}
 use Rattle.jer.specs.Read.{Entry, null?, read, lookup}
 use Rattle.jer.specs.Rows.{rows_of, part_rows, pool_of, part_pool, above}
@@ -38,7 +40,7 @@ seq_pool ps = refl
 
 -- a sequence closed, whose text stands
 pub sequence-closed : (t : Table) (s z y x : List ℕ) (d r p j end met has n m next : ℕ) (es : List Entry) (g : Got) (k : Parted t s y r j end met has n m es) → kind_of t r ≡ SEQUENCE → Alike z y 0 j
-    → Shut t r y x j met has n m end next g → Stood t s d r p next (v_seq k.parts) → p < next → next ≤ length s → j + 3 + count_of t r + n ≤ end → end ≤ length y → p + m ≤ next → Walked t s z x d r p j g
+    → Shut t r y x j met has n m end next g → Stood t s d r p next (v_seq k.parts) → p < next → next ≤ length s → j + 3 + count_of t r + n ≤ end → end ≤ length y → p + m ≤ next → Walked t s z x d r p j (Some g)
 sequence-closed t s z y x d r p j end met has n m next es g k kd al sh st ah pl wo ins fe =
     let c = k.counted in
     let w = parted-few k in
@@ -51,8 +53,7 @@ sequence-closed t s z y x d r p j end met has n m next es g k kd al sh st ah pl 
 
 -- what was not met may be missing
 lack : {t : Table} {s y : List ℕ} {r j end met has n m : ℕ} {es : List Entry} → Parted t s y r j end met has n m es → ((i : ℕ) → i < count_of t r → bit_of met i ≡ false → may_miss t r i ≡ true)
-    → (i : ℕ) → i < count_of t r → lookup (name_at t r i) es ≡ none → may_miss t r i ≡ true
-unfolding is_some
+    → (i : ℕ) → i < count_of t r → lookup (name_at t r i) es ≡ None → may_miss t r i ≡ true
 lack k f i l h = f i l (sym (k.bits i l) ∙ ap is_some h)
 
 -- ---- after some members
@@ -155,7 +156,7 @@ module _ {t : Table} {s z₀ z y : List ℕ} {d r p j at end met has n m : ℕ} 
       }
 
   pub objecting_last : {x : List ℕ} {h : Got} {q b : ℕ} → kind_of t r ≡ SEQUENCE → is_array t r ≡ false → q ≡ byte_at s p → q ≡ 0x7B → b ≡ byte_at s c → b ≡ 0x7D → g.next ≤ c
-      → Shut t r y x j g.met g.present (n + g.rows) (m + g.pool) g.tape (c + 1) h → Walked t s z₀ x (d + 1) r p j h
+      → Shut t r y x j g.met g.present (n + g.rows) (m + g.pool) g.tape (c + 1) h → Walked t s z₀ x (d + 1) r p j (Some h)
   objecting_last {x} {h} {q} {b} kd na qp qe bc f l sh =
       let a = objecting_after in
       let i = mark-inside s c b 0x7D bc f (omega arith) in
@@ -165,7 +166,7 @@ module _ {t : Table} {s z₀ z y : List ℕ} {d r p j at end met has n m : ℕ} 
 
 -- no member
 pub object-none : {t : Table} {s z₀ z x : List ℕ} (d : ℕ) {r p j at q b : ℕ} {h : Got} → Spaces s (p + 1) at → p + 1 ≤ at → Alike z₀ z 0 (j + 3) → ((i : ℕ) → i < count_of t r → get_or z (j + 3 + i) 0 ≡ 0) → {end : ℕ} → end ≡ j + 3 + count_of t r → end ≤ length z
-    → kind_of t r ≡ SEQUENCE → is_array t r ≡ false → q ≡ byte_at s p → q ≡ 0x7B → b ≡ byte_at s at → b ≡ 0x7D → Shut t r z x j 0 0 0 0 end (at + 1) h → Walked t s z₀ x (d + 1) r p j h
+    → kind_of t r ≡ SEQUENCE → is_array t r ≡ false → q ≡ byte_at s p → q ≡ 0x7B → b ≡ byte_at s at → b ≡ 0x7D → Shut t r z x j 0 0 0 0 end (at + 1) h → Walked t s z₀ x (d + 1) r p j (Some h)
 object-none {t} {s} {z₀} {z} {x} d {r} {p} {j} {at} {q} {b} {h} sp a al f {end} ee l kd na qp qe bc be sh' =
     let k = parted-none t s z r j f in
     let sh : Shut t r z x j 0 0 0 0 (j + 3 + count_of t r) (at + 1) h = rw (← ee) sh' in
@@ -183,9 +184,6 @@ shuts_any types names row has n k ns = k
 ones-zero : ones 0 ≡ 0
 unfolding ones
 ones-zero = refl
-
-pub shuts_none : (t : Table) (r : ℕ) → Sane t → is_type t r ≡ true → Shuts t r 0 0
-shuts_none t r sane typed = (sane.few r typed, omega (arith, ones-zero), omega (arith, sane.few r typed))
 
 pub shuts_after : {t : Table} {s y : List ℕ} {d r p j c end met has n m : ℕ} → After t s y d r p j c end met has n m → Sane t → is_type t r ≡ true → n + count_of t r ≤ 1048576 → Shuts t r has n
 shuts_after {r = r} a sane typed l = (sane.few r typed, parted-few a.parted, l)

@@ -1,16 +1,17 @@
 -- The members of a sequence met so far: what their bits, their links and their rows say together.
+use Rattle.std.specs.Prelude.{is_some}
 use Prim.Native.Nat.{ℕ, zero, suc, ◌+◌, ◌<◌, ◌≤◌}
 use mathlib.Core.Path.{◌≡◌, refl, sym, ap, ◌∙◌}
 use mathlib.Core.List.{List, [], ◌∷◌}
 use mathlib.Core.Bool.{Bool, true, false, ◌&&◌}
-use mathlib.Core.Option.{Option, none, some}
+use Rattle.std.specs.Prelude.{Option, None, Some}
 use native.Mathlib.Omega.{arith}
 use borrow.Author.Tests.{eqb-true, eqb-false}
 use lib.Count.{ones}
 use lib.Dec.{eqb}
 use lib.ListN.{length, get_or, set}
 use lib.Seq.{get_or-set_same, get_or-set_other}
-use Rattle.jer.specs.Table.{Table, is_type, count_of, type_at, name_at, same_bytes, position, is_some}
+use Rattle.jer.specs.Table.{Table, is_type, count_of, type_at, name_at, same_bytes, position}
 use Rattle.jer.specs.Value.{Val, Parts, count_present}
 use Rattle.jer.specs.Answer.{ok}
 use Rattle.jer.specs.Read.{Entry, lookup, null_absent}
@@ -26,16 +27,15 @@ use Rattle.quick.proofs.WalkLaws.{alike_set}
 use Rattle.quick.proofs.MemberLaws.{ones_with, both_ways}
 use Rattle.quick.proofs.ObjectLaws.{Agrees, no_part, unmet, nulled, valued, agrees-nulled, agrees-valued}
 
-no-some : {x : Entry} → some x ≡ none → ⊥
+no-some : {x : Entry} → Some x ≡ None → ⊥
 no-some q = let y : ◌≡◌ {A = ℕ} 0 1 = cc in omega arith
 
-none-some : (x : Option Entry) → is_some x ≡ false → x ≡ none
-unfolding is_some
-none-some none h = refl
-none-some (some e) h = absurd (let y : ◌≡◌ {A = ℕ} 0 1 = cc in omega arith)
+none-some : (x : Option Entry) → is_some x ≡ false → x ≡ None
+none-some None h = refl
+none-some (Some e) h = absurd (let y : ◌≡◌ {A = ℕ} 0 1 = cc in omega arith)
 
 -- a member that was not met is absent
-agrees-free : {t : Table} {r : ℕ} {es : List Entry} {i : ℕ} {ps : Parts} (m n : ℕ) → Agrees t r es i ps → i + n ≡ m → m < count_of t r → lookup (name_at t r m) es ≡ none → Free ps n
+agrees-free : {t : Table} {r : ℕ} {es : List Entry} {i : ℕ} {ps : Parts} (m n : ℕ) → Agrees t r es i ps → i + n ≡ m → m < count_of t r → lookup (name_at t r m) es ≡ None → Free ps n
 agrees-free m n (no_part e) h l u = absurd (omega arith)
 agrees-free m zero (unmet b a k) h l u = free
 agrees-free m (suc n) (unmet b a k) h l u = past_absent (agrees-free m n k (omega arith) l u)
@@ -82,7 +82,7 @@ unfolding ones
 ones-zero = refl
 
 pub parted-none : (t : Table) (s z : List ℕ) (r j : ℕ) → ((i : ℕ) → i < count_of t r → get_or z (j + 3 + i) 0 ≡ 0) → Parted t s z r j (j + 3 + count_of t r) 0 0 0 0 []
-unfolding lookup is_some
+unfolding lookup
 parted-none t s z r j f =
     record {
       parts = no_parts (count_of t r);
@@ -97,7 +97,7 @@ parted-none t s z r j f =
 
 -- ---- a known member more
 
-module _ {t : Table} {s z : List ℕ} {r j end met has n m : ℕ} {es : List Entry} (k : Parted t s z r j end met has n m es) (sane : Sane t) (typed : is_type t r ≡ true) (e : Entry) (i : ℕ) (pos : position t r e.name ≡ some i) (free' : bit_of met i ≡ false) where
+module _ {t : Table} {s z : List ℕ} {r j end met has n m : ℕ} {es : List Entry} (k : Parted t s z r j end met has n m es) (sane : Sane t) (typed : is_type t r ≡ true) (e : Entry) (i : ℕ) (pos : position t r e.name ≡ Some i) (free' : bit_of met i ≡ false) where
   named-at : name_at t r i ≡ e.name
   named-at = (position-found t r e.name i pos).0
 
@@ -107,7 +107,7 @@ module _ {t : Table} {s z : List ℕ} {r j end met has n m : ℕ} {es : List Ent
   differ-at : (q : ℕ) → q < count_of t r → (q ≡ i → ⊥) → same_bytes e.name (name_at t r q) ≡ false
   differ-at q l h = ap (λ (x : List ℕ). same_bytes x (name_at t r q)) (sym named-at) ∙ names-differ t r i q sane typed inside-at l (λ w. h (sym w))
 
-  unmet-at : lookup (name_at t r i) es ≡ none
+  unmet-at : lookup (name_at t r i) es ≡ None
   unmet-at = none-some _ (k.bits i inside-at ∙ free')
 
   -- its name was not met
@@ -115,7 +115,6 @@ module _ {t : Table} {s z : List ℕ} {r j end met has n m : ℕ} {es : List Ent
   unmet-name = ap (λ (x : List ℕ). is_some (lookup x es)) (sym named-at) ∙ k.bits i inside-at ∙ free'
 
   bits-more : (q : ℕ) → q < count_of t r → is_some (lookup (name_at t r q) (e ∷ es)) ≡ bit_of (with_bit met i) q
-  unfolding is_some
   bits-more q l = go (eqb q i) refl
     where
       go : (b : Bool) → eqb q i ≡ b → is_some (lookup (name_at t r q) (e ∷ es)) ≡ bit_of (with_bit met i) q

@@ -1,22 +1,19 @@
 -- Stores into lent room.
 use Prim.Native.Nat.{ℕ, zero, suc, ◌+◌, ◌^◌, ◌<◌, ◌≤◌}
-use mathlib.Core.Path.{◌≡◌, ap, ◌∙◌}
-use mathlib.Core.List.{List, [], ◌∷◌}
-use native.Mathlib.Nat.{add-zero}
+use mathlib.Core.Path.{◌≡◌, refl, sym, ap, ◌∙◌}
+use mathlib.Core.List.{List, [], ◌∷◌, ◌++◌}
 use native.Mathlib.Omega.{arith}
-use lib.ListN.{length, set, take, drop}
-use lib.Seq.{sets}
+use lib.ListN.{length, take, drop}
+use borrow.Rule.Slice.PartMut.{put_mid}
+use lib.Seq.{sets, sets-eq}
+use Rattle.std.proofs.lemmas.Slice.{put_mid-paste}
+use Rattle.std.proofs.lemmas.List.{take_all}
 use Rattle.tokens.specs.Strings.{denoted}
 
-pub four-stored : (l : List ℕ) (k a b c d : ℕ) → set (set (set (set l k a) (k + 1) b) (k + 2) c) (k + 3) d ≡ sets l k (a ∷ b ∷ c ∷ d ∷ [])
-four-stored l k a b c d =
-    let e₁ : k + 1 ≡ suc k = omega arith in
-    let e₂ : k + 2 ≡ suc (suc k) = omega arith in
-    let e₃ : k + 3 ≡ suc (suc (suc k)) = omega arith in
-    rw (e₁, e₂, e₃)
-
-pub copy_start : (l x : List ℕ) (o : ℕ) → sets l (o + 0) (drop 0 x) ≡ sets l o x
-copy_start l x o = rw (add-zero o)
+-- what is copied over a part
+pub copied : (k : ℕ) (l : List ℕ) {m : List ℕ} (x : List ℕ) {n : ℕ} → n ≡ length x → m ≡ x → k + length x ≤ length l → put_mid k n l m ≡ sets l k x
+copied k l {m} x {n} f e h =
+    put_mid-paste k n l m x n e refl f ∙ ap (λ (y : List ℕ). take k l ++ y ++ drop (k + n) l) (take_all n x (omega arith)) ∙ rw f (sym (sets-eq x l k h))
 
 -- ---- a string
 

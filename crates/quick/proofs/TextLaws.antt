@@ -3,6 +3,7 @@ use Prim.Native.Nat.{ℕ, ◌≤◌}
 use mathlib.Core.Path.{◌≡◌, ◌∙◌}
 use mathlib.Core.List.{List, append-nil}
 use native.Mathlib.Nat.{le_refl}
+use Rattle.std.specs.Prelude.{Some}
 use native.Mathlib.Omega.{arith}
 use borrow.Author.Tests.{le-leb}
 use lib.ListN.{length, drop_of_length-le}
@@ -15,11 +16,9 @@ use Rattle.jer.specs.Value.{Val}
 use Rattle.jer.specs.Answer.{ok, bind}
 use Rattle.jer.specs.Read.{read_whole}
 use Rattle.jer.specs.Calls.{good_text, tree_of}
-use Rattle.jer.specs.Sane.{Sane}
-use Rattle.spelled.specs.Leaves.{IsFlags}
 use Rattle.quick.specs.declared.Got.{Got}
 use Rattle.quick.specs.Stood.{Spaces, Stood}
-use Rattle.quick.specs.Taken.{Given, Walked, Whole}
+use Rattle.quick.specs.Taken.{Walked, Whole}
 use Rattle.quick.proofs.ListLaws.{Item, item-padded}
 
 parsed : (s : List ℕ) (j : Json) → length s ≤ 65536 → Text 32 j s → good_text s ≡ ok j
@@ -37,10 +36,7 @@ text-read t s p q b v l x k y h =
     let i = item-padded t s 32 0 0 p q b v x k y in
     rw (parsed s i.tree l (item-text t s b v i h), bind) i.reads
 
-pub text-taken : {t : Table} {s z₀ z : List ℕ} {p c : ℕ} {g : Got} → length s ≤ 65536 → Spaces s 0 p → Walked t s z₀ z 32 0 p 0 g → (g.next ≡ 0 → ⊥) → Spaces s g.next c → c ≡ length s → Whole t s z g
-text-taken {t} {s} {z₀} {z} {p} {c} {g} l x w nz y h =
-    let k = w.taken (omega (arith, nz)) in
+pub text-taken : {t : Table} {s z₀ z : List ℕ} {p c : ℕ} {g : Got} → length s ≤ 65536 → Spaces s 0 p → Walked t s z₀ z 32 0 p 0 (Some g) → Spaces s g.next c → c ≡ length s → Whole t s z g
+text-taken {t} {s} {z₀} {z} {p} {c} {g} l x w y h =
+    let k = w.taken in
     record { value = k.value; reads = text-read t s p g.next c k.value l x k.stood y h; stands = k.stands; inside = k.inside; rows = k.rows; pool = k.pool; words = omega (arith, k.words, k.inside); few = omega (arith, k.few, k.placed) }
-
-pub text-given : {t : Table} {s z f : List ℕ} {p : ℕ} → Sane t → length s ≤ 65536 → length z ≤ 1048576 → IsFlags f → p ≤ length s → Given t s z f 0 p 0
-text-given sane l m f a = record { sane = sane; typed = sane.whole; short = l; room = m; here = omega arith; start = omega arith; flags = f }

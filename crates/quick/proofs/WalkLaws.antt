@@ -3,6 +3,7 @@ use Prim.Native.Nat.{ℕ, suc, ◌+◌, ◌-◌, ◌<◌, ◌≤◌}
 use mathlib.Core.Path.{◌≡◌, refl, sym, ap, ◌∙◌}
 use mathlib.Core.List.{List}
 use native.Mathlib.Numerals.{add-one}
+use Rattle.std.specs.Prelude.{Option, None, Some}
 use native.Mathlib.Omega.{arith}
 use mathlib.Core.Bool.{Bool, true, false}
 use borrow.Author.Tests.{eqb-true, eqb-false}
@@ -19,7 +20,6 @@ use Rattle.places.specs.ByPlaces.{bit_of}
 use Rattle.quick.specs.declared.Got.{Got}
 use Rattle.quick.specs.declared.bare.Words as declared-leaf
 use Rattle.spelled.specs.Stretch.{Within}
-use Rattle.spelled.specs.Names.{Distinct}
 use Rattle.quick.specs.Stood.{Spaces, Stood}
 use Rattle.quick.specs.Tape.{headed, Alike, Header, Stands, a_leaf}
 use Rattle.quick.specs.Taken.{Headed, Shut, Given, LeafTaken, Walked}
@@ -43,14 +43,11 @@ within-at s w l = omega (arith, w.1)
 
 -- ---- what is not taken
 
-pub not_taken : (t : Table) (s z y : List ℕ) (d r p j : ℕ) (g : Got) → Alike z y 0 j → g.next ≡ 0 → Walked t s z y d r p j g
-not_taken t s z y d r p j g f e = record { kept = f; taken = λ l. absurd (omega arith) }
+pub walked-none : {t : Table} {s z y : List ℕ} {d r p j : ℕ} {o : Option Got} → o ≡ None → Alike z y 0 j → Walked t s z y d r p j o
+walked-none e f = rw e (record { kept = f; taken = tt })
 
-pub not-here : (t : Table) (s z : List ℕ) (d r p j : ℕ) (g : Got) → g.next ≡ 0 → Walked t s z z d r p j g
-not-here t s z d r p j g e = not_taken t s z z d r p j g (alike_same z 0 j) e
-
-pub at-depth : (t : Table) (s z y : List ℕ) (d d' r p j : ℕ) (g : Got) → d ≡ d' → Walked t s z y d r p j g → Walked t s z y d' r p j g
-at-depth t s z y d d' r p j g e k = rw (← e) k
+pub not-here : {t : Table} {s z : List ℕ} {d r p j : ℕ} {o : Option Got} → o ≡ None → Walked t s z z d r p j o
+not-here {z = z} {j = j} e = walked-none e (alike_same z 0 j)
 
 pub mark-inside : (s : List ℕ) (p b k : ℕ) → b ≡ byte_at s p → b ≡ k → k < 256 → p < length s
 mark-inside s p b k e f l = inside s p (λ w. omega arith)
@@ -80,11 +77,11 @@ unfolding pool_of
 leaf-pool l n h = h
 
 pub leaf_noted : (t : Table) (s z : List ℕ) (r p j : ℕ) (w : declared-leaf.Words) (g : Got) → j + 2 ≤ length z → LeafTaken t s r p w → g.next ≡ w.next → g.tape ≡ j + 2 → g.rows ≡ 1 → g.pool ≡ w.pool
-    → (d : ℕ) → Walked t s z (set (set z j w.a) (j + 1) w.b) d r p j g
+    → (d : ℕ) → Walked t s z (set (set z j w.a) (j + 1) w.b) d r p j (Some g)
 leaf_noted t s z r p j w g l k e f h i d =
     record {
       kept = pair-before z j w.a w.b;
-      taken = λ _. record {
+      taken = record {
         value = v_leaf k.leaf;
         stood = rw e (k.stood d);
         stands = a_leaf {r = r} {j = j} {l = k.leaf} (rw (pair_0 z j w.a w.b l, pair_1 z j w.a w.b l) k.words) f;
@@ -137,11 +134,11 @@ header z j a n k l = record { number = headed_0 z j a (n + 1) k l; rows = headed
 -- a bracket closed: its header stands before its parts, which y has
 pub bracket-closed : (t : Table) (s z y w : List ℕ) (d r p j a n m end next : ℕ) (v : Val) (g : Got) → Alike z y 0 j → j + 3 ≤ length y → w ≡ headed y j a (n + 1) end → Headed n m end next g
     → Stood t s d r p next v → Stands s (headed y j a (n + 1) end) t r v j end → suc n ≡ length (rows_of v t r 0) → m ≡ length (pool_of v)
-    → p < next → next ≤ length s → j + n + 1 < end → end ≤ length y → p + m ≤ next → Walked t s z w d r p j g
+    → p < next → next ≤ length s → j + n + 1 < end → end ≤ length y → p + m ≤ next → Walked t s z w d r p j (Some g)
 bracket-closed t s z y w d r p j a n m end next v g f l e h k st rs ps ah pl wo ins fe =
     record {
       kept = rw e (alike_then z y _ 0 j f (headed-before y j a (n + 1) end));
-      taken = λ _. record {
+      taken = record {
         value = v;
         stood = rw h.0 k;
         stands = rw (e, h.1) st;
@@ -171,15 +168,12 @@ pub record Cleared (z y : List ℕ) (from k : ℕ) : Type 0 where
 pub cleared_none : (z : List ℕ) (from : ℕ) → Cleared z z from 0
 cleared_none z from = record { kept = alike_same z 0 from; none = λ i l. absurd (omega arith) }
 
-pub cleared_at : {z y : List ℕ} {from k n : ℕ} → Cleared z y from k → n ≤ k → Alike z y 0 from × ((i : ℕ) → i < n → get_or y (from + i) 0 ≡ 0)
-cleared_at c l = (c.kept, λ i h. c.none i (omega arith))
-
-pub cleared_more : (z y : List ℕ) (from k w : ℕ) → w ≡ k → Cleared z y from k → from + k < length y → Cleared z (set y (from + w) 0) from (k + 1)
-cleared_more z y from k w e c l =
-    rw e (record {
+pub cleared_more : (z y : List ℕ) (from k : ℕ) → Cleared z y from k → from + k < length y → Cleared z (set y (from + k) 0) from (k + 1)
+cleared_more z y from k c l =
+    record {
       kept = alike_then z y _ 0 from c.kept (alike_set y (from + k) 0 0 from (λ n h m e. omega arith));
       none = λ i m. go i (eqb i k) refl m;
-    })
+    }
   where
     go : (i : ℕ) (b : Bool) → eqb i k ≡ b → i < k + 1 → get_or (set y (from + k) 0) (from + i) 0 ≡ 0
     go i true e m = rw (eqb-true i k e) (get_or-set_same y (from + k) 0 0 l)
@@ -187,24 +181,17 @@ cleared_more z y from k w e c l =
 
 -- ---- what a part is given
 
-pub given_part : {t : Table} {s z y f : List ℕ} {r p j e at end : ℕ} → Given t s z f r p j → length y ≡ length z → is_type t e ≡ true → at ≤ length s → end ≤ length y → Given t s y f e at end
-given_part g k ty a b =
-    record { sane = g.sane; typed = ty; short = g.short; room = omega (arith, g.room); here = omega (arith, g.short); start = omega (arith, g.room); flags = g.flags }
+pub given_part : {t : Table} (s : List ℕ) {z y : List ℕ} {r p j e at end : ℕ} → length s ≤ 65536 → Given t z r p j → length y ≡ length z → is_type t e ≡ true → at ≤ length s → end ≤ length y → Given t y e at end
+given_part s short g k ty a b =
+    record { typed = ty; room = omega (arith, g.room); here = omega (arith, short); start = omega (arith, g.room) }
 
-pub walked_from : {t : Table} {s a z x : List ℕ} {d r p j : ℕ} {g : Got} → Alike a z 0 j → Walked t s z x d r p j g → Walked t s a x d r p j g
+pub walked_from : {t : Table} {s a z x : List ℕ} {d r p j : ℕ} {o : Option Got} → Alike a z 0 j → Walked t s z x d r p j o → Walked t s a x d r p j o
 walked_from {a = a} {z = z} {x = x} {j = j} f k = record { kept = alike_then a z x 0 j f k.kept; taken = k.taken }
 
--- the same type further on
-pub given-on : {t : Table} {s z y f : List ℕ} {r p j at end : ℕ} → Given t s z f r p j → length y ≡ length z → at ≤ length s → end ≤ length y → Given t s y f r at end
-given-on g k a b = given_part g k g.typed a b
-
-pub walked_if : {t : Table} {s z x : List ℕ} {d r p j : ℕ} {g : Got} → Alike z x 0 j → (0 < g.next → Walked t s z x d r p j g) → Walked t s z x d r p j g
-walked_if f k = record { kept = f; taken = λ h. (k h).taken h }
+pub walked_if : {t : Table} {s z x : List ℕ} {d r p j : ℕ} (o : Option Got) → Alike z x 0 j → ((g : Got) → o ≡ Some g → Walked t s z x d r p j (Some g)) → Walked t s z x d r p j o
+walked_if None f k = walked-none refl f
+walked_if (Some g) f k = k g refl
 
 -- another type further on, on the same tape
-pub given-at : {t : Table} {s z f : List ℕ} {r p j e m at end : ℕ} → Given t s z f r p j → is_type t e ≡ true → m ≡ e → at ≤ length s → end ≤ length z → Given t s z f m at end
-given-at g ty em a b = given_part g refl (rw em ty) a b
-
--- its members' names differ
-pub given_distinct : {t : Table} {s z f : List ℕ} {r p j : ℕ} → Given t s z f r p j → Distinct t r
-given_distinct {r = r} g i j l m = g.sane.differ r i j g.typed l m
+pub given-at : {t : Table} (s : List ℕ) {z : List ℕ} {r p j e m at end : ℕ} → length s ≤ 65536 → Given t z r p j → is_type t e ≡ true → m ≡ e → at ≤ length s → end ≤ length z → Given t z m at end
+given-at s short g ty em a b = given_part s short g refl (rw em ty) a b

@@ -1,6 +1,6 @@
 -- What the walk over the text is given, and what a success of it says.
 use Rattle.std.specs.Prelude.{ℕ, ◌+◌, ◌-◌, ◌≤◌, ◌<◌, ◌≡◌, Bool, true, false, ◌&&◌, List, length, set}
-use Rattle.std.proofs.Math.Option.{none, some}
+use Rattle.std.specs.Prelude.{Option, None, Some, IfSome}
 use Rattle.std.specs.Int.Count.{ones}
 use Rattle.json_text.specs.Tree.{Json}
 use Rattle.jer.specs.Table.{Table, table, OCTET-STRING, kind_of, is_type, extensible, position, count_of, type_at, may_miss}
@@ -9,25 +9,21 @@ use Rattle.jer.specs.Answer.{ok, bind}
 use Rattle.jer.specs.Read.{read, read_whole, null?, null_absent}
 use Rattle.jer.specs.Calls.{good_text}
 use Rattle.jer.specs.Rows.{leaf_pool, rows_of, pool_of}
-use Rattle.jer.specs.Sane.{Sane}
 use Rattle.places.specs.ByPlaces.{bit_of, with_bit}
 use Rattle.quick.specs.declared.Got.{Got}
 use Rattle.quick.specs.declared.bare.Words as declared-leaf
 use Rattle.quick.specs.declared.name.Name as declared-name
 use Rattle.quick.specs.declared.step.Step as declared-step
-use Rattle.spelled.specs.Leaves.{IsFlags, StringAt}
+use Rattle.spelled.specs.Leaves.{StringAt}
 use Rattle.quick.specs.Stood.{Spaces, TreeAt, Stood, NameAt}
 use Rattle.quick.specs.Tape.{Alike, headed, Words, Stands}
 
--- a good table and a type's row, a text, a tape and a place in each within the sizes; and the flags of plain characters
-pub record Given (t : Table) (s z f : List ℕ) (row place top : ℕ) : Type 0 where
-  pub sane : Sane t
+-- a type's row, a tape within the size, and a place in the text and in the tape
+pub record Given (t : Table) (z : List ℕ) (row place top : ℕ) : Type 0 where
   pub typed : is_type t row ≡ true
-  pub short : length s ≤ 65536
   pub room : length z ≤ 1048576
   pub here : place ≤ 65536
   pub start : top ≤ 1048576
-  pub flags : IsFlags f
 
 -- a leaf was taken: it stands at p, and its words are the two of the answer
 pub record LeafTaken (t : Table) (s : List ℕ) (r p : ℕ) (g : declared-leaf.Words) : Type 0 where
@@ -61,10 +57,10 @@ pub record Taken (t : Table) (s z : List ℕ) (d r p j : ℕ) (g : Got) : Type 0
   pub inside : g.tape ≤ length z
   pub few : p + g.pool ≤ g.next
 
--- what a reader of the walk does: it keeps the tape below j, and a place that is not 0 says that the value was taken
-pub record Walked (t : Table) (s z₀ z₁ : List ℕ) (d r p j : ℕ) (g : Got) : Type 0 where
+-- what a reader of the walk does: it keeps the tape below j, and an answer says that the value was taken
+pub record Walked (t : Table) (s z₀ z₁ : List ℕ) (d r p j : ℕ) (o : Option Got) : Type 0 where
   pub kept : Alike z₀ z₁ 0 j
-  pub taken : 0 < g.next → Taken t s z₁ d r p j g
+  pub taken : IfSome o (λ g. Taken t s z₁ d r p j g)
 
 -- the answer of a bracket with n rows of parts
 abbrev pub Headed : ℕ → ℕ → ℕ → ℕ → Got → Type 0
@@ -97,12 +93,11 @@ pub record Whole (t : Table) (s z : List ℕ) (g : Got) : Type 0 where
 
 -- ---- a member of an object
 
--- a name was taken at p: it is the member's at the position, or no member's where that is the count
+-- a name was taken at p, and the position is that of the member that has it
 pub record NameTaken (t : Table) (s : List ℕ) (r p : ℕ) (g : declared-name.Name) : Type 0 where
   pub name : List ℕ
   pub stood : NameAt s p g.next name
-  pub known : g.position < count_of t r → position t r name ≡ some g.position
-  pub unknown : count_of t r ≤ g.position → position t r name ≡ none
+  pub found : position t r name ≡ g.position
   pub ahead : p < g.next
   pub placed : g.next ≤ length s
 
@@ -116,15 +111,15 @@ pub record MemberAt (s : List ℕ) (d p q : ℕ) (name : List ℕ) (tree : Json)
 
 -- one member: a value noted from `end` on, to which its link leads; a null that means its absence; or an unknown one, passed over
 pub data Met (t : Table) (s z₀ z₁ : List ℕ) (d r p top end met present : ℕ) (g : declared-step.Step) : Type 0 where
-  valued : {i : ℕ} {name : List ℕ} {tree : Json} {v : Val} {z : List ℕ} → MemberAt s d p g.next name tree → position t r name ≡ some i → bit_of met i ≡ false → (null? tree && null_absent t r i) ≡ false
+  valued : {i : ℕ} {name : List ℕ} {tree : Json} {v : Val} {z : List ℕ} → MemberAt s d p g.next name tree → position t r name ≡ Some i → bit_of met i ≡ false → (null? tree && null_absent t r i) ≡ false
       → read tree t (type_at t r i) ≡ ok v → Alike z₀ z 0 end → Stands s z t (type_at t r i) v end g.tape → z₁ ≡ set z (top + 3 + i) end → g.rows ≡ length (rows_of v t (type_at t r i) 0)
       → g.pool ≡ length (pool_of v) → g.met ≡ with_bit met i → g.present ≡ with_bit present i → Met t s z₀ z₁ d r p top end met present g
-  nulled : {i : ℕ} {name : List ℕ} {tree : Json} → MemberAt s d p g.next name tree → position t r name ≡ some i → bit_of met i ≡ false → (null? tree && null_absent t r i) ≡ true
+  nulled : {i : ℕ} {name : List ℕ} {tree : Json} → MemberAt s d p g.next name tree → position t r name ≡ Some i → bit_of met i ≡ false → (null? tree && null_absent t r i) ≡ true
       → z₁ ≡ z₀ → g.tape ≡ end → g.rows ≡ 0 → g.pool ≡ 0 → g.met ≡ with_bit met i → g.present ≡ present → Met t s z₀ z₁ d r p top end met present g
-  passed : {name : List ℕ} {tree : Json} → MemberAt s d p g.next name tree → position t r name ≡ none → extensible t r ≡ true
+  passed : {name : List ℕ} {tree : Json} → MemberAt s d p g.next name tree → position t r name ≡ None → extensible t r ≡ true
       → z₁ ≡ z₀ → g.tape ≡ end → g.rows ≡ 0 → g.pool ≡ 0 → g.met ≡ met → g.present ≡ present → Met t s z₀ z₁ d r p top end met present g
 
--- what reading a member does: it keeps the tape before the links; a place that is not 0 says that it was taken, with numbers like those of a value
+-- what reading a member does: it keeps the tape before the links; an answer says that it was taken, with numbers like those of a value
 pub record Stepped (t : Table) (s z₀ z₁ : List ℕ) (d r p top end met present : ℕ) (g : declared-step.Step) : Type 0 where
   pub how : Met t s z₀ z₁ d r p top end met present g
   pub ahead : p < g.next

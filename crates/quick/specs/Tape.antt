@@ -1,7 +1,7 @@
 -- What a tape stands for. A value without parts has two words: those of its row. Any other has a header of three words, and then its parts.
 -- A SEQUENCE has, before its parts, a link for each member: 0, or where the member's value stands.
 use Rattle.std.specs.Prelude.{ℕ, suc, ◌+◌, ◌*◌, ◌/◌, ◌%◌, ◌^◌, ◌≤◌, ◌<◌, ◌≡◌, List, [], true, false, length, get_or, set, take, drop}
-use Rattle.std.proofs.Math.Option.{some}
+use Rattle.std.specs.Prelude.{Some}
 use Rattle.json_text.specs.Grammar.{Quoted}
 use Rattle.jer.specs.Table.{Table, kind_of, is_base64, element_of, count_of, type_at, NULL, OCTET-STRING, UTF8String, SEQUENCE, SEQUENCE-OF, CHOICE}
 use Rattle.jer.specs.Value.{Leaf, l_bytes, Val, v_leaf, v_seq, v_list, v_choice, Vals, vnil, vcons, count_vals, Parts, pnil, absent, present, count_present}
@@ -31,12 +31,12 @@ pub data Words (s : List ℕ) (t : Table) (r : ℕ) : Leaf → ℕ → ℕ → T
   in_row : {l : Leaf} {a b : ℕ} → kind_of t r ≤ NULL → leaf_pool l ≡ [] → ((o : ℕ) → leaf_row l (kind_of t r) o ≡ row (kind_of t r) a b 1) → Words s t r l a b
   in_text : {x : List ℕ} {a b : ℕ} → kind_of t r ≡ UTF8String → Text s a b x → Words s t r (l_bytes x) a b
   -- b octets in hexadecimal, after the quotation mark at a
-  in_hex : {x : List ℕ} {a b : ℕ} → kind_of t r ≡ OCTET-STRING → is_base64 t r ≡ false → unhex (take (b * 2) (drop (a + 1) s)) ≡ some x → b ≡ length x → a + 1 + b * 2 ≤ length s → Words s t r (l_bytes x) a b
+  in_hex : {x : List ℕ} {a b : ℕ} → kind_of t r ≡ OCTET-STRING → is_base64 t r ≡ false → unhex (take (b * 2) (drop (a + 1) s)) ≡ Some x → b ≡ length x → a + 1 + b * 2 ≤ length s → Words s t r (l_bytes x) a b
   -- in Base64: 65536 times the number of characters, and the number of octets
-  in_base64 : {x : List ℕ} {a b : ℕ} → kind_of t r ≡ OCTET-STRING → is_base64 t r ≡ true → unbase64 (take (b / 65536) (drop (a + 1) s)) ≡ some x → b % 65536 ≡ length x → a + 1 + b / 65536 ≤ length s → b < 2 ^ 31
+  in_base64 : {x : List ℕ} {a b : ℕ} → kind_of t r ≡ OCTET-STRING → is_base64 t r ≡ true → unbase64 (take (b / 65536) (drop (a + 1) s)) ≡ Some x → b % 65536 ≡ length x → a + 1 + b / 65536 ≤ length s → b < 2 ^ 31
       → Words s t r (l_bytes x) a b
   -- escaped: the number of octets, and 2^31 more
-  in_escaped : {x : List ℕ} {a b : ℕ} → kind_of t r ≡ OCTET-STRING → octets_of t r (denoted s (a + 1)) ≡ some x → b ≡ length x + 2 ^ 31 → a ≤ 65536 → Words s t r (l_bytes x) a b
+  in_escaped : {x : List ℕ} {a b : ℕ} → kind_of t r ≡ OCTET-STRING → octets_of t r (denoted s (a + 1)) ≡ Some x → b ≡ length x + 2 ^ 31 → a ≤ 65536 → Words s t r (l_bytes x) a b
 
 -- at j stands a header: the number that the row has, how many rows there are with the n of the parts, and where the parts end
 pub record Header (z : List ℕ) (j a n k : ℕ) : Type 0 where

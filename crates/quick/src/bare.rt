@@ -1,21 +1,20 @@
 // A value without parts, at a place of the text.
-ghost use Rattle.std.specs.Prelude.{◌≡◌, List, ℕ, ◌≤◌, ◌<◌, length};
+ghost use Rattle.std.specs.Prelude.{List, ℕ, ◌≤◌, length, IfSome};
 ghost use Rattle.jer.specs.Table.{Table, BOOLEAN, INTEGER, ENUMERATED, NULL, OCTET-STRING, UTF8String, table};
-ghost use Rattle.spelled.specs.Leaves.{IsFlags};
 ghost use Rattle.spelled.specs.Names.{Distinct};
 ghost use Rattle.quick.specs.Taken.{LeafTaken, LeafOf, OctetsTaken};
 
-use crate::coded::octets_at;
 use crate::name::position_of;
-use octets::decode::Found;
+use crate::source::Source;
+use leaf::strings::octets_at;
 use slices::byte_at;
 use spelled::coded::{base64_count, hex_count};
 use spelled::integer::integer;
 use spelled::string::string;
-use spelled::word::{literal_false, literal_null, literal_true};
-use types::row::{Row, count_of, kind_of};
+use spelled::word::literal;
+use types::row::{Row, kind_of};
 
-// The place after it, or 0; the two words of it; how many pool bytes.
+// The place after it; the two words of it; how many pool bytes.
 #[derive(Clone, Copy)]
 pub struct Words {
     pub next: usize,
@@ -24,137 +23,133 @@ pub struct Words {
     pub pool: usize,
 }
 
-fn taken(next: usize, a: u32, b: u32, pool: usize) -> Words
-    ensures { (result.next ≡ next) × (result.a ≡ a) × (result.b ≡ b) × (result.pool ≡ pool) }
+pub fn leaf(source: &Source, memo: &mut [u8; 1024], row: usize, place: usize) -> Option<Words>
+    requires { (place ≤ 65536) × Distinct (table source.now.types.now source.now.names.now) row }
+    ensures { IfSome result (λ w. LeafTaken (table source.now.types.now source.now.names.now) source.now.s.now row place w) }
 {
-    Words { next, a, b, pool }
-}
-
-pub fn leaf(
-    types: &[u32],
-    names: &[u8],
-    s: &[u8],
-    flags: &[u8; 256],
-    memo: &mut [u8; 1024],
-    row: usize,
-    place: usize,
-) -> Words
-    requires { (length s.now ≤ 65536) × (place ≤ 65536) × IsFlags flags.now × Distinct (table types.now names.now) row }
-    ensures { 0 < result.next → LeafTaken (table types.now names.now) s.now row place result }
-{
-    match kind_of(types, row) {
-        Row::BOOLEAN => boolean(s, place),
-        Row::INTEGER => number(s, place),
-        Row::ENUMERATED => item(types, names, s, flags, memo, row, place),
-        Row::NULL => taken(literal_null(s, place), 0, 0, 0),
-        Row::OCTET_STRING => octets(types, s, flags, row, place),
-        Row::UTF8_STRING => text(s, flags, place),
-        _ => taken(0, 0, 0, 0),
+    match kind_of(source.types, row) {
+        Row::BOOLEAN => boolean(source.s, place),
+        Row::INTEGER => number(source.s, place),
+        Row::ENUMERATED => item(source, memo, row, place),
+        Row::NULL => Some(Words {
+            next: literal(source.s, place, b"null")?,
+            a: 0,
+            b: 0,
+            pool: 0,
+        }),
+        Row::OCTET_STRING => octets(source, row, place),
+        Row::UTF8_STRING => text(source, place),
+        _ => None,
     }
 }
 
-fn boolean(s: &[u8], place: usize) -> Words
-    ensures { 0 < result.next → (t : Table) (row : ℕ) → LeafOf BOOLEAN t s.now row place result }
+fn boolean(s: &[u8], place: usize) -> Option<Words>
+    ensures { IfSome result (λ w. (t : Table) (row : ℕ) → LeafOf BOOLEAN t s.now row place w) }
 {
     if byte_at(s, place) == 0x74 {
-        return taken(literal_true(s, place), 1, 0, 0);
+        return Some(Words {
+            next: literal(s, place, b"true")?,
+            a: 1,
+            b: 0,
+            pool: 0,
+        });
     }
-    taken(literal_false(s, place), 0, 0, 0)
+    Some(Words {
+        next: literal(s, place, b"false")?,
+        a: 0,
+        b: 0,
+        pool: 0,
+    })
 }
 
-fn number(s: &[u8], place: usize) -> Words
-    ensures { 0 < result.next → (t : Table) (row : ℕ) → LeafOf INTEGER t s.now row place result }
+fn number(s: &[u8], place: usize) -> Option<Words>
+    ensures { IfSome result (λ w. (t : Table) (row : ℕ) → LeafOf INTEGER t s.now row place w) }
 {
-    let n = integer(s, place);
-    taken(n.next, n.low, n.high, 0)
+    let n = integer(s, place)?;
+    Some(Words {
+        next: n.next,
+        a: n.low,
+        b: n.high,
+        pool: 0,
+    })
 }
 
 // What is added to the length of a string in which something is escaped.
 pub const ESCAPED: u32 = 2147483648;
 
 // A UTF8String: where it stands, and its length.
-fn text(s: &[u8], flags: &[u8; 256], place: usize) -> Words
-    requires { (length s.now ≤ 65536) × (place ≤ 65536) × IsFlags flags.now }
-    ensures { 0 < result.next → (t : Table) (row : ℕ) → LeafOf UTF8String t s.now row place result }
+fn text(source: &Source, place: usize) -> Option<Words>
+    requires { place ≤ 65536 }
+    ensures { IfSome result (λ w. (t : Table) (row : ℕ) → LeafOf UTF8String t source.now.s.now row place w) }
 {
-    let w = string(s, place, flags);
-    if w.next == 0 {
-        return taken(0, 0, 0, 0);
-    }
+    let w = string(source.s, place, source.flags)?;
     let n = w.count as u32;
-    if w.escaped {
-        return taken(w.next, place as u32, n + ESCAPED, w.count);
-    }
-    taken(w.next, place as u32, n, w.count)
+    Some(Words {
+        next: w.next,
+        a: place as u32,
+        b: if w.escaped { n + ESCAPED } else { n },
+        pool: w.count,
+    })
 }
 
 // An ENUMERATED: the item's position.
-fn item(
-    types: &[u32],
-    names: &[u8],
-    s: &[u8],
-    flags: &[u8; 256],
-    memo: &mut [u8; 1024],
-    row: usize,
-    place: usize,
-) -> Words
-    requires { (length s.now ≤ 65536) × (place ≤ 65536) × IsFlags flags.now × Distinct (table types.now names.now) row }
-    ensures { 0 < result.next → LeafOf ENUMERATED (table types.now names.now) s.now row place result }
+fn item(source: &Source, memo: &mut [u8; 1024], row: usize, place: usize) -> Option<Words>
+    requires { (place ≤ 65536) × Distinct (table source.now.types.now source.now.names.now) row }
+    ensures { IfSome result (λ w. LeafOf ENUMERATED (table source.now.types.now source.now.names.now) source.now.s.now row place w) }
 {
-    let w = string(s, place, flags);
-    if w.next == 0 {
-        return taken(0, 0, 0, 0);
-    }
-    let k = position_of(types, names, s, memo, row, 0, place, w.count, w.escaped);
-    if count_of(types, row) <= k {
-        return taken(0, 0, 0, 0);
-    }
-    taken(w.next, k, 0, 0)
+    let w = string(source.s, place, source.flags)?;
+    let k = position_of(source, memo, row, 0, place, w.count, w.escaped)?;
+    Some(Words {
+        next: w.next,
+        a: k,
+        b: 0,
+        pool: 0,
+    })
 }
 
 // An OCTET STRING that has no escapes: where it stands, and how many octets it has; in Base64 with its characters above.
-fn octets(types: &[u32], s: &[u8], flags: &[u8; 256], row: usize, place: usize) -> Words
-    requires { (length s.now ≤ 65536) × (place ≤ 65536) × IsFlags flags.now }
-    ensures { 0 < result.next → (ns : List ℕ) → LeafOf OCTET-STRING (table types.now ns) s.now row place result }
+fn octets(source: &Source, row: usize, place: usize) -> Option<Words>
+    requires { place ≤ 65536 }
+    ensures { IfSome result (λ w. (ns : List ℕ) → LeafOf OCTET-STRING (table source.now.types.now ns) source.now.s.now row place w) }
 {
-    let w = string(s, place, flags);
-    if w.next == 0 {
-        return taken(0, 0, 0, 0);
-    }
+    let w = string(source.s, place, source.flags)?;
     if w.escaped {
-        return escaped(types, s, row, place, w.next, w.count);
+        return escaped(source, row, place, w.next, w.count);
     }
     if 32767 < w.count {
-        return taken(0, 0, 0, 0);
+        return None;
     }
-    if Row::at(types, row).is_base64() {
-        let n = base64_count(s, place + 1, w.count);
-        if w.count < n {
-            return taken(0, 0, 0, 0);
-        }
-        return taken(w.next, place as u32, (w.count * 65536 + n) as u32, n);
+    if Row::at(source.types, row).is_base64() {
+        let n = base64_count(source.s, place + 1, w.count)?;
+        return Some(Words {
+            next: w.next,
+            a: place as u32,
+            b: (w.count * 65536 + n) as u32,
+            pool: n,
+        });
     }
-    let n = hex_count(s, place + 1, w.count);
-    if w.count < n {
-        return taken(0, 0, 0, 0);
-    }
-    if w.count != n * 2 {
-        return taken(0, 0, 0, 0);
-    }
-    taken(w.next, place as u32, n as u32, n)
+    let n = hex_count(source.s, place + 1, w.count)?;
+    Some(Words {
+        next: w.next,
+        a: place as u32,
+        b: n as u32,
+        pool: n,
+    })
 }
 
 // One in which something is escaped, of n bytes: how many octets it has, and 2^31 more.
-fn escaped(types: &[u32], s: &[u8], row: usize, place: usize, next: usize, n: usize) -> Words
-    requires { (length s.now ≤ 65536) × (place ≤ 65536) × (n ≤ 65536) }
-    ensures { 0 < result.next → OctetsTaken types.now s.now row place next n result }
+fn escaped(source: &Source, row: usize, place: usize, next: usize, n: usize) -> Option<Words>
+    requires { (place ≤ 65536) × (n ≤ 65536) }
+    ensures { IfSome result (λ w. OctetsTaken source.now.types.now source.now.s.now row place next n w) }
 {
-    let mut none = [0u8; 1];
-    let Found::Octets(m) = octets_at(types, s, &mut none, row, place, 0) else {
-        return taken(0, 0, 0, 0);
-    };
+    let m = octets_at(source.types, source.s, &mut [0], row, place, 0)?;
     if n < m {
-        return taken(0, 0, 0, 0);
+        return None;
     }
-    taken(next, place as u32, m as u32 + ESCAPED, m)
+    Some(Words {
+        next,
+        a: place as u32,
+        b: m as u32 + ESCAPED,
+        pool: m,
+    })
 }

@@ -4,8 +4,8 @@ ghost use Rattle.jer.specs.Table.{kind_of, table};
 ghost use Rattle.quick.specs.Emit.{Sizes, Noted, NotedItems, NotedParts, Emits, Pours, EmitsParts, Passes, InPool};
 
 use crate::bare::ESCAPED;
-use crate::coded::octets_at;
 use crate::store::{put_row, put_text};
+use leaf::strings::octets_at;
 use spelled::put::{put_base64, put_hex};
 use types::row::{Row, count_of, element_of, kind_of, type_at, wide};
 
@@ -75,6 +75,7 @@ fn string(
 }
 
 // Stores the value of the type at `row` that stands from `top` on, from the slot and the offset on; the offset after it.
+// By `&Source` in place of table and text it took 2.4 % more instructions of a read of a list, by `Source` 3.6 %.
 #[cycle(emit_items_parts)]
 pub fn emit(
     types: &[u32],
@@ -132,7 +133,7 @@ pub fn emit(
     }
 }
 
-// The items from `from` up to `end`.
+// The items from `from` up to `end`. A loop: an item ends where its own walk ended.
 #[cycle(emit_items_parts)]
 fn items(
     types: &[u32],
@@ -181,21 +182,18 @@ fn parts(
     ensures { EmitsParts types.now s.now tape.now row from slot offset rows.old rows.new pool.old pool.new result }
 {
     let count = count_of(types, row);
-    let mut k: u32 = 0;
     let mut q = slot;
     let mut o = offset;
-    while k < count {
+    for k in 0..count {
         let w = wide(tape[from + wide(k)]);
         if w == 0 {
             put_row(rows, q, ABSENT, 0, 0, 1);
             q += 1;
-            k += 1;
         } else {
             let m = type_at(types, row, k);
             o = emit(types, s, tape, rows, pool, m, w, q, o);
             let g = node_at(types, tape, m, w);
             q += g.rows;
-            k += 1;
         }
     }
     o

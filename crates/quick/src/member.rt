@@ -6,39 +6,24 @@ ghost use Rattle.tokens.specs.Places.{byte_at};
 ghost use Rattle.places.specs.ByPlaces.{bit_of};
 ghost use Rattle.quick.specs.Taken.{Complete};
 
+use crate::source::Source;
 use scan::met::bit;
+use scan::parts::null_absent;
 use slices::byte_at;
-use types::row::{count_of, may_miss, member_at, type_at};
-use types::token::null_taken;
+use types::row::{count_of, may_miss};
 
-// Null stands for the absent member.
-fn null_absent(types: &[u32], row: usize, k: u32) -> bool
-    ensures { (ns : List ℕ) → result ≡ null_absent (table types.now ns) row k }
+// The value at the place is null, for the absence of the member at k of an object.
+pub fn absent_at(source: &Source, row: usize, k: u32, place: usize) -> bool
+    ensures { (ns : List ℕ) → result ≡ (eqb (byte_at source.now.s.now place) 0x6E && null_absent (table source.now.types.now ns) row k) }
 {
-    if !member_at(types, row, k).optional() {
-        return false;
-    }
-    !null_taken(types, type_at(types, row, k))
-}
-
-// So does the value at the place, of the member at k of an object.
-pub fn absent_at(types: &[u32], s: &[u8], row: usize, k: u32, place: usize) -> bool
-    ensures { (ns : List ℕ) → result ≡ (eqb (byte_at s.now place) 0x6E && null_absent (table types.now ns) row k) }
-{
-    if byte_at(s, place) != 0x6E {
-        return false;
-    }
-    null_absent(types, row, k)
+    byte_at(source.s, place) == 0x6E && null_absent(source.types, row, k)
 }
 
 // The element at the place is null, for the absence of the member at k of an ARRAY.
-pub fn missing_at(types: &[u32], s: &[u8], row: usize, k: u32, place: usize) -> bool
-    ensures { (ns : List ℕ) → result ≡ (eqb (byte_at s.now place) 0x6E && may_miss (table types.now ns) row k) }
+pub fn missing_at(source: &Source, row: usize, k: u32, place: usize) -> bool
+    ensures { (ns : List ℕ) → result ≡ (eqb (byte_at source.now.s.now place) 0x6E && may_miss (table source.now.types.now ns) row k) }
 {
-    if byte_at(s, place) != 0x6E {
-        return false;
-    }
-    may_miss(types, row, k)
+    byte_at(source.s, place) == 0x6E && may_miss(source.types, row, k)
 }
 
 // The member at k was met, or may be missing.
@@ -58,12 +43,10 @@ pub fn complete(types: &[u32], row: usize, met: u64) -> bool
     ensures { result ≡ true → (ns : List ℕ) → Complete (table types.now ns) row met }
 {
     let count = count_of(types, row);
-    let mut k: u32 = 0;
-    while k < count {
+    for k in 0..count {
         if lacks(types, row, met, k) {
             return false;
         }
-        k += 1;
     }
     true
 }

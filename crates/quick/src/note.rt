@@ -1,5 +1,5 @@
 // Words noted on the tape.
-ghost use Rattle.std.specs.Prelude.{◌≡◌, List, ℕ, ◌+◌, ◌-◌, ◌≤◌, ◌<◌, length, get_or};
+ghost use Rattle.std.specs.Prelude.{◌≡◌, List, ℕ, ◌+◌, ◌≤◌, ◌<◌, length, get_or, IfSome};
 ghost use Rattle.std.specs.Int.Count.{ones};
 ghost use Rattle.jer.specs.Table.{count_of, table};
 ghost use Rattle.quick.specs.Tape.{Alike, headed};
@@ -8,50 +8,34 @@ ghost use Rattle.quick.specs.Taken.{Headed, Given, Walked, Shuts, Shut};
 use crate::Got;
 use crate::bare::leaf;
 use crate::member::complete;
+use crate::source::Source;
 use scan::met::ones;
 use types::row::{count_of, wide};
 
-pub fn other() -> Got
-    ensures { result.next ≡ 0 }
-{
-    Got {
-        next: 0,
-        tape: 0,
-        rows: 0,
-        pool: 0,
-    }
-}
-
 // A value without parts: its two words from `top` on.
 pub fn note(
-    types: &[u32],
-    names: &[u8],
-    s: &[u8],
+    source: &Source,
     tape: &mut [u32],
-    flags: &[u8; 256],
     memo: &mut [u8; 1024],
     row: usize,
     place: usize,
     top: usize,
-) -> Got
-    requires { Given (table types.now names.now) s.now tape.old flags.now row place top }
-    ensures { (d : ℕ) → Walked (table types.now names.now) s.now tape.old tape.new d row place top result }
+) -> Option<Got>
+    requires { Given (table source.now.types.now source.now.names.now) tape.old row place top }
+    ensures { (d : ℕ) → Walked (table source.now.types.now source.now.names.now) source.now.s.now tape.old tape.new d row place top result }
 {
     if tape.len() < top + 2 {
-        return other();
+        return None;
     }
-    let w = leaf(types, names, s, flags, memo, row, place);
-    if w.next == 0 {
-        return other();
-    }
+    let w = leaf(source, memo, row, place)?;
     tape[top] = w.a;
     tape[top + 1] = w.b;
-    Got {
+    Some(Got {
         next: w.next,
         tape: top + 2,
         rows: 1,
         pool: w.pool,
-    }
+    })
 }
 
 // The header at `top` of a bracket whose number is a and whose n rows of parts end at `end`; its closing bracket stands at `place`.
@@ -85,10 +69,8 @@ pub fn clear(tape: &mut [u32], from: usize, count: u32)
     ensures alike { Alike tape.old tape.new 0 from }
     ensures by_index { (i : ℕ) → i < count → get_or tape.new (from + i) 0 ≡ 0 }
 {
-    let mut k: u32 = 0;
-    while k < count {
-        tape[from + wide(k)] = 0;
-        k += 1;
+    for k in 0..wide(count) {
+        tape[from + k] = 0;
     }
 }
 
@@ -104,15 +86,15 @@ pub fn shut(
     pool: usize,
     end: usize,
     next: usize,
-) -> Got
+) -> Option<Got>
     requires { ((ns : List ℕ) → Shuts (table types.now ns) row present n) × (top + 3 ≤ length tape.old) × (end ≤ 1048576) }
     ensures alike { Alike tape.old tape.new 0 top }
-    ensures shut { 0 < result.next → (ns : List ℕ) → Shut (table types.now ns) row tape.old tape.new top met present n pool end next result }
+    ensures shut { IfSome result (λ g. (ns : List ℕ) → Shut (table types.now ns) row tape.old tape.new top met present n pool end next g) }
 {
     if !complete(types, row, met) {
-        return other();
+        return None;
     }
     let a = ones(present);
     let absent = count_of(types, row) - a;
-    head(tape, top, a, n + wide(absent), pool, end, next)
+    Some(head(tape, top, a, n + wide(absent), pool, end, next))
 }

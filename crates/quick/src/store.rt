@@ -8,15 +8,13 @@ use slices::part;
 use tokens::strings::copy;
 use types::row::wide;
 
+// A row. Not leaf's, which stores as far as there is room: here there is room, and no test for it.
 pub fn put_row(rows: &mut [u32], slot: usize, kind: u32, a: u32, b: u32, size: u32)
     requires { slot * 4 + 4 ≤ length rows.old }
     ensures { rows.new ≡ sets rows.old (slot * 4) (kind ∷ a ∷ b ∷ size ∷ []) }
 {
     let k = slot * 4;
-    rows[k] = kind;
-    rows[k + 1] = a;
-    rows[k + 2] = b;
-    rows[k + 3] = size;
+    rows[k..k + 4].copy_from_slice(&[kind, a, b, size]);
 }
 
 // The bytes of x.
@@ -24,11 +22,7 @@ fn copy_all(pool: &mut [u8], offset: usize, x: &[u8])
     requires { offset + length x.now ≤ length pool.old }
     ensures { pool.new ≡ sets pool.old offset x.now }
 {
-    let mut j = 0;
-    while j < x.len() {
-        pool[offset + j] = x[j];
-        j += 1;
-    }
+    pool[offset..offset + x.len()].copy_from_slice(x);
 }
 
 // The bytes of a string whose quotation mark stands at the place a, and whose length is b, or more by 2^31 if something in it is escaped.

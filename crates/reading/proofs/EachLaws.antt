@@ -1,4 +1,6 @@
 -- Many texts, one after another: what is done, before what the rest gives.
+use Rattle.std.specs.Prelude.{Err, Ok}
+use Rattle.jer.specs.Answer.{Reading}
 use Prim.Native.Nat.{ℕ, suc, ◌+◌, ◌-◌, ◌*◌, ◌/◌, ◌^◌, ◌<◌, ◌≤◌}
 use mathlib.Core.Path.{◌≡◌, refl, sym, ap, ◌∙◌}
 use mathlib.Core.List.{List, [], ◌∷◌, ◌++◌, append_assoc, append-nil}
@@ -10,8 +12,6 @@ use lib.ListN.{length, get_or, set, take, drop, length-append, length-drop, take
 use borrow.Rule.Slice.PartMut.{put_mid}
 use lib.Seq.{take_all, sets, length-sets, sets-eq, drop-cons, drop-drop, length-take-le, take_at, drop_at, take-append-add, drop-append-add}
 use borrow.Author.Tests.{le-leb, lt-leb, leb-true, eq-eqb, ne_eqb}
-use Rattle.jer.specs.declared.Reading.{Reading}
-use Rattle.jer.specs.declared.Reading.TheVariants as reading
 use Rattle.jer.specs.Table.{Table}
 use Rattle.jer.specs.Value.{Val}
 use Rattle.jer.specs.Answer.{Res, ok, no, bind}
@@ -19,8 +19,6 @@ use Rattle.jer.specs.Rows.{rows_of, pool_of, numbers}
 use Rattle.jer.specs.Calls.{good_table, table_judged, read_text, read_answer, rows_after, pool_after, roomy, over, row_numbers}
 use Rattle.leaf.proofs.StoreLaws.{numbers-length}
 use Rattle.jer.specs.declared.Refusal.{Refusal}
-use Rattle.jer.specs.declared.Judged.TheVariants as judged
-use Rattle.jer.specs.declared.Readings.TheVariants as readings
 use Rattle.jer.specs.declared.Reported.{Reported}
 use Rattle.jer.specs.Reports.{reported_of}
 use Rattle.slices.specs.Lent.{Lent, before, after}
@@ -315,8 +313,8 @@ read-from t s n m rows pool h k c e f x y = record {
 
 no-used : (r : Reading) → eqb (values_in r).number 14 ≡ true → (rows_used r ≡ 0) × (pool_used r ≡ 0)
 unfolding values_in rows_used pool_used
-no-used (reading.Read n m) h = absurd (false≢true h)
-no-used (reading.Refused e) h = (refl, refl)
+no-used (Ok c) h = absurd (false≢true h)
+no-used (Err e) h = (refl, refl)
 
 module _ (t : Table) (texts ends : List ℕ) {rows₀ pool₀ tells₀ tells : List ℕ} {k from n m : ℕ} (rows pool : Lent) (f : Sofar t texts ends rows₀ pool₀ tells₀ k from n m (before rows) (before pool) tells)
     (l : k < length ends) (room : k < length tells / 5) {s : List ℕ} {end : ℕ} (d : end ≡ get_or ends k 0) (e : s ≡ text_from texts from end) {r : Reading} (o : ReadFrom t s n m r rows pool)
@@ -361,19 +359,19 @@ module _ (t : Table) (texts ends : List ℕ) {rows₀ pool₀ tells₀ tells : L
 -- ---- the call
 
 module _ (t : Table) (texts ends rows pool tells : List ℕ) where
-  pub each-bad : {e : Refusal} → judged.Refused e ≡ table_judged t → EachCall t texts ends rows pool tells (readings.Refused e) rows pool tells
+  pub each-bad : {e : Refusal} → Err e ≡ table_judged t → EachCall t texts ends rows pool tells (Err e) rows pool tells
   unfolding table_judged each_read each_answer each_left bind
   each-bad h =
       let g = table-refused t (good_table t) h in
       record { answer = rw g; rows_left = rw g; pool_left = rw g; tells_left = rw g }
 
-  pub each-good : {n : ℕ} {rows' pool' tells' : List ℕ} → judged.Good ≡ table_judged t → each n rows' pool' tells' ≡ read_each t texts 0 ends 0 0 rows pool tells
-      → EachCall t texts ends rows pool tells (readings.Answered n) rows' pool' tells'
+  pub each-good : {n : ℕ} {rows' pool' tells' : List ℕ} → Ok tt ≡ table_judged t → each n rows' pool' tells' ≡ read_each t texts 0 ends 0 0 rows pool tells
+      → EachCall t texts ends rows pool tells (Ok n) rows' pool' tells'
   unfolding each_read each_answer each_left bind
   each-good h e =
       let g = table-ok t h in
       record {
-        answer = rw g (ap (λ (z : Each). readings.Answered z.count) e);
+        answer = rw g (ap (λ (z : Each). Ok z.count) e);
         rows_left = rw g (ap (λ (z : Each). z.rows) e);
         pool_left = rw g (ap (λ (z : Each). z.pool) e);
         tells_left = rw g (ap (λ (z : Each). z.tells) e);

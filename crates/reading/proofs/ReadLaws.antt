@@ -1,8 +1,10 @@
 -- The whole call, by what its parts answer. Assumes nothing.
+use Rattle.std.specs.Prelude.{Err, Ok}
+use Rattle.jer.specs.Answer.{read_as, Reading}
 use mathlib.Core.Path.{◌≡◌, refl, subst, ◌∙◌}
 use mathlib.Core.List.{List}
 use mathlib.Core.Bool.{Bool, true, false}
-use mathlib.Core.Option.{Option, none, some}
+use Rattle.std.specs.Prelude.{Option, None, Some}
 use Prim.Native.Nat.{ℕ, ◌+◌, ◌*◌, ◌^◌, ◌<◌, ◌≤◌}
 use native.Mathlib.Omega.{arith}
 use borrow.Author.Tests.{leb-true, le-leb, lt-leb}
@@ -16,9 +18,6 @@ use Rattle.jer.specs.declared.Cause.TheVariants.{TooLong}
 use Rattle.jer.specs.declared.Limit.TheVariants.{LentRoom}
 use Rattle.jer.specs.declared.Refusal.{Refusal}
 use Rattle.jer.specs.declared.Refusal.TheVariants.{Amounts}
-use Rattle.jer.specs.declared.Judged.TheVariants as judged
-use Rattle.jer.specs.declared.Reading.{Reading}
-use Rattle.jer.specs.declared.Reading.TheVariants as reading
 use Rattle.jer.specs.Table.{Table}
 use Rattle.jer.specs.Valid.{first_bad}
 use Rattle.jer.specs.Value.{Val}
@@ -33,8 +32,7 @@ use Rattle.tokens.specs.Places.{past_space}
 use Rattle.places.specs.ByPlaces.{Got, read_at}
 use Rattle.places.proofs.MeaningAt.{reads-text}
 use Rattle.scan.proofs.WithinLaws.{space-within}
-use Rattle.leaf.specs.declared.Step.{Step}
-use Rattle.leaf.specs.Step.{RowsStored, PoolStored, Stepped}
+use Rattle.leaf.specs.Step.{Step, RowsStored, PoolStored, Stepped}
 use Rattle.leaf.proofs.StoreLaws.{numbers-length}
 use Rattle.typed.specs.Cycle.{Given}
 use Rattle.typed.proofs.StoredLaws.{Took}
@@ -47,33 +45,33 @@ pub record Outcome (t : Table) (x : Res Val) (r : Reading) (rows₁ rows₀ pool
 
 -- ---- tables and texts that are judged
 
-pub table-refused : (t : Table) {e : Refusal} (x : Res Table) → judged.Refused e ≡ judged_by x → x ≡ no e
+pub table-refused : (t : Table) {e : Refusal} (x : Res Table) → Err e ≡ judged_by x → x ≡ no e
 unfolding judged_by
 table-refused t (ok u) h = absurd (let z : ◌≡◌ {A = ℕ} 0 1 = cc in omega arith)
 table-refused t (no y) h = cc
 
-text-refused : {e : Refusal} (x : Res Json) → judged.Refused e ≡ judged_by x → x ≡ no e
+text-refused : {e : Refusal} (x : Res Json) → Err e ≡ judged_by x → x ≡ no e
 unfolding judged_by
 text-refused (ok u) h = absurd (let z : ◌≡◌ {A = ℕ} 0 1 = cc in omega arith)
 text-refused (no y) h = cc
 
-pub bad-table : (t : Table) (s : List ℕ) {e : Refusal} → judged.Refused e ≡ table_judged t → no e ≡ read_text t s
+pub bad-table : (t : Table) (s : List ℕ) {e : Refusal} → Err e ≡ table_judged t → no e ≡ read_text t s
 unfolding table_judged read_text bind
 bad-table t s h = rw (table-refused t (good_table t) h)
 
-good-table : (t : Table) → judged.Good ≡ table_judged t → first_bad t ≡ none
+good-table : (t : Table) → Ok tt ≡ table_judged t → first_bad t ≡ None
 unfolding table_judged good_table table_of judged_by
 good-table t h = go (first_bad t) h
   where
-    go : (x : Option ℕ) → judged.Good ≡ judged_by (table_of t x) → x ≡ none
-    go none h = refl
-    go (some r) h = absurd (let z : ◌≡◌ {A = ℕ} 0 1 = cc in omega arith)
+    go : (x : Option ℕ) → Ok tt ≡ judged_by (table_of t x) → x ≡ None
+    go None h = refl
+    go (Some r) h = absurd (let z : ◌≡◌ {A = ℕ} 0 1 = cc in omega arith)
 
-pub table-ok : (t : Table) → judged.Good ≡ table_judged t → good_table t ≡ ok t
+pub table-ok : (t : Table) → Ok tt ≡ table_judged t → good_table t ≡ ok t
 unfolding good_table table_of
 table-ok t h = rw (good-table t h)
 
-pub bad-text : (t : Table) (s : List ℕ) {e : Refusal} → judged.Good ≡ table_judged t → judged.Refused e ≡ text_judged s → no e ≡ read_text t s
+pub bad-text : (t : Table) (s : List ℕ) {e : Refusal} → Ok tt ≡ table_judged t → Err e ≡ text_judged s → no e ≡ read_text t s
 unfolding text_judged read_text bind
 bad-text t s g h = rw (table-ok t g, text-refused (good_text s) h)
 
@@ -84,17 +82,17 @@ record Good (s : List ℕ) : Type 0 where
   text : good_text s ≡ ok j
   parsed : parse s ≡ tree j
 
-good-text : (s : List ℕ) → judged.Good ≡ text_judged s → Good s
+good-text : (s : List ℕ) → Ok tt ≡ text_judged s → Good s
 unfolding text_judged good_text judged_by tree_of
 good-text s h = go (leb (length s) 65536) (parse s) refl refl h
   where
-    go : (b : Bool) (x : Parsed) → leb (length s) 65536 ≡ b → parse s ≡ x → judged.Good ≡ judged_by {A = Json} (elim b as (λ c. Res Json) [ true ↦ tree_of x | false ↦ at TooLong 65536 ]) → Good s
+    go : (b : Bool) (x : Parsed) → leb (length s) 65536 ≡ b → parse s ≡ x → Ok tt ≡ judged_by {A = Json} (elim b as (λ c. Res Json) [ true ↦ tree_of x | false ↦ at TooLong 65536 ]) → Good s
     go true (tree j) e f h = record { j = j; short = leb-true (length s) 65536 e; text = rw (e, f, good_text); parsed = f }
     go true (refused not_json p) e f h = absurd (let z : ◌≡◌ {A = ℕ} 0 1 = cc in omega arith)
     go true (refused too_deep p) e f h = absurd (let z : ◌≡◌ {A = ℕ} 0 1 = cc in omega arith)
     go false x e f h = absurd (let z : ◌≡◌ {A = ℕ} 0 1 = cc in omega arith)
 
-module _ (t : Table) (s : List ℕ) (g : judged.Good ≡ table_judged t) (h : judged.Good ≡ text_judged s) where
+module _ (t : Table) (s : List ℕ) (g : Ok tt ≡ table_judged t) (h : Ok tt ≡ text_judged s) where
   sane : Sane t
   sane = valid_sane t (good-table t g)
 
@@ -120,7 +118,7 @@ module _ (t : Table) (s : List ℕ) (g : judged.Good ≡ table_judged t) (h : ju
 
 -- ---- answers and buffers
 
-pub refuses : (t : Table) {e : Refusal} {x : Res Val} (rows pool : List ℕ) → no e ≡ x → Outcome t x (reading.Refused e) rows rows pool pool
+pub refuses : (t : Table) {e : Refusal} {x : Res Val} (rows pool : List ℕ) → no e ≡ x → Outcome t x (Err e) rows rows pool pool
 unfolding read_answer rows_after pool_after
 refuses t rows pool h = record { answer = rw (← h); rows = rw (← h); pool = rw (← h) }
 
@@ -133,19 +131,19 @@ module _ (t : Table) {v : Val} {n m : ℕ} {x : Res Val} (e : ok v ≡ x) (f : l
   unfolding row_numbers
   numbers_are = numbers-length (rows_of v t 0 0) ∙ omega arith
 
-  short-of : roomy t v (length rows₀) (length pool₀) ≡ false → Outcome t x (reading.Refused (Amounts LentRoom n m)) rows₀ rows₀ pool₀ pool₀
+  short-of : roomy t v (length rows₀) (length pool₀) ≡ false → Outcome t x (Err (Amounts LentRoom n m)) rows₀ rows₀ pool₀ pool₀
   unfolding read_answer rows_after pool_after
   short-of h = record { answer = rw (← e, h, read_answer) (rw (f, k)); rows = rw (← e, h, rows_after); pool = rw (← e, h, pool_after) }
 
-  pub few-rows : {r : Reading} → r ≡ reading.Refused (Amounts LentRoom n m) → length rows₀ < n * 4 → Outcome t x r rows₀ rows₀ pool₀ pool₀
+  pub few-rows : {r : Reading} → r ≡ Err (Amounts LentRoom n m) → length rows₀ < n * 4 → Outcome t x r rows₀ rows₀ pool₀ pool₀
   unfolding roomy
   few-rows w l = rw w (short-of (rw (lt-leb (length (row_numbers t v)) (length rows₀) (omega (arith, numbers_are)), roomy)))
 
-  pub few_bytes_lem : {r : Reading} → r ≡ reading.Refused (Amounts LentRoom n m) → n * 4 ≤ length rows₀ → length pool₀ < m → Outcome t x r rows₀ rows₀ pool₀ pool₀
+  pub few_bytes_lem : {r : Reading} → r ≡ Err (Amounts LentRoom n m) → n * 4 ≤ length rows₀ → length pool₀ < m → Outcome t x r rows₀ rows₀ pool₀ pool₀
   unfolding roomy
   few_bytes_lem w a l = rw w (short-of (rw (le-leb (length (row_numbers t v)) (length rows₀) (omega (arith, numbers_are)), lt-leb (length (pool_of v)) (length pool₀) (omega arith), roomy)))
 
-  pub stored : {rows₁ pool₁ : List ℕ} → n * 4 ≤ length rows₀ → m ≤ length pool₀ → rows₁ ≡ sets rows₀ 0 (numbers (rows_of v t 0 0)) → pool₁ ≡ sets pool₀ 0 (pool_of v) → Outcome t x (reading.Read n m) rows₁ rows₀ pool₁ pool₀
+  pub stored : {rows₁ pool₁ : List ℕ} → n * 4 ≤ length rows₀ → m ≤ length pool₀ → rows₁ ≡ sets rows₀ 0 (numbers (rows_of v t 0 0)) → pool₁ ≡ sets pool₀ 0 (pool_of v) → Outcome t x (read_as n m) rows₁ rows₀ pool₁ pool₀
   unfolding read_answer rows_after pool_after roomy row_numbers
   stored a b c d =
       let h : roomy t v (length rows₀) (length pool₀) ≡ true = rw (le-leb (length (row_numbers t v)) (length rows₀) (omega (arith, numbers_are)), le-leb (length (pool_of v)) (length pool₀) (omega arith), roomy) in

@@ -1,8 +1,8 @@
 -- Many texts read one after another, with a good type table: so many are answered, and the buffers are left so.
+use Rattle.jer.specs.Answer.{Reading}
 use Rattle.std.specs.Prelude.{ℕ, ◌+◌, ◌*◌, ◌^◌, ◌<◌, ◌≡◌, List, [], ◌∷◌, ◌++◌, length, take, drop}
 use Rattle.jer.specs.declared.Reported.{Reported}
 use Rattle.jer.specs.Table.{Table}
-use Rattle.jer.specs.declared.Reading.{Reading}
 use Rattle.jer.specs.Calls.{read_text, rows_after, pool_after}
 use Rattle.jer.specs.Each.{each, rows_used, pool_used, alone, read_each}
 use Rattle.slices.specs.Lent.{Lent, before, after}

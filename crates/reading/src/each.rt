@@ -1,8 +1,7 @@
 // Many texts under one type table, which is judged once. The texts stand one after another, and so do, in the lent room, their rows and their
 // pool bytes; of each text five numbers are told.
-ghost use Rattle.std.specs.Prelude.{◌≡◌, ◌*◌, ◌^◌, ◌≤◌, length, set};
+ghost use Rattle.std.specs.Prelude.{◌≡◌, ◌*◌, ◌^◌, ◌≤◌, length, Ok};
 ghost use Rattle.std.proofs.lemmas.List.Edits.{sets};
-ghost use Rattle.jer.specs.declared.Judged.TheVariants as judged;
 ghost use Rattle.jer.specs.Reports.{reported_of};
 ghost use Rattle.jer.specs.CallClauses.{TableCall};
 ghost use Rattle.jer.specs.Table.{table};
@@ -11,13 +10,13 @@ ghost use Rattle.slices.specs.Lent.{table_in};
 ghost use Rattle.reading.specs.Run.{Ran, ReadFrom, told_of};
 
 use crate::read_good;
-use jer::{Judged, Reading, Readings, Reported, report};
-use slices::part;
+use jer::{Counts, Refusal, Reported};
+use slices::{part, put};
 
 // The numbers told of a text: its answer's number and amounts, and where its rows and its pool bytes end.
 const TOLD: usize = 5;
 
-// The number that stands for no room.
+// The number that stands for no room: the number that is told decides, as in `Each.antt`.
 const NO_ROOM: u32 = 14;
 
 // The text from a place up to its end.
@@ -31,46 +30,24 @@ fn text_from(texts: &[u8], from: usize, end: usize) -> &[u8]
 }
 
 // An answer by its number and amounts.
-fn values_in(r: Reading) -> Reported
+fn values_in(r: Result<Counts, Refusal>) -> Reported
     ensures { result ≡ reported_of (values_in r) }
 {
     match r {
-        Reading::Refused(e) => report(e),
-        Reading::Read { rows, pool } => Reported {
+        Err(e) => Reported::from(e),
+        Ok(c) => Reported {
             number: 0,
-            first: rows as u64,
-            second: pool as u64,
+            first: c.rows as u64,
+            second: c.pool as u64,
         },
     }
 }
 
-// The rows that an answer takes up.
-fn rows_used(r: Reading) -> usize
-    ensures { result ≡ rows_used r }
+// The rows and pool bytes that an answer takes up.
+fn used(r: Result<Counts, Refusal>) -> Counts
+    ensures { (result.rows ≡ rows_used r) × (result.pool ≡ pool_used r) }
 {
-    match r {
-        Reading::Refused(_) => 0,
-        Reading::Read { rows, .. } => rows,
-    }
-}
-
-// Its pool bytes.
-fn pool_used(r: Reading) -> usize
-    ensures { result ≡ pool_used r }
-{
-    match r {
-        Reading::Refused(_) => 0,
-        Reading::Read { pool, .. } => pool,
-    }
-}
-
-// Stores a number, if there is room.
-fn put(tells: &mut [u64], at: usize, n: u64)
-    ensures { tells.new ≡ set tells.old at n }
-{
-    if at < tells.len() {
-        tells[at] = n;
-    }
+    r.unwrap_or(Counts { rows: 0, pool: 0 })
 }
 
 // Tells of the text k.
@@ -95,8 +72,8 @@ fn one(
     pool: &mut [u8],
     n: usize,
     m: usize,
-) -> Reading
-    requires { TableCall (table types.now names.now) judged.Good × (n * 4 ≤ length rows.old) × (m ≤ length pool.old) }
+) -> Result<Counts, Refusal>
+    requires { TableCall (table types.now names.now) (Ok tt) × (n * 4 ≤ length rows.old) × (m ≤ length pool.old) }
     ensures { ReadFrom (table_in types names) s.now n m result rows pool }
 {
     let first = n * 4;
@@ -113,31 +90,30 @@ fn each(
     pool: &mut [u8],
     tells: &mut [u64],
 ) -> usize
-    requires { TableCall (table types.now names.now) judged.Good }
+    requires { TableCall (table types.now names.now) (Ok tt) }
     ensures { Ran (table_in types names) texts.now ends.now rows pool tells result }
 {
-    let mut k: usize = 0;
     let mut from: usize = 0;
     let mut n: usize = 0;
     let mut m: usize = 0;
-    while k < ends.len() {
+    for (k, end) in ends.iter().enumerate() {
         if tells.len() / TOLD <= k {
             return k;
         }
-        let end = ends[k] as usize;
+        let end = *end as usize;
         let s = text_from(texts, from, end);
         let r = one(types, names, s, rows, pool, n, m);
-        n += rows_used(r);
-        m += pool_used(r);
+        let more = used(r);
+        n += more.rows;
+        m += more.pool;
         let v = values_in(r);
         tell(tells, k, v, n, m);
-        k += 1;
         if v.number == NO_ROOM {
-            return k;
+            return k + 1;
         }
         from = end;
     }
-    k
+    ends.len()
 }
 
 // Reads each of the texts that stand one after another in `texts` and end at `ends`, by one type table. Rows and pool bytes are stored one
@@ -150,11 +126,9 @@ pub fn read_each(
     rows: &mut [u32],
     pool: &mut [u8],
     tells: &mut [u64],
-) -> Readings
+) -> Result<usize, Refusal>
     ensures { EachCall (table types.now names.now) texts.now ends.now rows.old pool.old tells.old result rows.new pool.new tells.new }
 {
-    match types::check(types, names) {
-        Judged::Refused(e) => Readings::Refused(e),
-        Judged::Good => Readings::Answered(each(types, names, texts, ends, rows, pool, tells)),
-    }
+    types::check(types, names)?;
+    Ok(each(types, names, texts, ends, rows, pool, tells))
 }

@@ -2,13 +2,10 @@
 use mathlib.Core.Path.{◌≡◌, refl, ap, ◌∙◌}
 use mathlib.Core.List.{List}
 use mathlib.Core.Bool.{Bool}
-use mathlib.Core.Option.{Option, none, some}
 use Prim.Native.Nat.{ℕ, ◌+◌, ◌-◌, ◌<◌, ◌≤◌}
 use native.Mathlib.Omega.{arith}
 use lib.ListN.{length, take, drop}
 use Rattle.jer.specs.Table.{Table, count_of, member_row, name_in, name_at, same_bytes, first_where, position, name_start, name_length, table}
-use Rattle.types.specs.declared.token.Found.TheVariants.{At, Nothing}
-use Rattle.types.specs.Rows.{found_of}
 use Rattle.types.proofs.RowLaws.{name_in_lem}
 use Rattle.tokens.specs.Places.{past_space}
 use Rattle.tokens.specs.Strings.{string_end}
@@ -52,13 +49,3 @@ named-is t r i x e h = h ∙ rw e
 pub position-starts : (t : Table) (r : ℕ) (x : List ℕ) {n : ℕ} → n ≡ count_of t r → first_where (named t r x) 0 (n - 0) ≡ position t r x
 unfolding position
 position-starts t r x {n = n} e = let g : n - 0 ≡ count_of t r = omega arith in rw g
-
-pub found_at : (o : Option ℕ) {i : ℕ} → At i ≡ found_of o → o ≡ some i
-unfolding found_of
-found_at none e = absurd (let z : ◌≡◌ {A = ℕ} 0 1 = cc in omega arith)
-found_at (some i) e = cc
-
-pub found_nothing : (o : Option ℕ) → Nothing ≡ found_of o → o ≡ none
-unfolding found_of
-found_nothing none e = refl
-found_nothing (some i) e = absurd (let z : ◌≡◌ {A = ℕ} 0 1 = cc in omega arith)

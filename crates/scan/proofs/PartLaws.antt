@@ -1,68 +1,18 @@
--- What stands at a place, and what follows a part, by the tests that the code makes. Assumes nothing.
-use mathlib.Core.Path.{◌≡◌, refl, sym, ◌∙◌}
+-- Where the next part of a bracket stands. Assumes nothing.
+use mathlib.Core.Path.{◌≡◌, refl}
 use mathlib.Core.List.{List}
-use mathlib.Core.Bool.{Bool, true, false, ◌&&◌}
+use mathlib.Core.Bool.{Bool, true, false}
 use Prim.Native.Nat.{ℕ, ◌+◌, ◌<◌, ◌≤◌}
 use native.Mathlib.Omega.{arith}
-use borrow.Author.Tests.{eq-eqb, ne_eqb, eqb-true, leb-true, lt-leb}
-use lib.Dec.{eqb, leb}
+use borrow.Author.Tests.{eqb-true}
+use lib.Dec.{eqb}
 use lib.ListN.{length}
-use Rattle.json_text.specs.Bytes.{pick}
-use Rattle.jer.specs.Table.{token_code}
 use Rattle.tokens.specs.Places.{byte_at, past_space}
 use Rattle.tokens.proofs.PlaceLaws.{inside}
 use Rattle.places.specs.declared.Follows.{Follows}
 use Rattle.places.specs.declared.Follows.TheVariants.{Part, Shut}
-use Rattle.places.specs.ByPlaces.{follows_at, after_part, first_part, token_at}
+use Rattle.places.specs.ByPlaces.{follows_at, after_part, first_part}
 use Rattle.scan.proofs.WithinLaws.{space-ahead, space-within}
-
--- ---- tokens
-
--- a row of one byte, at another byte
-apart : (b k : ℕ) → (b ≡ k → ⊥) → (leb k b && leb b k) ≡ false
-apart b k h = go (leb k b) refl
-  where
-    go : (t : Bool) → leb k b ≡ t → (t && leb b k) ≡ false
-    go true e = lt-leb b k (omega (arith, leb-true k b e))
-    go false e = refl
-
-module _ (s : List ℕ) (p : ℕ) {b : ℕ} (e : b ≡ byte_at s p) where
-  pub token-number : (b ≡ 0x22 → ⊥) → (b ≡ 0x5B → ⊥) → (b ≡ 0x66 → ⊥) → (b ≡ 0x6E → ⊥) → (b ≡ 0x74 → ⊥) → (b ≡ 0x7B → ⊥) → 2 ≡ token_code (token_at s p)
-  unfolding token_at token_code pick
-  token-number h₁ h₂ h₃ h₄ h₅ h₆ = rw (not 0x22 h₁, not 0x5B h₂, not 0x66 h₃, not 0x6E h₄, not 0x74 h₅, not 0x7B h₆, pick)
-    where
-      not : (k : ℕ) → (b ≡ k → ⊥) → (leb k (byte_at s p) && leb (byte_at s p) k) ≡ false
-      not k h = apart (byte_at s p) k (λ z. h (e ∙ z))
-
--- ---- after the opening bracket at p: the place c past white space, and its byte
-
-module _ (s : List ℕ) (k p : ℕ) {a c b : ℕ} (e : a ≡ p + 1) (f : c ≡ past_space s a) (g : b ≡ byte_at s c) where
-  byte_first : b ≡ byte_at s (past_space s (p + 1))
-  byte_first = g ∙ rw (f, e)
-
-  pub first-shut : {n : ℕ} → b ≡ k → n ≡ c + 1 → Shut n ≡ first_part s k p
-  unfolding first_part
-  first-shut h w = rw (eq-eqb (byte_at s (past_space s (p + 1))) k (sym byte_first ∙ h), first_part) (rw (w, f, e))
-
-  pub first_part_lem : (b ≡ k → ⊥) → Part c ≡ first_part s k p
-  unfolding first_part
-  first_part_lem h = rw (ne_eqb (byte_at s (past_space s (p + 1))) k (λ z. h (byte_first ∙ z)), first_part) (rw (f, e))
-
--- ---- after a part that ends at q: the place c past white space, the place a after it, and the byte at c
-
-module _ (s : List ℕ) (q : ℕ) {c a b : ℕ} (e : c ≡ past_space s q) (f : a ≡ c + 1) (g : b ≡ byte_at s c) where
-  byte_after : b ≡ byte_at s (past_space s q)
-  byte_after = g ∙ rw e
-
-  pub after-comma : {n : ℕ} → b ≡ 0x2C → n ≡ past_space s a → Part n ≡ after_part s q
-  unfolding after_part
-  after-comma h w = rw (eq-eqb (byte_at s (past_space s q)) 0x2C (sym byte_after ∙ h), after_part) (rw (w, f, e))
-
-  pub after-shut : (b ≡ 0x2C → ⊥) → Shut a ≡ after_part s q
-  unfolding after_part
-  after-shut h = rw (ne_eqb (byte_at s (past_space s q)) 0x2C (λ z. h (byte_after ∙ z)), after_part) (rw (f, e))
-
--- ---- where the next part stands
 
 pub first-inside : (s : List ℕ) (k p q : ℕ) → p < length s → first_part s k p ≡ Part q → (p < q) × (q ≤ length s)
 unfolding first_part

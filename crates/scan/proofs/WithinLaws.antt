@@ -93,3 +93,8 @@ module _ (s : List ℕ) (m : ℕ) where
     unfolding past_value
     value-within zero p h = with_within (λ q. length s) (λ q w. omega arith) p h
     value-within (suc d) p h = with_within (λ q. parts_past (λ r. past_value d s r) s (length s) q) (λ q w. parts_within (λ r. past_value d s r) (λ r z. value-within d r z) (length s) q w) p h
+
+-- past white space no place is further than the text's end and its own
+pub placed : (s : List ℕ) (p : ℕ) → past_space s p ≤ length s + p
+unfolding past_space
+placed s p = run-within is_space s (length s + p) p (omega arith) (omega arith)

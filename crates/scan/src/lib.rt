@@ -4,7 +4,7 @@
 
 pub mod met; // met.rt: the members met, one bit for each
 pub mod names; // names.rt: the position of a name, and the value after it
-pub mod parts; // parts.rt: what stands at a place, and what follows a part of a bracket
+pub mod parts; // parts.rt: what stands at a place, what null stands for, and what follows a part of a bracket
 
 ghost use Rattle.std.specs.Prelude.{◌≡◌, ◌≤◌, ◌<◌, length};
 ghost use Rattle.jer.specs.Table.{count_of, table};
@@ -14,13 +14,19 @@ use jer::{Cause, Refusal};
 use met::{bit, with};
 use names::{position, value_place};
 use parts::{after_part, first_part};
-use places::{Ended, Follows, Scanned};
+use places::{Follows, Scanned};
 use tokens::skip::skip_value;
 use types::row::{Row, wide};
-use types::token::Found;
 
 // The names, in text order, of the object whose opening bracket stands at p and in whose values `depth` brackets may be open.
-pub fn scan(types: &[u32], names: &[u8], s: &[u8], row: usize, p: usize, depth: u32) -> Scanned
+pub fn scan(
+    types: &[u32],
+    names: &[u8],
+    s: &[u8],
+    row: usize,
+    p: usize,
+    depth: u32,
+) -> Result<Scanned, Refusal>
     requires { (length s.now ≤ 65536) × (p < length s.now) × (count_of (table types.now names.now) row ≤ 64) }
     ensures { result ≡ scan_at depth (table types.now names.now) s.now row (length s.now) (first_part s.now 0x7D p) 0 no_places }
 {
@@ -28,31 +34,32 @@ pub fn scan(types: &[u32], names: &[u8], s: &[u8], row: usize, p: usize, depth: 
     let mut places = [0u32; 64];
     let mut met: u64 = 0;
     let mut next = first_part(s, 0x7D, p);
+    // A member ends where its value does: the step varies.
     loop {
         match next {
             Follows::Shut(q) => {
-                let end = Ended::Closed(q);
-                return Scanned { end, met, places };
+                return Ok(Scanned {
+                    next: q,
+                    met,
+                    places,
+                });
             }
             Follows::Part(q) => {
                 let value = value_place(s, q);
                 let after = after_part(s, skip_value(s, value, depth));
                 match position(types, names, s, row, q) {
-                    Found::Nothing => {
+                    None => {
                         if !extensible {
-                            let end = Ended::Stopped(Refusal::AtByte(Cause::UnknownName, q));
-                            return Scanned { end, met, places };
+                            return Err(Refusal::AtByte(Cause::UnknownName, q));
                         }
                         next = after;
                     }
-                    Found::At(i) => {
+                    Some(i) => {
                         if bit(met, i) {
-                            let end = Ended::Stopped(Refusal::AtByte(Cause::RepeatedName, q));
-                            return Scanned { end, met, places };
+                            return Err(Refusal::AtByte(Cause::RepeatedName, q));
                         }
                         met = with(met, i);
-                        let k = wide(i);
-                        places[k] = value as u32;
+                        places[wide(i)] = value as u32;
                         next = after;
                     }
                 }

@@ -1,4 +1,6 @@
 -- What is printed for an answer is what the definitions say of the value, or of the text.
+use Rattle.std.specs.Prelude.{Err, Ok}
+use Rattle.jer.specs.Answer.{Reading, Writing, read_as}
 use Prim.Native.Nat.{ℕ}
 use mathlib.Core.Path.{◌≡◌, refl, ap, ◌∙◌}
 use mathlib.Core.List.{List, [], ◌∷◌, ◌++◌}
@@ -15,10 +17,6 @@ use Rattle.jer.specs.CallClauses.{ReadCall, WriteCall}
 use Rattle.jer.specs.Programs.{row_lines, end_line, print_read, read_printed, print_write, write_printed}
 use Rattle.jer.specs.declared.Limit.TheVariants.{HouseSize, LentRoom}
 use Rattle.jer.specs.declared.Refusal.TheVariants.{Amounts}
-use Rattle.jer.specs.declared.Reading.{Reading}
-use Rattle.jer.specs.declared.Reading.TheVariants as reading
-use Rattle.jer.specs.declared.Writing.{Writing}
-use Rattle.jer.specs.declared.Writing.TheVariants as writing
 use Rattle.promises.proofs.Buffers.{over-taken}
 use Rattle.lines.specs.Shown.{four_line, four_lines, reading_lines, writing_lines}
 
@@ -43,7 +41,7 @@ module _ (t : Table) (rows pool : List ℕ) where
       ws = rows_of v t 0 0
 
       answer : Bool → Reading
-      answer b = elim b [ true ↦ reading.Read (length ws) (length (pool_of v)) | false ↦ reading.Refused (Amounts LentRoom (length ws) (length (pool_of v))) ]
+      answer b = elim b [ true ↦ read_as (length ws) (length (pool_of v)) | false ↦ Err (Amounts LentRoom (length ws) (length (pool_of v))) ]
 
       go : (b : Bool) → reading_lines (answer b) (elim b [ true ↦ over (row_numbers t v) rows | false ↦ rows ]) (elim b [ true ↦ over (pool_of v) pool | false ↦ pool ]) ≡ print_read t (ok v) (answer b)
       go true = rw (over-taken (pool_of v) pool (length (pool_of v)) refl) (ap (λ (l : List ℕ). l ++ end_line (hex (pool_of v))) (rows-shown t v rows))
@@ -65,8 +63,8 @@ module _ (text : List ℕ) where
       answer : Bool → Bool → Writing
       answer a b =
           elim a [
-            | false ↦ writing.Refused (Amounts HouseSize (amount (length s)) 0)
-            | true ↦ elim b [ true ↦ writing.Written (length s) | false ↦ writing.Refused (Amounts LentRoom (length s) 0) ]
+            | false ↦ Err (Amounts HouseSize (amount (length s)) 0)
+            | true ↦ elim b [ true ↦ Ok (length s) | false ↦ Err (Amounts LentRoom (length s) 0) ]
           ]
 
       go : (a b : Bool) → writing_lines (answer a b) (elim (a && b) [ true ↦ over s text | false ↦ text ]) ≡ print_write (ok s) (answer a b)

@@ -3,7 +3,7 @@ use Prim.Native.Nat.{ℕ, ◌+◌, ◌*◌, ◌≤◌}
 use mathlib.Core.Path.{◌≡◌, refl, sym, ap, ◌∙◌}
 use mathlib.Core.List.{List, [], ◌∷◌, ◌++◌}
 use mathlib.Core.Bool.{Bool, true, false}
-use mathlib.Core.Option.{Option, none, some}
+use Rattle.std.specs.Prelude.{Option, None, Some}
 use native.Mathlib.Omega.{arith}
 use borrow.Author.Tests.{leb-true}
 use lib.Dec.{leb}
@@ -55,8 +55,8 @@ unfolding with_line
 with_fits most i n s f h g = go (line_at n s) refl
   where
     go : (o : Option (List ℕ)) → line_at n s ≡ o → length (with_line i n s f) ≤ most
-    go none e = rw (e, with_line) (omega (arith, refusal-fits (values 15 i 0)))
-    go (some os) e = rw (e, with_line) (g os (line_from s).rest)
+    go None e = rw (e, with_line) (omega (arith, refusal-fits (values 15 i 0)))
+    go (Some os) e = rw (e, with_line) (g os (line_from s).rest)
 
 -- 4,096 rows and 16,384 pool bytes
 printed_read : (t : Table) (x : Res Val) → length (read_printed t x) ≤ 167937

@@ -4,7 +4,7 @@ ghost use Rattle.jer.specs.Programs.{read_shown, read_third, read_second, jerrea
 ghost use Rattle.lines.specs.Shown.{Shows};
 
 use lines::shown::{put_bad_line, put_reading};
-use lines::taken::{Taken, first_numbers, numbers_line, octets_line};
+use lines::taken::{Taken, numbers_line, octets_line};
 use slices::part;
 
 // What is printed of a text. 4,096 rows and 16,384 pool bytes are lent.
@@ -22,10 +22,10 @@ fn third(types: &[u32], names: &[u8], s: &[u8], p: usize, out: &mut [u8]) -> usi
     ensures { Shows (read_third types.now names.now (drop p s.now)) 0 out.old result out.new }
 {
     let mut text = [0u8; 8192];
-    let Taken::Line(n, _) = octets_line(s, p, &mut text) else {
+    let Some(Taken { count, .. }) = octets_line(s, p, &mut text) else {
         return put_bad_line(out, 3);
     };
-    show(types, names, part(&text, 0, n), out)
+    show(types, names, part(&text, 0, count), out)
 }
 
 // From the second line on, which begins at p.
@@ -33,10 +33,10 @@ fn second(types: &[u32], s: &[u8], p: usize, out: &mut [u8]) -> usize
     ensures { Shows (read_second types.now (drop p s.now)) 0 out.old result out.new }
 {
     let mut names = [0u8; 8192];
-    let Taken::Line(n, q) = octets_line(s, p, &mut names) else {
+    let Some(Taken { count, next }) = octets_line(s, p, &mut names) else {
         return put_bad_line(out, 2);
     };
-    third(types, part(&names, 0, n), s, q, out)
+    third(types, part(&names, 0, count), s, next, out)
 }
 
 // What `jerread` prints for the input s.
@@ -44,8 +44,8 @@ pub fn answer(s: &[u8], out: &mut [u8]) -> usize
     ensures { Shows (jerread s.now) 0 out.old result out.new }
 {
     let mut types = [0u32; 2048];
-    let Taken::Line(n, p) = numbers_line(s, 0, &mut types) else {
+    let Some(Taken { count, next }) = numbers_line(s, 0, &mut types) else {
         return put_bad_line(out, 1);
     };
-    second(first_numbers(&types, n), s, p, out)
+    second(part(&types, 0, count), s, next, out)
 }

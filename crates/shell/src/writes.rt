@@ -4,7 +4,7 @@ ghost use Rattle.jer.specs.Programs.{write_shown, write_fourth, write_third, wri
 ghost use Rattle.lines.specs.Shown.{Shows};
 
 use lines::shown::{put_bad_line, put_writing};
-use lines::taken::{Taken, first_numbers, numbers_line, octets_line};
+use lines::taken::{Taken, numbers_line, octets_line};
 use slices::part;
 
 // What is printed of a value table. 65,536 bytes of text are lent.
@@ -21,10 +21,10 @@ fn fourth(types: &[u32], names: &[u8], values: &[u32], s: &[u8], p: usize, out: 
     ensures { Shows (write_fourth types.now names.now values.now (drop p s.now)) 0 out.old result out.new }
 {
     let mut pool = [0u8; 8192];
-    let Taken::Line(n, _) = octets_line(s, p, &mut pool) else {
+    let Some(Taken { count, .. }) = octets_line(s, p, &mut pool) else {
         return put_bad_line(out, 4);
     };
-    show(types, names, values, part(&pool, 0, n), out)
+    show(types, names, values, part(&pool, 0, count), out)
 }
 
 // From the third line on, which begins at p.
@@ -32,10 +32,10 @@ fn third(types: &[u32], names: &[u8], s: &[u8], p: usize, out: &mut [u8]) -> usi
     ensures { Shows (write_third types.now names.now (drop p s.now)) 0 out.old result out.new }
 {
     let mut values = [0u32; 2048];
-    let Taken::Line(n, q) = numbers_line(s, p, &mut values) else {
+    let Some(Taken { count, next }) = numbers_line(s, p, &mut values) else {
         return put_bad_line(out, 3);
     };
-    fourth(types, names, first_numbers(&values, n), s, q, out)
+    fourth(types, names, part(&values, 0, count), s, next, out)
 }
 
 // From the second line on, which begins at p.
@@ -43,10 +43,10 @@ fn second(types: &[u32], s: &[u8], p: usize, out: &mut [u8]) -> usize
     ensures { Shows (write_second types.now (drop p s.now)) 0 out.old result out.new }
 {
     let mut names = [0u8; 8192];
-    let Taken::Line(n, q) = octets_line(s, p, &mut names) else {
+    let Some(Taken { count, next }) = octets_line(s, p, &mut names) else {
         return put_bad_line(out, 2);
     };
-    third(types, part(&names, 0, n), s, q, out)
+    third(types, part(&names, 0, count), s, next, out)
 }
 
 // What `jerwrite` prints for the input s.
@@ -54,8 +54,8 @@ pub fn answer(s: &[u8], out: &mut [u8]) -> usize
     ensures { Shows (jerwrite s.now) 0 out.old result out.new }
 {
     let mut types = [0u32; 2048];
-    let Taken::Line(n, p) = numbers_line(s, 0, &mut types) else {
+    let Some(Taken { count, next }) = numbers_line(s, 0, &mut types) else {
         return put_bad_line(out, 1);
     };
-    second(first_numbers(&types, n), s, p, out)
+    second(part(&types, 0, count), s, next, out)
 }

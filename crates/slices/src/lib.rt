@@ -1,72 +1,58 @@
 // Slices, said once for all crates: the byte at a place, a part of one, and stores that past the end do nothing; the value of a hexadecimal digit.
 #![tactic(auto)]
 
-ghost use Rattle.std.specs.Prelude.{◌≡◌, ◌+◌, ◌≤◌, length, get_or, take, drop, set};
+ghost use Rattle.std.specs.Prelude.{◌≡◌, ◌+◌, ◌^◌, ◌<◌, ◌≤◌, length, get_or, take, drop, set, IfSome};
 ghost use Rattle.std.proofs.lemmas.List.Edits.{sets};
-ghost use Rattle.slices.specs.Digit.{digit_of};
+ghost use Rattle.jer.specs.Octets.{hex_value};
 
-// The byte at a place, or 256 past the end.
+// The byte at a place, or 256 past the end: a number, which the definitions by places compare. An Option would be taken apart at each test.
 pub fn byte_at(s: &[u8], p: usize) -> u32
     ensures value { result ≡ get_or s.now p 256 }
     ensures upper_bound { result ≤ 256 }
 {
-    if p < s.len() { s[p] as u32 } else { 256 }
+    match s.get(p) {
+        Some(b) => u32::from(*b),
+        None => 256,
+    }
 }
 
-// The n bytes from a place on, or as many of them as there are.
-pub fn part(s: &[u8], at: usize, n: usize) -> &[u8]
+// The n items from a place on, or as many of them as there are.
+pub fn part<T>(s: &[T], at: usize, n: usize) -> &[T]
     ensures { result.now ≡ take n (drop at s.now) }
 {
-    let end = s.len();
-    if end <= at {
-        return &s[end..end];
-    }
-    if end - at <= n {
-        return &s[at..end];
-    }
-    let stop = at + n;
-    &s[at..stop]
+    let rest = &s[at.min(s.len())..];
+    &rest[..n.min(rest.len())]
 }
 
-// Stores a byte, if there is room.
-pub fn put(s: &mut [u8], at: usize, b: u8)
-    ensures { s.new ≡ set s.old at b }
+// Stores an item, if there is room.
+pub fn put<T: Copy>(s: &mut [T], at: usize, x: T)
+    ensures { s.new ≡ set s.old at x }
 {
     if at < s.len() {
-        s[at] = b;
+        s[at] = x;
     }
 }
 
-// Stores the bytes of x, as far as there is room.
-pub fn put_all(s: &mut [u8], at: usize, x: &[u8])
-    requires { at + length x.now ≤ 8589934592 }
+// Stores the items of x, as far as there is room.
+pub fn put_all<T: Copy>(s: &mut [T], at: usize, x: &[T])
+    requires { at + length x.now < 2 ^ 64 }
     ensures { s.new ≡ sets s.old at x.now }
 {
-    let mut j = 0;
-    while j < x.len() {
-        let b = x[j];
-        put(s, at + j, b);
-        j += 1;
+    for (j, b) in x.iter().enumerate() {
+        put(s, at + j, *b);
     }
 }
 
-// Stores a number, if there is room.
-pub fn put_number(s: &mut [u32], at: usize, n: u32)
-    ensures { s.new ≡ set s.old at n }
-{
-    if at < s.len() {
-        s[at] = n;
-    }
-}
-
-// A hexadecimal digit's value, 16 for any other byte.
-pub fn digit(b: u32) -> u32
-    ensures { (result ≡ digit_of b) × (result ≤ 16) }
+// A hexadecimal digit's value, in either letter case.
+#[tactic(auto, unfolding(jer::specs::Octets::hex_value, json_text::specs::Bytes::pick))]
+pub fn hex_value(b: u8) -> Option<u8>
+    ensures value { result ≡ hex_value b }
+    ensures few { IfSome result (λ x. x < 16) }
 {
     match b {
-        0x30..=0x39 => b - 0x30,
-        0x41..=0x46 => b - 0x37,
-        0x61..=0x66 => b - 0x57,
-        _ => 16,
+        0x30..=0x39 => Some(b - 0x30),
+        0x41..=0x46 => Some(b - 0x37),
+        0x61..=0x66 => Some(b - 0x57),
+        _ => None,
     }
 }

@@ -13,7 +13,7 @@ use Rattle.tokens.specs.Places.{byte_at}
 use Rattle.tokens.proofs.PlaceLaws.{byte_inside}
 use Rattle.tokens.proofs.TiePlace.{past-length}
 use Rattle.spelled.specs.Stretch.{Stretch, Passed, ValueAt}
-use Rattle.spelled.specs.Number.{SomeOnward, SomeWhole, SomeSigned, Dotted, no_dot, dot, Raised, bare, plus, minus, Powered, no_power, some}
+use Rattle.spelled.specs.Number.{SomeOnward, SomeWhole, SomeSigned, Dotted, no_dot, dot, Raised, bare, plus, minus, Powered, no_power, some_power}
 use Rattle.spelled.proofs.StretchLaws.{Exactly, stretch-none, stretch_as, stretch_join, stretch-more, byte_here, passed}
 use Rattle.spelled.proofs.NumberLaws.{onward_snoc}
 
@@ -100,10 +100,10 @@ large (plus d) = grammar.large_plus d
 large (minus d) = grammar.large_minus d
 
 pub power_small : (s : List ℕ) (p q b : ℕ) → b ≡ byte_at s p → b ≡ 0x65 → Passed Raised s (p + 1) q → Stretch Powered s p q
-power_small s p q b e g k = (byte_before Raised Powered s p q b 0x65 (λ xs d. some (small d)) e g (omega arith) k).stretch
+power_small s p q b e g k = (byte_before Raised Powered s p q b 0x65 (λ xs d. some_power (small d)) e g (omega arith) k).stretch
 
 pub power-large : (s : List ℕ) (p q b : ℕ) → b ≡ byte_at s p → b ≡ 0x45 → Passed Raised s (p + 1) q → Stretch Powered s p q
-power-large s p q b e g k = (byte_before Raised Powered s p q b 0x45 (λ xs d. some (large d)) e g (omega arith) k).stretch
+power-large s p q b e g k = (byte_before Raised Powered s p q b 0x45 (λ xs d. some_power (large d)) e g (omega arith) k).stretch
 
 -- ---- the number
 
@@ -113,9 +113,9 @@ record Numeric (d p : ℕ) (bs : List ℕ) : Type 0 where
 
 numeric : {xs ys zs : List ℕ} (d p : ℕ) → SomeSigned xs → Dotted ys → Powered zs → Numeric d p ((xs ++ ys) ++ zs)
 numeric {xs} d p k no_dot no_power = rw (append-nil, append-nil) (record { tree = jint p k.minus k.number; value = grammar.whole k.signed })
-numeric {xs} d p k no_dot (some w) = rw append-nil (record { tree = jreal p; value = grammar.real k.signed (grammar.power w) refl })
+numeric {xs} d p k no_dot (some_power w) = rw append-nil (record { tree = jreal p; value = grammar.real k.signed (grammar.power w) refl })
 numeric {xs} d p k (dot h) no_power = rw append-nil (record { tree = jreal p; value = grammar.real k.signed (grammar.fraction h) refl })
-numeric {xs} d p k (dot h) (some w) = rw append_assoc (record { tree = jreal p; value = grammar.real k.signed (grammar.both h w refl) refl })
+numeric {xs} d p k (dot h) (some_power w) = rw append_assoc (record { tree = jreal p; value = grammar.real k.signed (grammar.both h w refl) refl })
 
 pub number-here : (s : List ℕ) (d p q f r : ℕ) → Passed SomeSigned s p q → Stretch Dotted s q f → Stretch Powered s f r → ValueAt d s p r
 number-here s d p q f r k x y =

@@ -2,6 +2,7 @@
 use Prim.Native.Nat.{ℕ, suc, ◌+◌, ◌*◌, ◌<◌, ◌≤◌}
 use mathlib.Core.Path.{◌≡◌, refl, sym, ◌∙◌}
 use mathlib.Core.List.{List, [], ◌∷◌, ◌++◌}
+use mathlib.Core.Logic.{◌⊎◌, inl, inr}
 use mathlib.Core.Bool.{Bool, true, false}
 use native.Mathlib.Omega.{arith}
 use borrow.Author.Tests.{leb-true, leb-false, lt-ltb, le-ltb}
@@ -11,6 +12,9 @@ use Rattle.json_text.specs.Bytes.{In}
 use Rattle.json_text.specs.Utf8.{encode, Wide, two, three_e0, three_e1, three_eD, three_eE, four_f0, four_f1, four_f4}
 use Rattle.json_text.specs.Grammar as grammar
 use Rattle.json_text.specs.Grammar.{Hex, digit, upper, lower, four, Escape, paired, Char, escape, unit, pair}
+use Rattle.std.specs.Prelude.{Option, None, Some}
+use Rattle.json_text.proofs.SoundRows.{pick-within, ◌⨾◌}
+use Rattle.jer.specs.Octets.{hex_value}
 use Rattle.tokens.specs.Places.{byte_at}
 use Rattle.tokens.proofs.PlaceLaws.{byte_inside}
 use Rattle.spelled.specs.Stretch.{Stretch, Passed}
@@ -57,6 +61,19 @@ pub wide-two : (a b : ℕ) → 0xC2 ≤ a → a < 0xE0 → In 0x80 0xBF b → Wi
 wide-two a b l h i = two (l, omega arith) i
 
 -- ---- escapes by four digits
+
+abbrev HexOf : ℕ → Option ℕ → Type 0
+HexOf b o = (x : ℕ) → o ≡ Some x → Hex x b
+
+some-own : {x y : ℕ} → Some x ≡ Some y → y ≡ x
+some-own e = cc
+
+none-not : {A : Type 0} {y : ℕ} → None ≡ Some y → A
+none-not e = absurd (let z : ◌≡◌ {A = ℕ} 0 1 = cc in omega arith)
+
+pub hex-is : (b x : ℕ) → hex_value b ≡ Some x → Hex x b
+unfolding hex_value
+hex-is b = pick-within (HexOf b) b _ None ((λ i x e. digit i (some-own e)) ⨾ (λ i x e. upper i (some-own e)) ⨾ (λ i x e. lower i (some-own e)) ⨾ tt) (λ x e. none-not e)
 
 hex-small : {x b : ℕ} → Hex x b → b < 256
 hex-small (digit h e) = omega arith
@@ -114,8 +131,15 @@ letter-small grammar.line_feed = omega arith
 letter-small grammar.carriage_return = omega arith
 letter-small grammar.tabulation = omega arith
 
-pub letter-not : {b : ℕ} → Letter b → b ≡ 256 → ⊥
-letter-not k e = let l = letter-small k.escape in omega arith
+pub letter-of : {b : ℕ} → ((b ≡ 0x22) ⊎ ((b ≡ 0x2F) ⊎ ((b ≡ 0x5C) ⊎ ((b ≡ 0x62) ⊎ ((b ≡ 0x66) ⊎ ((b ≡ 0x6E) ⊎ ((b ≡ 0x72) ⊎ (b ≡ 0x74)))))))) → Letter b
+letter-of (inl e) = record { char = 0x22; escape = rw e grammar.quote }
+letter-of (inr (inl e)) = record { char = 0x2F; escape = rw e grammar.slash }
+letter-of (inr (inr (inl e))) = record { char = 0x5C; escape = rw e grammar.backslash }
+letter-of (inr (inr (inr (inl e)))) = record { char = 0x08; escape = rw e grammar.backspace }
+letter-of (inr (inr (inr (inr (inl e))))) = record { char = 0x0C; escape = rw e grammar.form_feed }
+letter-of (inr (inr (inr (inr (inr (inl e)))))) = record { char = 0x0A; escape = rw e grammar.line_feed }
+letter-of (inr (inr (inr (inr (inr (inr (inl e))))))) = record { char = 0x0D; escape = rw e grammar.carriage_return }
+letter-of (inr (inr (inr (inr (inr (inr (inr e))))))) = record { char = 0x09; escape = rw e grammar.tabulation }
 
 pub escape-letter : (s : List ℕ) (p b : ℕ) → byte_at s p ≡ 0x5C → b ≡ byte_at s (p + 1) → Letter b → Found s p (p + 2) 1
 escape-letter s p b e f k =

@@ -3,7 +3,7 @@ use Prim.Native.Nat.{ℕ, ◌+◌, ◌*◌, ◌<◌, ◌≤◌}
 use mathlib.Core.Path.{◌≡◌, refl, sym, ap, ◌∙◌}
 use mathlib.Core.List.{List}
 use mathlib.Core.Bool.{Bool, true, false}
-use mathlib.Core.Option.{Option, none, some}
+use Rattle.std.specs.Prelude.{Option, None, Some}
 use native.Mathlib.Omega.{arith}
 use borrow.Author.Tests.{leb-true, leb-false}
 use lib.Dec.{leb}
@@ -12,7 +12,7 @@ use lib.Seq.{length-take-le}
 use Rattle.jer.specs.Table.{Table, table, field, first_of, count_of, member_row, name_at, name_in, same_bytes, position}
 use Rattle.types.proofs.RowLaws.{name_in_lem}
 use Rattle.jer.proofs.ValidLaws.{same_bytes-eq, same_bytes-refl, position_some, position-none}
-use Rattle.spelled.specs.Names.{Unlike, Among, PositionIs, FoundAmong}
+use Rattle.spelled.specs.Names.{Unlike, Among, FoundAmong}
 
 true-not : {A : Type 0} → true ≡ false → A
 true-not e = absurd (let z : ◌≡◌ {A = ℕ} 0 1 = cc in omega arith)
@@ -43,14 +43,6 @@ name-unlike types names m n {start} {len} a b h d s p l =
 
 -- ---- one member after another
 
-pub among_next : (t : Table) (first k : ℕ) (x : List ℕ) → ((i : ℕ) → i < k → same_bytes (name_in t (first + i)) x ≡ false) → same_bytes (name_in t (first + k)) x ≡ false
-    → (i : ℕ) → i < k + 1 → same_bytes (name_in t (first + i)) x ≡ false
-among_next t first k x h e i l = go (leb k i) refl
-  where
-    go : (b : Bool) → leb k i ≡ b → same_bytes (name_in t (first + i)) x ≡ false
-    go true r = let u : i ≡ k = omega (arith, leb-true k i r) in rw u e
-    go false r = h i (leb-false k i r)
-
 -- ---- the position
 
 name-at : (t : Table) (r i : ℕ) → name_at t r i ≡ name_in t (first_of t r + i)
@@ -58,8 +50,8 @@ unfolding name_at member_row
 name-at t r i = refl
 
 -- a member that has the name is the one, if names differ
-pub found_here : (t : Table) (first count k : ℕ) (x : List ℕ) → k < count → same_bytes (name_in t (first + k)) x ≡ true → FoundAmong t first count x k
-found_here t first count k x l e r f c d = record { known = λ h. go (position t r x) refl; unknown = λ h. absurd (omega arith) }
+pub found_here : (t : Table) (first count k : ℕ) (x : List ℕ) → k < count → same_bytes (name_in t (first + k)) x ≡ true → FoundAmong t first count x (Some k)
+found_here t first count k x l e r f c d = go (position t r x) refl
   where
     has : same_bytes (name_at t r k) x ≡ true
     has = rw (name-at t r k, ← f) e
@@ -78,20 +70,17 @@ found_here t first count k x l e r f c d = record { known = λ h. go (position t
     pick j m g true false u v = true-not (sym (same j g) ∙ d j k (leb-false k j v) (omega arith))
     pick j m g false b u v = true-not (sym (same' j g) ∙ d k j (leb-false j k u) m)
 
-    go : (o : Option ℕ) → position t r x ≡ o → o ≡ some k
-    go none u = true-not (sym has ∙ position-none t r x u k (omega arith))
-    go (some j) u = let w = position_some t r x j u in ap some (pick j w.0 (same_bytes-eq (name_at t r j) x w.1) (leb j k) (leb k j) refl refl)
+    go : (o : Option ℕ) → position t r x ≡ o → o ≡ Some k
+    go None u = true-not (sym has ∙ position-none t r x u k (omega arith))
+    go (Some j) u = let w = position_some t r x j u in ap Some (pick j w.0 (same_bytes-eq (name_at t r j) x w.1) (leb j k) (leb k j) refl refl)
 
 -- so is the first that has it; with none the name is unknown
-pub found_among : (t : Table) (first count k : ℕ) (x : List ℕ) → k ≤ count → Among t first count x k → FoundAmong t first count x k
-found_among t first count k x l a r f c d = go (leb count k) refl
+pub found_among : (t : Table) (first count : ℕ) (x : List ℕ) (o : Option ℕ) → Among t first count x o → FoundAmong t first count x o
+found_among t first count x (Some k) a r f c d = found_here t first count k x a.0 a.2 r f c d
+found_among t first count x None a r f c d = nothing (position t r x) refl
   where
-    nothing : (o : Option ℕ) → position t r x ≡ o → count ≤ k → o ≡ none
-    nothing none u m = refl
-    nothing (some j) u m =
+    nothing : (o : Option ℕ) → position t r x ≡ o → o ≡ None
+    nothing None u = refl
+    nothing (Some j) u =
         let w = position_some t r x j u in
-        true-not (sym w.1 ∙ rw (name-at t r j, ← f) (a.before j (omega arith)))
-
-    go : (b : Bool) → leb count k ≡ b → PositionIs t r x k
-    go true u = record { known = λ h. absurd (omega (arith, leb-true count k u)); unknown = λ h. nothing (position t r x) refl (leb-true count k u) }
-    go false u = let m = leb-false count k u in found_here t first count k x m (a.here m) r f c d
+        true-not (sym w.1 ∙ rw (name-at t r j, ← f) (a j (omega arith)))

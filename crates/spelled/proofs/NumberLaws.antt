@@ -103,9 +103,9 @@ unfolding read_int
 read-negative p zero l = refl
 read-negative p (suc n) l = rw (le-leb (suc n) (2 ^ 63) (omega arith), read_int)
 
-negative-some : (n x : ℕ) → (n ≡ 0 → ⊥) → n < 2 ^ 63 → x ≡ 18446744073709551615 - n + 1 → x ≡ negative n
-negative-some zero x h l f = absurd (h refl)
-negative-some (suc m) x h l f = omega arith
+negated : (n x : ℕ) → n < 2 ^ 63 → x < 2 ^ 64 → (x + n) % 2 ^ 64 ≡ 0 → x ≡ negative n
+negated zero x l h e = omega arith
+negated (suc m) x l h e = omega arith
 
 module _ (s : List ℕ) (p q n : ℕ) (l : n < 2 ^ 63) where
   pub integer_bare : Passed (Whole n) s p q → IntegerAt s p q (n % 2 ^ 32) (n / 2 ^ 32)
@@ -135,8 +135,5 @@ module _ (s : List ℕ) (p q n : ℕ) (l : n < 2 ^ 63) where
           upper = ap (λ (y : ℕ). y / 2 ^ 32) i;
         }
 
-    pub integer_negative : (n ≡ 0 → ⊥) → IntegerAt s p q ((18446744073709551615 - n + 1) % 2 ^ 32) ((18446744073709551615 - n + 1) / 2 ^ 32)
-    integer_negative w = integer_minus (18446744073709551615 - n + 1) (negative-some n (18446744073709551615 - n + 1) w l refl)
-
-    pub integer_nought : n ≡ 0 → IntegerAt s p q 0 0
-    integer_nought w = integer_minus 0 (sym (ap negative w))
+    pub integer_negative : (x : ℕ) → x < 2 ^ 64 → (x + n) % 2 ^ 64 ≡ 0 → IntegerAt s p q (x % 2 ^ 32) (x / 2 ^ 32)
+    integer_negative x h e = integer_minus x (negated n x l h e)

@@ -2,24 +2,15 @@
 use Prim.Native.Nat.{ℕ, zero, suc, ◌+◌, ◌-◌, ◌*◌, ◌/◌, ◌%◌, ◌<◌, ◌≤◌}
 use mathlib.Core.Path.{◌≡◌, refl, sym, ap, ◌∙◌}
 use mathlib.Core.List.{List, [], ◌∷◌}
-use mathlib.Core.Bool.{Bool, true, false}
-use mathlib.Core.Option.{some}
+use Rattle.std.specs.Prelude.{Some}
 use native.Mathlib.Omega.{arith}
-use borrow.Author.Tests.{leb-true, leb-false, ne_eqb}
-use lib.Dec.{leb}
+use borrow.Author.Tests.{ne_eqb}
 use lib.ListN.{length, get_or, take, drop, length-drop}
 use lib.Seq.{get_or-take, get_or-drop, length-take-le}
 use Rattle.jer.specs.Octets.{also, only_if, unhex, base64_value, last_group, full_group, unbase64}
 use Rattle.spelled.specs.Octets.{OctetsAre, HexByte, Base64Byte, Group}
 
 -- ---- one more
-
-pub all-next : (P : ℕ → Type 0) (s : List ℕ) (p k : ℕ) → ((i : ℕ) → i < k → P (get_or s (p + i) 0)) → P (get_or s (p + k) 0) → (i : ℕ) → i < k + 1 → P (get_or s (p + i) 0)
-all-next P s p k h e i l = go (leb k i) refl
-  where
-    go : (b : Bool) → leb k i ≡ b → P (get_or s (p + i) 0)
-    go true r = let u : i ≡ k = omega (arith, leb-true k i r) in rw u e
-    go false r = h i (leb-false k i r)
 
 module _ (s : List ℕ) (p n : ℕ) (l : p + n ≤ length s) where
   pub part_length : length (take n (drop p s)) ≡ n
@@ -50,16 +41,16 @@ hex-octets s p n l o h =
 -- ---- Base64
 
 -- so many octets of the last group
-pub group_one : (a b c d x y : ℕ) → base64_value a ≡ some x → base64_value b ≡ some y → c ≡ 0x3D → d ≡ 0x3D → y % 16 ≡ 0 → Group a b c d 1
+pub group_one : (a b c d x y : ℕ) → base64_value a ≡ Some x → base64_value b ≡ Some y → c ≡ 0x3D → d ≡ 0x3D → y % 16 ≡ 0 → Group a b c d 1
 unfolding last_group also only_if
 group_one a b c d x y e f g h i = record { octets = (x * 4 + y / 16) ∷ []; decoded = rw (e, also, f, also, h, g, i); size = refl }
 
-pub group_two : (a b c d x y z : ℕ) → base64_value a ≡ some x → base64_value b ≡ some y → base64_value c ≡ some z → (c ≡ 0x3D → ⊥) → d ≡ 0x3D → z % 4 ≡ 0 → Group a b c d 2
+pub group_two : (a b c d x y z : ℕ) → base64_value a ≡ Some x → base64_value b ≡ Some y → base64_value c ≡ Some z → (c ≡ 0x3D → ⊥) → d ≡ 0x3D → z % 4 ≡ 0 → Group a b c d 2
 unfolding last_group also only_if
 group_two a b c d x y z e f g n h i =
     record { octets = (x * 4 + y / 16) ∷ (y % 16 * 16 + z / 4) ∷ []; decoded = rw (e, also, f, also, h, ne_eqb c 0x3D n, g, also, i); size = refl }
 
-pub group_three : (a b c d x y z w : ℕ) → base64_value a ≡ some x → base64_value b ≡ some y → base64_value c ≡ some z → base64_value d ≡ some w → (d ≡ 0x3D → ⊥) → Group a b c d 3
+pub group_three : (a b c d x y z w : ℕ) → base64_value a ≡ Some x → base64_value b ≡ Some y → base64_value c ≡ Some z → base64_value d ≡ Some w → (d ≡ 0x3D → ⊥) → Group a b c d 3
 unfolding last_group also
 group_three a b c d x y z w e f g h n =
     record { octets = (x * 4 + y / 16) ∷ (y % 16 * 16 + z / 4) ∷ (z % 4 * 64 + w) ∷ []; decoded = rw (e, also, f, also, ne_eqb d 0x3D n, g, also, h, also); size = refl }

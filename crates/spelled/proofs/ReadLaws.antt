@@ -3,7 +3,7 @@ use Prim.Native.Nat.{ℕ}
 use mathlib.Core.Path.{◌≡◌, refl, ◌∙◌}
 use mathlib.Core.List.{List}
 use mathlib.Core.Bool.{Bool, true, false}
-use mathlib.Core.Option.{some}
+use Rattle.std.specs.Prelude.{Some}
 use native.Mathlib.Omega.{arith}
 use lib.Dec.{eqb}
 use Rattle.json_text.proofs.Feed.{pick-row}
@@ -36,7 +36,7 @@ module _ (t : Table) (r p : ℕ) where
   unfolding read unwrapping
   read-string x k e f = rw (not-unwrapped t r k e f, unwrapping)
 
-  pub read-item : (x : List ℕ) (k : ℕ) → kind_of t r ≡ ENUMERATED → position t r x ≡ some k → read (jstr p x) t r ≡ ok (v_enum k)
+  pub read-item : (x : List ℕ) (k : ℕ) → kind_of t r ≡ ENUMERATED → position t r x ≡ Some k → read (jstr p x) t r ≡ ok (v_enum k)
   unfolding read_string read_item
   read-item x k e h = read-string x ENUMERATED e refl ∙ pick-row 0 (kind_of t r) _ _ (omega arith) ∙ rw (h, read_item)
 
@@ -44,14 +44,14 @@ module _ (t : Table) (r p : ℕ) where
   unfolding read_string
   read-utf8 x e = read-string x UTF8String e refl ∙ pick-row 2 (kind_of t r) _ _ ((λ i. omega arith) ⨾ (λ i. omega arith) ⨾ (omega arith))
 
-  read-octets : (x os : List ℕ) → kind_of t r ≡ OCTET-STRING → octets_of t r x ≡ some os → read (jstr p x) t r ≡ ok (v_bytes os)
+  read-octets : (x os : List ℕ) → kind_of t r ≡ OCTET-STRING → octets_of t r x ≡ Some os → read (jstr p x) t r ≡ ok (v_bytes os)
   unfolding read_string read_octets
   read-octets x os e h = read-string x OCTET-STRING e refl ∙ pick-row 1 (kind_of t r) _ _ ((λ i. omega arith) ⨾ (omega arith)) ∙ rw (h, read_octets)
 
-  pub read-hex : (x os : List ℕ) → kind_of t r ≡ OCTET-STRING → is_base64 t r ≡ false → unhex x ≡ some os → read (jstr p x) t r ≡ ok (v_bytes os)
+  pub read-hex : (x os : List ℕ) → kind_of t r ≡ OCTET-STRING → is_base64 t r ≡ false → unhex x ≡ Some os → read (jstr p x) t r ≡ ok (v_bytes os)
   unfolding octets_of
   read-hex x os e f h = read-octets x os e (rw (f, octets_of) h)
 
-  pub read-base64 : (x os : List ℕ) → kind_of t r ≡ OCTET-STRING → is_base64 t r ≡ true → unbase64 x ≡ some os → read (jstr p x) t r ≡ ok (v_bytes os)
+  pub read-base64 : (x os : List ℕ) → kind_of t r ≡ OCTET-STRING → is_base64 t r ≡ true → unbase64 x ≡ Some os → read (jstr p x) t r ≡ ok (v_bytes os)
   unfolding octets_of
   read-base64 x os e f h = read-octets x os e (rw (f, octets_of) h)

@@ -8,6 +8,7 @@ use native.Mathlib.Omega.{arith}
 use borrow.Author.Tests.{leb-true, leb-false, eqb-true, eqb-false}
 use lib.Dec.{eqb, leb}
 use lib.ListN.{length, get_or, take, drop, length-drop}
+use lib.Pointwise.{pointwise, bytes_decides}
 use lib.Seq.{ext_get_or, get_or-take, get_or-drop, length-take-le}
 use Rattle.jer.specs.Table.{same_bytes}
 use Rattle.jer.proofs.ValidLaws.{same_bytes-eq, same_bytes-refl}
@@ -116,9 +117,6 @@ module _ (s : List ℕ) (p : ℕ) (x : List ℕ) (l : p + length x ≤ length s)
   pub long-differs : (i m n : ℕ) → i + 8 ≤ length x → EightAt s (p + i) m → EightAt x i n → (m ≡ n → ⊥) → false ≡ same_bytes x (take (length x) (drop p s))
   long-differs i m n e f g d = same_not s p x l (λ c. d (eight_sum-same s x (p + i) i m n f g (same_chunk s p x i 8 (length x) c e)))
 
-  pub long-more : (i m n : ℕ) → SameBytes s p x i → EightAt s (p + i) m → EightAt x i n → m ≡ n → SameBytes s p x (i + 8)
-  long-more i m n h f g e = same_extend s p x i 8 i h (omega arith) (eight_same s x (p + i) i m n f g e)
-
   pub middle_first : (m n : ℕ) → FourAt s p m → FourAt x 0 n → m ≡ n → SameBytes s p x 4
   middle_first m n f g e k q = let u : 0 + k ≡ k = omega arith in rw u at (four_same s x p 0 m n f g e k q)
 
@@ -128,9 +126,14 @@ module _ (s : List ℕ) (p : ℕ) (x : List ℕ) (l : p + length x ≤ length s)
   pub middle_last : (i m n : ℕ) → i + 4 ≡ length x → i ≤ 4 → SameBytes s p x 4 → FourAt s (p + i) m → FourAt x i n → eqb m n ≡ same_bytes x (take (length x) (drop p s))
   middle_last i m n e q h f g = last-tells i 4 4 m n e q h (four_same s x (p + i) i m n f g) (four-sum-same s x (p + i) i m n f g)
 
-  pub short-more : (i : ℕ) → SameBytes s p x i → get_or s (p + i) 0 ≡ get_or x i 0 → SameBytes s p x (i + 1)
-  short-more i h e k q = go (leb i k) refl
-    where
-      go : (b : Bool) → leb i k ≡ b → get_or s (p + k) 0 ≡ get_or x k 0
-      go true r = let u : k ≡ i = omega (arith, leb-true i k r) in rw u e
-      go false r = h k (leb-false i k r)
+-- the library's comparison of the bytes there with those of x
+pub same-eq : (s : List ℕ) (p : ℕ) (x : List ℕ) {r : Bool} → r ≡ pointwise eqb (take (p + length x - p) (drop p s)) x → r ≡ same_bytes x (take (length x) (drop p s))
+same-eq s p x {r} e = let f : p + length x - p ≡ length x = omega arith in rw f at e ∙ go (pointwise eqb (take (length x) (drop p s)) x) refl
+  where
+    go : (b : Bool) → pointwise eqb (take (length x) (drop p s)) x ≡ b → pointwise eqb (take (length x) (drop p s)) x ≡ same_bytes x (take (length x) (drop p s))
+    go true h = let g = (bytes_decides (take (length x) (drop p s)) x).0 h in h ∙ sym (rw g (same_bytes-refl x))
+    go false h = h ∙ other (same_bytes x (take (length x) (drop p s))) refl h
+      where
+        other : (b : Bool) → same_bytes x (take (length x) (drop p s)) ≡ b → pointwise eqb (take (length x) (drop p s)) x ≡ false → false ≡ b
+        other true i h = sym h ∙ (bytes_decides (take (length x) (drop p s)) x).1 (sym (same_bytes-eq x (take (length x) (drop p s)) i))
+        other false i h = refl

@@ -78,9 +78,6 @@ module _ (s : List ℕ) (d : ℕ) where
     pub space : Stretch Space s here p
     pub then : (q : ℕ) → ElementsAt here q → ElementsAt o q
 
-  pub listing_none : (o p : ℕ) → Stretch Space s o p → Listing o p
-  listing_none o p x = record { here = o; space = x; then = λ q k. k }
-
   module _ (o p q c : ℕ) (k : Listing o p) (v : ValueAt d s p q) (y : Stretch Space s q c) where
     pub listing_more : (p' : ℕ) → byte_at s c ≡ 0x2C → Stretch Space s (c + 1) p' → Listing o p'
     listing_more p' h z = record { here = c + 1; space = z; then = λ r m. k.then r (elements-more k.here c r (padded-here k.here p q c k.space v y) h m) }
@@ -130,9 +127,6 @@ module _ (s : List ℕ) (d : ℕ) where
     pub here : ℕ
     pub space : Stretch Space s here p
     pub then : (q : ℕ) → NamedAt here q → NamedAt o q
-
-  pub naming_none : (o p : ℕ) → Stretch Space s o p → Naming o p
-  naming_none o p x = record { here = o; space = x; then = λ q k. k }
 
   module _ (o p r v q c : ℕ) (k : Naming o p) (n : (z : ℕ) → Stretch Space s z p → NameAt s z p r) (x : Stretch Space s r v) (w : ValueAt d s v q) (y : Stretch Space s q c) where
     pub naming_more : (p' : ℕ) → byte_at s c ≡ 0x2C → Stretch Space s (c + 1) p' → Naming o p'

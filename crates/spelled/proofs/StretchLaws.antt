@@ -7,6 +7,10 @@ use native.Mathlib.Numerals.{add-one}
 use native.Mathlib.Omega.{arith}
 use lib.ListN.{length, get_or, drop, length-drop, length-append}
 use lib.Seq.{drop-cons}
+use Prim.Native.Nat.{max}
+use mathlib.Core.Bool.{Bool, true, false}
+use borrow.Author.Tests.{leb-true, leb-false}
+use lib.Dec.{leb}
 use Rattle.json_text.specs.Bytes.{past}
 use Rattle.tokens.specs.Places.{byte_at}
 use Rattle.tokens.proofs.PlaceLaws.{byte_inside, inside}
@@ -68,6 +72,14 @@ stretch-more R T s p q b f k l e m =
     stretch_join R (Exactly (b ∷ [])) T s p q (q + 1) (λ xs ys h i. rw i (f xs h)) k (byte_here s q b (sym (e ∙ byte_inside s q l)) m)
 
 -- ---- places
+
+-- what holds at each place that a loop from p to n comes to holds at its end, which is p where it never began
+pub at-end : (P : ℕ → Type 0) {p q n e : ℕ} → P p → P q → p ≤ q → (p ≤ n → q ≤ n) → n ≤ q → e ≡ max n p → P e
+at-end P {p} {q} {n} {e} a b h k l f = go (leb p n) refl
+  where
+    go : (t : Bool) → leb p n ≡ t → P e
+    go true u = let w = leb-true p n u in let v : q ≡ e = omega (arith, k w) in rw v at b
+    go false u = let w = leb-false p n u in let v : p ≡ e = omega arith in rw v at a
 
 -- what stands somewhere ends inside the text
 pub stretch-inside : (R : List ℕ → Type 0) (s : List ℕ) (p q : ℕ) → Stretch R s p q → p < q → q ≤ length s

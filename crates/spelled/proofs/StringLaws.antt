@@ -17,7 +17,7 @@ use Rattle.tokens.proofs.PlaceLaws.{byte_inside}
 use Rattle.tokens.proofs.TiePlace.{past_append, past-length}
 use Rattle.spelled.specs.Stretch.{Stretch, Passed, Selves}
 use Rattle.spelled.specs.Leaves.{SelfByte, CharAt, CharsAt, StringAt}
-use Rattle.spelled.proofs.StretchLaws.{Exactly, stretch-none, stretch_as, stretch_join, stretch-more, byte_here, stretch-inside, passed}
+use Rattle.spelled.proofs.StretchLaws.{Exactly, stretch-none, stretch_as, stretch_join, stretch-more, byte_here, passed}
 
 chars_join : {u v ds es : List ℕ} → Chars u ds → Chars v es → Chars (u ++ v) (ds ++ es)
 chars_join no_char k = k
@@ -84,9 +84,6 @@ chars-one : (s : List ℕ) (p q n : ℕ) (e : Bool) → CharAt s p q n e → Cha
 unfolding stretch_as
 chars-one s p q n e k =
     record { chars = k.chars; stretch = stretch_as (Char k.chars) (Chars k.chars) s p q (λ xs h. one_char h) k.stretch; size = k.size; few = k.few; plain = k.plain }
-
-pub char-inside : (s : List ℕ) (p q n : ℕ) (e : Bool) → CharAt s p q n e → p < q → q ≤ length s
-char-inside s p q n e k l = stretch-inside (Char k.chars) s p q k.stretch l
 
 -- one more: it stands for itself, has more than one byte, or is escaped
 pub chars-self : (s : List ℕ) (p q n : ℕ) (e : Bool) → CharsAt s p q n e → q < length s → SelfByte (get_or s q 0) → CharsAt s p (q + 1) (n + 1) e

@@ -29,4 +29,4 @@ pub data Raised : List ℕ → Type 0 where
 -- an exponent, or none
 pub data Powered : List ℕ → Type 0 where
   no_power : Powered []
-  some : {bs : List ℕ} → Power bs → Powered bs
+  some_power : {bs : List ℕ} → Power bs → Powered bs

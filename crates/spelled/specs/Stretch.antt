@@ -25,6 +25,10 @@ Within s p q = (p ≤ q) × (q ≤ p + (length s - p))
 abbrev pub Blank : ℕ → Type 0
 Blank b = Space (b ∷ [])
 
+-- these bytes
+abbrev pub Spells : List ℕ → List ℕ → Type 0
+Spells word bs = bs ≡ word
+
 -- characters that stand for themselves
 abbrev pub Selves : List ℕ → Type 0
 Selves bs = Chars bs bs

@@ -1,87 +1,40 @@
 // One character of a string: escaped, or of more than one byte.
-ghost use Rattle.std.specs.Prelude.{◌≡◌, true, [], ◌∷◌, ◌+◌, ◌≤◌, ◌<◌, length};
-ghost use Rattle.json_text.specs.Grammar.{Hex};
+ghost use Rattle.std.specs.Prelude.{◌≡◌, true, [], ◌∷◌, ◌+◌, ◌≤◌, ◌<◌, length, IfSome};
 ghost use Rattle.json_text.specs.Utf8.{encode, Wide};
 ghost use Rattle.tokens.specs.Places.{byte_at};
 ghost use Rattle.spelled.specs.Stretch.{Passed};
 ghost use Rattle.spelled.specs.Leaves.{Letter, Coded, CharAt};
 
 use crate::bytes::byte;
-use slices::byte_at;
+use slices::{byte_at, hex_value};
 
-// The place after an escape, or 0; and how many bytes its character has.
+// The place after an escape, and how many bytes its character has.
 #[derive(Clone, Copy)]
 pub struct Escaped {
     pub next: usize,
     pub count: usize,
 }
 
-// A hexadecimal digit's value, 16 for any other byte.
-fn hex(b: u8) -> u32
-    ensures { (result ≤ 16) × (result < 16 → Hex result b) }
-{
-    match b {
-        0x30..=0x39 => (b - 0x30) as u32,
-        0x41..=0x46 => (b - 0x37) as u32,
-        0x61..=0x66 => (b - 0x57) as u32,
-        _ => 16,
-    }
-}
-
-// The unit that is escaped at p by four digits, 65536 where none is.
-fn unit(s: &[u8], p: usize) -> u32
+// The unit that is escaped at p by four digits.
+fn unit(s: &[u8], p: usize) -> Option<u32>
     requires { p ≤ length s.now }
-    ensures { result < 65536 → Passed (Coded result) s.now p (p + 6) }
+    ensures { IfSome result (λ x. Passed (Coded x) s.now p (p + 6) × (x < 0x10000)) }
 {
-    if s.len() - p < 6 {
-        return 65536;
+    if s.len() - p < 6 || s[p] != 0x5C || s[p + 1] != 0x75 {
+        return None;
     }
-    if s[p] != 0x5C {
-        return 65536;
-    }
-    if s[p + 1] != 0x75 {
-        return 65536;
-    }
-    let i = hex(s[p + 2]);
-    let j = hex(s[p + 3]);
-    let k = hex(s[p + 4]);
-    let l = hex(s[p + 5]);
-    if 15 < i {
-        return 65536;
-    }
-    if 15 < j {
-        return 65536;
-    }
-    if 15 < k {
-        return 65536;
-    }
-    if 15 < l {
-        return 65536;
-    }
-    ((i * 16 + j) * 16 + k) * 16 + l
+    let i = hex_value(s[p + 2])?;
+    let j = hex_value(s[p + 3])?;
+    let k = hex_value(s[p + 4])?;
+    let l = hex_value(s[p + 5])?;
+    Some(((u32::from(i) * 16 + u32::from(j)) * 16 + u32::from(k)) * 16 + u32::from(l))
 }
 
 // Whether b is a letter that follows a backslash, and not u.
 fn letter(b: u32) -> bool
     ensures { result ≡ true → Letter b }
 {
-    match b {
-        0x22 => true,
-        0x5C => true,
-        0x2F => true,
-        0x62 => true,
-        0x66 => true,
-        0x6E => true,
-        0x72 => true,
-        0x74 => true,
-        _ => false,
-    }
-}
-
-fn none() -> Escaped
-    ensures { result.next ≡ 0 }
-{
-    Escaped { next: 0, count: 0 }
+    matches!(b, 0x22 | 0x5C | 0x2F | 0x62 | 0x66 | 0x6E | 0x72 | 0x74)
 }
 
 // How many bytes the character x has.
@@ -99,52 +52,37 @@ fn size(x: u32) -> usize
 }
 
 // The character that is escaped at p by four digits, or by twice four.
-fn unescaped(s: &[u8], p: usize) -> Escaped
+fn unescaped(s: &[u8], p: usize) -> Option<Escaped>
     requires { p ≤ length s.now }
-    ensures { 0 < result.next → CharAt s.now p result.next result.count true × (p < result.next) }
+    ensures { IfSome result (λ e. CharAt s.now p e.next e.count true × (p < e.next)) }
 {
-    let x = unit(s, p);
-    if 0xFFFF < x {
-        return none();
-    }
-    if x < 0xD800 {
-        return Escaped {
+    let x = unit(s, p)?;
+    match x {
+        0xD800..=0xDBFF => match unit(s, p + 6)? {
+            0xDC00..=0xDFFF => Some(Escaped {
+                next: p + 12,
+                count: 4,
+            }),
+            _ => None,
+        },
+        0xDC00..=0xDFFF => None,
+        _ => Some(Escaped {
             next: p + 6,
             count: size(x),
-        };
-    }
-    if 0xDFFF < x {
-        return Escaped {
-            next: p + 6,
-            count: size(x),
-        };
-    }
-    if 0xDBFF < x {
-        return none();
-    }
-    let y = unit(s, p + 6);
-    if y < 0xDC00 {
-        return none();
-    }
-    if 0xDFFF < y {
-        return none();
-    }
-    Escaped {
-        next: p + 12,
-        count: 4,
+        }),
     }
 }
 
 // The escaped character whose backslash stands at p.
-pub fn escape(s: &[u8], p: usize) -> Escaped
+pub fn escape(s: &[u8], p: usize) -> Option<Escaped>
     requires { byte_at s.now p ≡ 0x5C }
-    ensures { 0 < result.next → CharAt s.now p result.next result.count true × (p < result.next) }
+    ensures { IfSome result (λ e. CharAt s.now p e.next e.count true × (p < e.next)) }
 {
     if letter(byte_at(s, p + 1)) {
-        return Escaped {
+        return Some(Escaped {
             next: p + 2,
             count: 1,
-        };
+        });
     }
     unescaped(s, p)
 }
@@ -196,44 +134,21 @@ fn four(a: u32, b: u32, c: u32, d: u32) -> bool
 fn later(b: u32) -> bool
     ensures { result ≡ true → (0x80 ≤ b) × (b ≤ 0xBF) }
 {
-    if b < 0x80 {
-        return false;
-    }
-    b <= 0xBF
+    matches!(b, 0x80..=0xBF)
 }
 
-// How many bytes the character at p has, if more than one; 0 for any other.
-pub fn wide(s: &[u8], p: usize) -> usize
+// How many bytes the character at p has, if more than one.
+pub fn wide(s: &[u8], p: usize) -> Option<usize>
     requires { p < length s.now }
-    ensures passed { 0 < result → Passed Wide s.now p (p + result) }
-    ensures upper_bound { result ≤ 4 }
+    ensures { IfSome result (λ n. Passed Wide s.now p (p + n) × (n ≤ 4)) }
 {
     let a = byte(s, p);
     let b = byte_at(s, p + 1);
-    if a < 0xC2 {
-        return 0;
-    }
-    if a < 0xE0 {
-        if later(b) {
-            return 2;
-        }
-        return 0;
-    }
-    if 255 < b {
-        return 0;
-    }
     let c = byte_at(s, p + 2);
-    if a < 0xF0 {
-        if three(a, b, c) {
-            return 3;
-        }
-        return 0;
+    match a {
+        0xC2..=0xDF if later(b) => Some(2),
+        0xE0..=0xEF if b < 256 && three(a, b, c) => Some(3),
+        0xF0..=0xF4 if b < 256 && c < 256 && four(a, b, c, byte_at(s, p + 3)) => Some(4),
+        _ => None,
     }
-    if 255 < c {
-        return 0;
-    }
-    if four(a, b, c, byte_at(s, p + 3)) {
-        return 4;
-    }
-    0
 }

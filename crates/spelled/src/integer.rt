@@ -1,20 +1,19 @@
 // INTEGER, if it has at most 18 digits. What follows a number is for the caller to see.
-ghost use Rattle.std.specs.Prelude.{◌+◌, ◌^◌, ◌≤◌, ◌<◌};
+ghost use Rattle.std.specs.Prelude.{◌≡◌, ◌+◌, ◌^◌, ◌%◌, ◌/◌, ◌≤◌, ◌<◌, IfSome};
 ghost use Rattle.json_text.specs.Grammar.{Onward, Whole};
 ghost use Rattle.spelled.specs.Stretch.{Stretch, Passed, Within};
 ghost use Rattle.spelled.specs.Leaves.{IntegerAt};
 
-use crate::bytes::byte;
 use slices::byte_at;
 
-// The place after the digits, or 0; and the number.
+// The place after the digits, and the number.
 #[derive(Clone, Copy)]
 pub struct Number {
     pub next: usize,
     pub value: u64,
 }
 
-// The place after the number, or 0; and the halves of its two's complement.
+// The place after the number, and the halves of its two's complement.
 #[derive(Clone, Copy)]
 pub struct Halves {
     pub next: usize,
@@ -43,71 +42,52 @@ fn digits(s: &[u8], p: usize, first: u64) -> Number
 {
     let end = until(s, p);
     let mut m = first;
-    let mut q = p;
-    while q < end {
-        let b = byte(s, q) as u64;
-        if b < 0x30 {
+    for q in p..end {
+        let b = u64::from(s[q]);
+        if !matches!(b, 0x30..=0x39) {
             return Number { next: q, value: m };
         }
-        let d = b - 0x30;
-        if 9 < d {
-            return Number { next: q, value: m };
-        }
-        m = m * 10 + d;
-        q += 1;
+        m = m * 10 + (b - 0x30);
     }
-    Number { next: q, value: m }
+    Number {
+        next: end,
+        value: m,
+    }
 }
 
 // A whole number.
-fn whole(s: &[u8], p: usize) -> Number
-    ensures { (0 < result.next → Passed (Whole result.value) s.now p result.next) × (result.value < 2 ^ 63) }
+fn whole(s: &[u8], p: usize) -> Option<Number>
+    ensures { IfSome result (λ w. Passed (Whole w.value) s.now p w.next × (w.value < 2 ^ 63)) }
 {
-    if s.len() <= p {
-        return Number { next: 0, value: 0 };
-    }
-    let b = s[p];
-    if b == 0x30 {
-        return Number {
+    match *s.get(p)? {
+        0x30 => Some(Number {
             next: p + 1,
             value: 0,
-        };
+        }),
+        b @ 0x31..=0x39 => Some(digits(s, p + 1, u64::from(b - 0x30))),
+        _ => None,
     }
-    if b < 0x31 {
-        return Number { next: 0, value: 0 };
-    }
-    if 0x39 < b {
-        return Number { next: 0, value: 0 };
-    }
-    digits(s, p + 1, (b - 0x30) as u64)
 }
 
 // The number at p, from its minus sign or first digit on.
-pub fn integer(s: &[u8], p: usize) -> Halves
-    ensures { 0 < result.next → IntegerAt s.now p result.next result.low result.high }
+pub fn integer(s: &[u8], p: usize) -> Option<Halves>
+    ensures { IfSome result (λ h. IntegerAt s.now p h.next h.low h.high) }
 {
     if byte_at(s, p) == 0x2D {
-        let w = whole(s, p + 1);
-        let m = w.value;
-        if m == 0 {
-            return Halves {
-                next: w.next,
-                low: 0,
-                high: 0,
-            };
-        }
-        let n = 18446744073709551615 - m + 1;
-        return Halves {
-            next: w.next,
-            low: (n % 4294967296) as u32,
-            high: (n / 4294967296) as u32,
-        };
+        let w = whole(s, p + 1)?;
+        return Some(in_halves(w.next, w.value.wrapping_neg()));
     }
-    let w = whole(s, p);
-    let m = w.value;
+    let w = whole(s, p)?;
+    Some(in_halves(w.next, w.value))
+}
+
+// A number of 64 bits in two halves.
+fn in_halves(next: usize, n: u64) -> Halves
+    ensures { (result.next ≡ next) × (result.low ≡ n % 2 ^ 32) × (result.high ≡ n / 2 ^ 32) }
+{
     Halves {
-        next: w.next,
-        low: (m % 4294967296) as u32,
-        high: (m / 4294967296) as u32,
+        next,
+        low: (n % 4294967296) as u32,
+        high: (n / 4294967296) as u32,
     }
 }

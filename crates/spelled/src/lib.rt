@@ -1,4 +1,4 @@
-// What stands at a place of a text, by the grammar of JSON: each function answers a place after it, or 0 where it does not take it.
+// What stands at a place of a text, by the grammar of JSON: each function answers a place after it, where it takes it.
 // A reading that only succeeds is made of these. Contracts cite `specs/`, which cites the grammar.
 #![tactic(auto)]
 
@@ -9,9 +9,9 @@ pub mod integer; // integer.rt: INTEGER
 pub mod names; // names.rt: the member that has a name
 mod number; // number.rt: any number
 pub mod plain; // plain.rt: runs of characters that stand for themselves
-pub mod put; // put.rt: bytes and octets stored
+pub mod put; // put.rt: octets stored
 mod same; // same.rt: bytes compared
 pub mod skip; // skip.rt: past any value
 pub mod space; // space.rt: white space
 pub mod string; // string.rt: strings
-pub mod word; // word.rt: the literals
+pub mod word; // word.rt: a literal

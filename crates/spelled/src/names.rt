@@ -1,9 +1,9 @@
 // The member of a type that has a name, which stands in the text without escapes.
-ghost use Rattle.std.specs.Prelude.{◌≡◌, true, ℕ, ◌+◌, ◌≤◌, ◌<◌, length, take, drop};
+ghost use Rattle.std.specs.Prelude.{◌≡◌, true, ℕ, ◌+◌, ◌≤◌, ◌<◌, length, take, drop, IfSome};
 ghost use Rattle.jer.specs.Table.{name_in, same_bytes, table};
 ghost use Rattle.spelled.specs.Names.{Unlike, Among, FoundAmong};
 
-use crate::bytes::{byte, four, wider};
+use crate::bytes::{byte, four};
 use crate::same::same;
 use types::row::{name_in, wide};
 
@@ -53,7 +53,7 @@ fn hash(s: &[u8], p: usize, n: usize, first: usize) -> usize
         % 1021
 }
 
-// The position of the n bytes at p among the names of the `count` members from row `first` on, or `count`.
+// The position of the n bytes at p among the names of the `count` members from row `first` on.
 fn search(
     types: &[u32],
     names: &[u8],
@@ -62,23 +62,17 @@ fn search(
     count: u32,
     p: usize,
     n: usize,
-) -> u32
+) -> Option<u32>
     requires { (p + n ≤ length s.now) × (first ≤ 4294967295) }
-    ensures { (result ≤ count) × Among (table types.now names.now) first count (take n (drop p s.now)) result }
+    ensures { Among (table types.now names.now) first count (take n (drop p s.now)) result }
 {
-    let mut k: u32 = 0;
-    while k < count {
+    for k in 0..count {
         let m = first + wide(k);
-        if other_length(types, names, m, n) {
-            k += 1;
-        } else {
-            if has_name(types, names, s, m, p, n) {
-                return k;
-            }
-            k += 1;
+        if !other_length(types, names, m, n) && has_name(types, names, s, m, p, n) {
+            return Some(k);
         }
     }
-    count
+    None
 }
 
 // The same where the names differ: the member that is due is tried first, then the one that the memo has for the name.
@@ -93,23 +87,22 @@ pub fn find(
     due: u32,
     p: usize,
     n: usize,
-) -> u32
+) -> Option<u32>
     requires { (p + n ≤ length s.now) × (first ≤ 4294967295) }
-    ensures { (result ≤ count) × FoundAmong (table types.now names.now) first count (take n (drop p s.now)) result }
+    ensures within { IfSome result (λ k. k < count) }
+    ensures found { FoundAmong (table types.now names.now) first count (take n (drop p s.now)) result }
 {
-    if due < count {
-        if has_name(types, names, s, first + wide(due), p, n) {
-            return due;
-        }
+    if due < count && has_name(types, names, s, first + wide(due), p, n) {
+        return Some(due);
     }
     let h = hash(s, p, n, first);
-    let g = wider(memo[h]);
-    if g < count {
-        if has_name(types, names, s, first + wide(g), p, n) {
-            return g;
-        }
+    let g = u32::from(memo[h]);
+    if g < count && has_name(types, names, s, first + wide(g), p, n) {
+        return Some(g);
     }
-    let k = search(types, names, s, first, count, p, n);
-    memo[h] = (k % 256) as u8;
-    k
+    let found = search(types, names, s, first, count, p, n);
+    if let Some(k) = found {
+        memo[h] = (k % 256) as u8;
+    }
+    found
 }

@@ -1,5 +1,5 @@
 // Any number: its value is of no account.
-ghost use Rattle.std.specs.Prelude.{ℕ, ◌<◌};
+ghost use Rattle.std.specs.Prelude.{ℕ, IfSome};
 ghost use Rattle.json_text.specs.Grammar.{Digits};
 ghost use Rattle.spelled.specs.Stretch.{Stretch, Passed, Within, ValueAt};
 ghost use Rattle.spelled.specs.Number.{SomeOnward, SomeWhole, SomeSigned, Dotted, Raised, Powered};
@@ -11,54 +11,36 @@ fn digits(s: &[u8], p: usize) -> usize
     ensures by_index { (m : ℕ) → Stretch (SomeOnward m) s.now p result }
     ensures within { Within s.now p result }
 {
-    let mut q = p;
-    while q < s.len() {
-        let b = s[q];
-        if b < 0x30 {
+    for q in p..s.len() {
+        if !matches!(s[q], 0x30..=0x39) {
             return q;
         }
-        if 0x39 < b {
-            return q;
-        }
-        q += 1;
     }
-    q
+    s.len().max(p)
 }
 
-// The same for one digit or more, 0 where there is none.
-fn some_digits(s: &[u8], p: usize) -> usize
-    ensures { 0 < result → Passed Digits s.now p result }
+// The same for one digit or more.
+fn some_digits(s: &[u8], p: usize) -> Option<usize>
+    ensures { IfSome result (λ q. Passed Digits s.now p q) }
 {
     let q = digits(s, p);
-    if q == p {
-        return 0;
-    }
-    q
+    if q == p { None } else { Some(q) }
 }
 
 // The place after a whole number.
-fn whole(s: &[u8], p: usize) -> usize
-    ensures { 0 < result → Passed SomeWhole s.now p result }
+fn whole(s: &[u8], p: usize) -> Option<usize>
+    ensures { IfSome result (λ q. Passed SomeWhole s.now p q) }
 {
-    if s.len() <= p {
-        return 0;
+    match *s.get(p)? {
+        0x30 => Some(p + 1),
+        0x31..=0x39 => Some(digits(s, p + 1)),
+        _ => None,
     }
-    let b = s[p];
-    if b == 0x30 {
-        return p + 1;
-    }
-    if b < 0x31 {
-        return 0;
-    }
-    if 0x39 < b {
-        return 0;
-    }
-    digits(s, p + 1)
 }
 
 // The same with a minus sign or none.
-fn signed(s: &[u8], p: usize) -> usize
-    ensures { 0 < result → Passed SomeSigned s.now p result }
+fn signed(s: &[u8], p: usize) -> Option<usize>
+    ensures { IfSome result (λ q. Passed SomeSigned s.now p q) }
 {
     if byte_at(s, p) == 0x2D {
         return whole(s, p + 1);
@@ -66,55 +48,43 @@ fn signed(s: &[u8], p: usize) -> usize
     whole(s, p)
 }
 
-// The place after the fraction at p, which is p where there is none; 0 for a dot without digits.
-fn fraction(s: &[u8], p: usize) -> usize
-    ensures { 0 < result → Stretch Dotted s.now p result }
+// The place after the fraction at p, which is p where there is none; nothing for a dot without digits.
+fn fraction(s: &[u8], p: usize) -> Option<usize>
+    ensures { IfSome result (λ q. Stretch Dotted s.now p q) }
 {
     if byte_at(s, p) == 0x2E {
         return some_digits(s, p + 1);
     }
-    p
+    Some(p)
 }
 
 // After e or E: a sign or none, and digits.
-fn raised(s: &[u8], p: usize) -> usize
-    ensures { 0 < result → Passed Raised s.now p result }
+fn raised(s: &[u8], p: usize) -> Option<usize>
+    ensures { IfSome result (λ q. Passed Raised s.now p q) }
 {
-    let b = byte_at(s, p);
-    if b == 0x2B {
-        return some_digits(s, p + 1);
+    match byte_at(s, p) {
+        0x2B => some_digits(s, p + 1),
+        0x2D => some_digits(s, p + 1),
+        _ => some_digits(s, p),
     }
-    if b == 0x2D {
-        return some_digits(s, p + 1);
-    }
-    some_digits(s, p)
 }
 
-// The place after the exponent at p, which is p where there is none; 0 for one without digits.
-fn power(s: &[u8], p: usize) -> usize
-    ensures { 0 < result → Stretch Powered s.now p result }
+// The place after the exponent at p, which is p where there is none; nothing for one without digits.
+fn power(s: &[u8], p: usize) -> Option<usize>
+    ensures { IfSome result (λ q. Stretch Powered s.now p q) }
 {
-    let b = byte_at(s, p);
-    if b == 0x65 {
-        return raised(s, p + 1);
+    match byte_at(s, p) {
+        0x65 => raised(s, p + 1),
+        0x45 => raised(s, p + 1),
+        _ => Some(p),
     }
-    if b == 0x45 {
-        return raised(s, p + 1);
-    }
-    p
 }
 
-// The place after the number at p, or 0.
-pub fn number(s: &[u8], p: usize) -> usize
-    ensures { 0 < result → (d : ℕ) → ValueAt d s.now p result }
+// The place after the number at p.
+pub fn number(s: &[u8], p: usize) -> Option<usize>
+    ensures { IfSome result (λ q. (d : ℕ) → ValueAt d s.now p q) }
 {
-    let q = signed(s, p);
-    if q == 0 {
-        return 0;
-    }
-    let f = fraction(s, q);
-    if f == 0 {
-        return 0;
-    }
+    let q = signed(s, p)?;
+    let f = fraction(s, q)?;
     power(s, f)
 }

@@ -1,35 +1,31 @@
-// Bytes and octets of a plain string, stored in the pool.
-ghost use Rattle.std.specs.Prelude.{◌≡◌, ◌+◌, ◌*◌, ◌≤◌, ◌<◌, length, take, drop};
+// Octets of a plain string, stored in the pool.
+ghost use Rattle.std.specs.Prelude.{◌≡◌, ℕ, ◌+◌, ◌*◌, ◌≤◌, ◌<◌, length, get_or, take, drop};
 ghost use Rattle.std.proofs.lemmas.List.Edits.{sets};
-ghost use Rattle.jer.specs.Octets.{unhex, unbase64};
+ghost use Rattle.jer.specs.Octets.{unhex, base64_value, unbase64};
 ghost use Rattle.spelled.specs.Octets.{OctetsStored, GroupStored, LastStored};
 
-use crate::coded::{digit, nibble};
-use slices::put;
-
-// Stores the n bytes at p, from o on.
-pub fn copy(s: &[u8], p: usize, n: usize, pool: &mut [u8], o: usize)
-    requires { (p + n ≤ length s.now) × (o + n ≤ length pool.old) }
-    ensures { pool.new ≡ sets pool.old o (take n (drop p s.now)) }
-{
-    let mut k = 0;
-    while k < n {
-        pool[o + k] = s[p + k];
-        k += 1;
-    }
-}
+use octets::decode::base64_value;
+use slices::{hex_value, put};
 
 // Stores the octets that twice as many characters at p are in hexadecimal, from o on.
 pub fn put_hex(s: &[u8], p: usize, count: usize, pool: &mut [u8], o: usize)
     requires { (p + count * 2 ≤ length s.now) × (o + count ≤ length pool.old) }
     ensures { OctetsStored unhex (take (count * 2) (drop p s.now)) pool.new pool.old o }
 {
-    let mut k = 0;
-    while k < count {
+    for k in 0..count {
         let i = p + k * 2;
-        pool[o + k] = nibble(s[i]) % 16 * 16 + nibble(s[i + 1]) % 16;
-        k += 1;
+        let high = hex_value(s[i]).unwrap_or(0);
+        let low = hex_value(s[i + 1]).unwrap_or(0);
+        pool[o + k] = high * 16 + low;
     }
+}
+
+// The value of the Base64 digit at q, or 0.
+fn value_at(s: &[u8], q: usize) -> u8
+    requires { q < length s.now }
+    ensures { ((x : ℕ) → base64_value (get_or s.now q 0) ≡ Some x → result ≡ x) × (result < 64) }
+{
+    base64_value(s[q]).unwrap_or(0)
 }
 
 // Stores the three octets of the four Base64 digits at q, as far as there is room.
@@ -37,10 +33,10 @@ fn put_group(s: &[u8], q: usize, pool: &mut [u8], o: usize)
     requires { (q + 4 ≤ length s.now) × (o + 4 < 18446744073709551616) }
     ensures { GroupStored s.now q pool.new pool.old o }
 {
-    let x = digit(s[q]) % 64;
-    let y = digit(s[q + 1]) % 64;
-    let z = digit(s[q + 2]) % 64;
-    let w = digit(s[q + 3]) % 64;
+    let x = value_at(s, q);
+    let y = value_at(s, q + 1);
+    let z = value_at(s, q + 2);
+    let w = value_at(s, q + 3);
     put(pool, o, x * 4 + y / 16);
     put(pool, o + 1, y % 16 * 16 + z / 4);
     put(pool, o + 2, z % 4 * 64 + w);
@@ -55,11 +51,11 @@ fn put_last(s: &[u8], q: usize, pool: &mut [u8], o: usize)
         put_group(s, q, pool, o);
         return;
     }
-    let x = digit(s[q]) % 64;
-    let y = digit(s[q + 1]) % 64;
+    let x = value_at(s, q);
+    let y = value_at(s, q + 1);
     put(pool, o, x * 4 + y / 16);
     if s[q + 2] != 0x3D {
-        let z = digit(s[q + 2]) % 64;
+        let z = value_at(s, q + 2);
         put(pool, o + 1, y % 16 * 16 + z / 4);
     }
 }
@@ -72,13 +68,9 @@ pub fn put_base64(s: &[u8], p: usize, n: usize, pool: &mut [u8], o: usize)
     if n < 4 {
         return;
     }
-    let last = n - 4;
-    let mut i = 0;
-    let mut k = 0;
-    while i < last {
-        put_group(s, p + i, pool, o + k);
-        i += 4;
-        k += 3;
+    let groups = (n - 1) / 4;
+    for g in 0..groups {
+        put_group(s, p + g * 4, pool, o + g * 3);
     }
-    put_last(s, p + last, pool, o + k);
+    put_last(s, p + (n - 4), pool, o + groups * 3);
 }

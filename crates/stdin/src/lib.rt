@@ -7,7 +7,7 @@
 ghost use Rattle.std.specs.Prelude.{◌≤◌, ◌≡◌, length};
 
 use lines::taken::DIGITS;
-use slices::byte_at;
+use slices::hex_value;
 use std::io::Read;
 
 // Where in its buffer the input stands.
@@ -17,14 +17,15 @@ pub struct Input {
     pub end: usize,
 }
 
-// The next byte, or 256 at the end of the input.
+// The next byte, if the input has one, and where the input stands then.
 #[derive(Clone, Copy)]
 struct Next {
-    pub byte: u32,
+    pub byte: Option<u8>,
     pub input: Input,
 }
 
-// A line's octets or numbers, counted; `over` if no byte was left where it would begin.
+// A line's octets or numbers, counted; `over` if no byte was left where it would begin: a flag, since a line is answered in any case, and only
+// one of six callers asks.
 #[derive(Clone, Copy)]
 pub struct Line {
     pub count: usize,
@@ -33,36 +34,24 @@ pub struct Line {
 }
 
 // The next byte of the input, which is read anew where the buffer is used up.
-fn next_byte<R: Read>(from: &mut R, buf: &mut [u8], input: Input) -> Next
-    ensures { result.byte ≤ 256 }
-{
-    let at = input.at;
-    let end = input.end;
+fn next_byte<R: Read>(from: &mut R, buf: &mut [u8], input: Input) -> Next {
+    let Input { at, end } = input;
     if at < end {
-        let i = Input {
-            at: at + 1,
-            end: end,
-        };
         return Next {
-            byte: byte_at(buf, at),
-            input: i,
+            byte: buf.get(at).copied(),
+            input: Input { at: at + 1, end },
         };
     }
-    let n = match from.read(buf) {
-        Ok(n) => n,
-        Err(_) => 0,
-    };
+    let n = from.read(buf).unwrap_or(0);
     if n == 0 {
-        let i = Input { at: 0, end: 0 };
         return Next {
-            byte: 256,
-            input: i,
+            byte: None,
+            input: Input { at: 0, end: 0 },
         };
     }
-    let i = Input { at: 1, end: n };
     Next {
-        byte: byte_at(buf, 0),
-        input: i,
+        byte: buf.first().copied(),
+        input: Input { at: 1, end: n },
     }
 }
 
@@ -74,114 +63,113 @@ pub fn collect<R: Read>(from: &mut R, lines: u32, out: &mut [u8]) -> usize
     let mut input = Input { at: 0, end: 0 };
     let mut left = lines;
     let mut digits = 0;
-    let mut k = 0;
-    while k < out.len() {
+    for k in 0..out.len() {
         let a = next_byte(from, &mut buf, input);
-        let b = a.byte;
-        if b == 256 {
+        let Some(b) = a.byte else {
             return k;
-        }
-        out[k] = b as u8;
-        k += 1;
+        };
+        out[k] = b;
         input = a.input;
         if b == 0x0A {
             if left <= 1 {
-                return k;
+                return k + 1;
             }
             left -= 1;
             digits = 0;
         } else {
             if DIGITS <= digits {
-                return k;
+                return k + 1;
             }
             digits += 1;
         }
     }
-    k
+    out.len()
 }
 
-// A hexadecimal digit's value, 0 for any other byte.
-fn digit(b: u32) -> u32
+// A hexadecimal digit's value, 0 for any other byte and for none.
+fn digit(b: Option<u8>) -> u32
     ensures { result ≤ 15 }
 {
-    slices::digit(b) % 16
+    b.and_then(hex_value).map_or(0, u32::from)
 }
 
-// Whether a line ends at a byte.
-fn ends(b: u32) -> bool {
-    b == 0x0A || b == 256
+// What a line is made of: octets or numbers. Not `lines::Unit`, which is proved for every byte; here a contract can give bounds alone.
+trait Unit: Copy {
+    // How many digits one has.
+    const DIGITS: usize;
+
+    // The one whose digits are the last of x.
+    fn of(x: u32) -> Self;
+}
+
+impl Unit for u8 {
+    const DIGITS: usize = 2;
+
+    fn of(x: u32) -> u8 {
+        (x % 256) as u8
+    }
+}
+
+impl Unit for u32 {
+    const DIGITS: usize = 8;
+
+    fn of(x: u32) -> u32 {
+        x
+    }
+}
+
+// One unit whose first digit is given, and where the input stands after it.
+fn next_unit<R: Read, U: Unit>(from: &mut R, buf: &mut [u8], input: Input, high: u8) -> (U, Input) {
+    let mut i = input;
+    let mut x = digit(Some(high));
+    for _ in 1..U::DIGITS {
+        let a = next_byte(from, buf, i);
+        x = x % 268435456 * 16 + digit(a.byte);
+        i = a.input;
+    }
+    (U::of(x), i)
+}
+
+// The units of a line.
+fn units<R: Read, U: Unit>(from: &mut R, buf: &mut [u8], input: Input, out: &mut [U]) -> Line
+    ensures { result.count ≤ length out.old }
+{
+    let mut i = input;
+    for k in 0..out.len() {
+        let a = next_byte(from, buf, i);
+        let high = match a.byte {
+            None | Some(0x0A) => {
+                return Line {
+                    count: k,
+                    over: k == 0 && a.byte.is_none(),
+                    input: a.input,
+                };
+            }
+            Some(b) => b,
+        };
+        let (x, rest) = next_unit(from, buf, a.input, high);
+        out[k] = x;
+        i = rest;
+    }
+    Line {
+        count: out.len(),
+        over: false,
+        input: i,
+    }
 }
 
 // The octets of a line.
 pub fn octets<R: Read>(from: &mut R, buf: &mut [u8], input: Input, out: &mut [u8]) -> Line
     ensures { result.count ≤ length out.old }
 {
-    let mut i = input;
-    let mut k = 0;
-    while k < out.len() {
-        let a = next_byte(from, buf, i);
-        let high = a.byte;
-        let rest = a.input;
-        if ends(high) {
-            return Line {
-                count: k,
-                over: k == 0 && high == 256,
-                input: rest,
-            };
-        }
-        let b = next_byte(from, buf, rest);
-        out[k] = (digit(high) * 16 + digit(b.byte)) as u8;
-        i = b.input;
-        k += 1;
-    }
-    Line {
-        count: k,
-        over: false,
-        input: i,
-    }
-}
-
-// One number of eight digits whose first is given.
-fn number<R: Read>(from: &mut R, buf: &mut [u8], input: Input, high: u32) -> Next {
-    let mut i = input;
-    let mut x = digit(high);
-    let mut k: u32 = 1;
-    while k < 8 {
-        let a = next_byte(from, buf, i);
-        x = x % 268435456 * 16 + digit(a.byte);
-        i = a.input;
-        k += 1;
-    }
-    Next { byte: x, input: i }
+    units(from, buf, input, out)
 }
 
 // The numbers of a line.
 pub fn numbers<R: Read>(from: &mut R, buf: &mut [u8], input: Input, out: &mut [u32]) -> Line
     ensures { result.count ≤ length out.old }
 {
-    let mut i = input;
-    let mut k = 0;
-    while k < out.len() {
-        let a = next_byte(from, buf, i);
-        let high = a.byte;
-        let rest = a.input;
-        if ends(high) {
-            return Line {
-                count: k,
-                over: k == 0 && high == 256,
-                input: rest,
-            };
-        }
-        let b = number(from, buf, rest, high);
-        out[k] = b.byte;
-        i = b.input;
-        k += 1;
-    }
-    Line {
-        count: k,
-        over: false,
-        input: i,
-    }
+    units(from, buf, input, out)
 }
 
 fn wide(x: u32) -> usize

@@ -7,7 +7,7 @@ use lib.Dec.{T, leb, leb→le}
 use Rattle.json_text.specs.Bytes.{In, pick}
 use Rattle.text.specs.Class.{class_of}
 use Rattle.text.specs.Outline.{act_of}
-use Rattle.text.proofs.Tables.{both, all, below}
+use Rattle.text.proofs.Computed.{both, all, below}
 
 -- a class is a character from 0 to Z
 ranged : ℕ → Bool

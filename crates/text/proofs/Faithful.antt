@@ -1,24 +1,22 @@
 -- A whole text: the outline judges it as the machine leads.
+use Rattle.std.specs.Prelude.{Err}
+use Rattle.jer.specs.Answer.{Judged}
 use Prim.Native.Nat.{ℕ, suc, ◌+◌, ◌*◌}
 use Prim.Native.Char.{code}
 use mathlib.Core.Path.{◌≡◌, refl}
 use mathlib.Core.Bool.{false}
 use mathlib.Core.List.{List, [], ◌∷◌}
-use mathlib.Core.Option.{some}
+use Rattle.std.specs.Prelude.{Some}
 use native.Mathlib.Omega.{arith}
 use borrow.Author.Tests.{ne_eqb}
 use lib.Dec.{eqb}
 use Rattle.json_text.specs.Bytes.{pick}
 use Rattle.json_text.specs.Tree.{Json}
 use Rattle.json_text.specs.Machine.{Mid, Num, num_tree, Stack, base, ◌▹◌, in_arr, in_obj, State, s_num, Step, go, bad, Parsed, refused, finish, ended, run, parse_within, parse}
-use Rattle.jer.specs.declared.Judged.{Judged}
-use Rattle.jer.specs.declared.Judged.TheVariants.{Refused}
 use Rattle.jer.specs.declared.Refusal.TheVariants.{AtByte}
-use Rattle.jer.specs.declared.Cause.TheVariants.{NotJson, TooDeep}
 use Rattle.jer.specs.Calls.{tree_of, judged_by}
-use Rattle.text.specs.declared.outline.Turn.{Turn}
-use Rattle.text.specs.declared.outline.Turn.TheVariants.{On, Bad, Deep}
-use Rattle.text.specs.Outline.{act_of, begin, whole, judged_end, judged_from}
+use Rattle.std.specs.Prelude.{Ok, Err}
+use Rattle.text.specs.Outline.{Turn, act_of, begin, whole, judged_end, judged_from}
 use Rattle.text.proofs.Outlined.{
   MidIs,
   text,
@@ -125,7 +123,7 @@ lit_open null_l = refl
 lit_open last_l = refl
 
 -- a value has ended
-value-end : (j : Json) (k : Stack) (p : ℕ) → judged_by (tree_of (ended (some j) k p)) ≡ judged_end (eqb (brackets k) 1) p
+value-end : (j : Json) (k : Stack) (p : ℕ) → judged_by (tree_of (ended (Some j) k p)) ≡ judged_end (eqb (brackets k) 1) p
 unfolding judged_by tree_of ended judged_end
 value-end j (base d) p = refl
 value-end j (in_arr o is ▹ k) p = rw (ne_eqb (brackets k * 2 + 0) 1 (λ z. omega arith))
@@ -163,7 +161,7 @@ runs p (b ∷ bs) h w = next (λ st m l v. runs (suc p) bs l v) (agree p b h w)
   where
     next : {a : Step} {t : Turn} → ((st : State) (m : ℕ) → limit (stack_of st) ≡ 32 → Mode st m → judged_by (tree_of (run (suc p) st bs)) ≡ judged_from (suc p) (outline st m) bs) → Agree a t
         → judged_by (tree_of (elim a as (λ x. Parsed) [ go st ↦ run (suc p) st bs | bad f ↦ refused f p ]))
-        ≡ elim t as (λ x. Judged) [ On u ↦ judged_from (suc p) u bs | Bad ↦ Refused (AtByte NotJson p) | Deep ↦ Refused (AtByte TooDeep p) ]
+        ≡ elim t as (λ x. Judged) [ Ok u ↦ judged_from (suc p) u bs | Err e ↦ Err (AtByte e p) ]
     next ih (on {st} {m} v l) = ih st m l v
     next ih no = refl
     next ih deep = refl

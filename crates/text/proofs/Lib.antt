@@ -1,4 +1,4 @@
-pub mod Tables
+pub mod Computed
 pub mod ClassLaws
 pub mod Alike
 pub mod Outlined
@@ -7,4 +7,3 @@ pub mod Strings
 pub mod Steps
 pub mod Faithful
 pub mod Texts
-pub mod Turns

@@ -9,7 +9,8 @@ use borrow.Author.Tests.{eq-eqb, ne_eqb, le-leb, lt-leb, leb-true, leb-false}
 use lib.Dec.{leb, eqb}
 use lib.Pow.{pow_mono}
 use Rattle.json_text.specs.Machine.{Stack, base, ◌▹◌, in_arr, in_obj, room, opened, State, go}
-use Rattle.text.specs.declared.outline.Turn.TheVariants.{Bad}
+use Rattle.std.specs.Prelude.{Err}
+use Rattle.jer.specs.declared.Cause.TheVariants.{NotJson}
 use Rattle.text.specs.Outline.{goes, opening, opens, closing, closes, parted, comma}
 use Rattle.text.proofs.Outlined.{brackets, limit, Agree, deep}
 
@@ -57,11 +58,11 @@ opened-agree k st c bit h a = rw (← full k h) (go' (eqb (room k) 0) refl)
     go' false w = rw (w, opened) a
 
 -- ---- where none is open
-pub comma-none : comma 1 ≡ Bad
+pub comma-none : comma 1 ≡ Err NotJson
 unfolding comma parted
 comma-none = refl
 
-pub closes-none : (bit : ℕ) → closes bit 1 ≡ Bad
+pub closes-none : (bit : ℕ) → closes bit 1 ≡ Err NotJson
 unfolding closes closing
 closes-none bit = refl
 
@@ -76,7 +77,7 @@ module _ (n : ℕ) where
   unfolding closes closing
   closes-array = rw (ne_eqb (n * 2 + 0) 1 (λ z. omega arith), eq-eqb ((n * 2 + 0) % 2) 0 (omega arith)) (ap (goes (code "A") false) (let e : (n * 2 + 0) / 2 ≡ n = omega arith in e))
 
-  pub closes-array-no : closes 1 (n * 2 + 0) ≡ Bad
+  pub closes-array-no : closes 1 (n * 2 + 0) ≡ Err NotJson
   unfolding closes closing
   closes-array-no = rw (ne_eqb (n * 2 + 0) 1 (λ z. omega arith), ne_eqb ((n * 2 + 0) % 2) 1 (λ z. omega arith))
 
@@ -89,6 +90,6 @@ module _ (n : ℕ) where
     unfolding closes closing
     closes-object = rw (ne_eqb (n * 2 + 1) 1 (λ z. omega arith), eq-eqb ((n * 2 + 1) % 2) 1 (omega arith)) (ap (goes (code "A") false) (let e : (n * 2 + 1) / 2 ≡ n = omega arith in e))
 
-    pub closes-object-no : closes 0 (n * 2 + 1) ≡ Bad
+    pub closes-object-no : closes 0 (n * 2 + 1) ≡ Err NotJson
     unfolding closes closing
     closes-object-no = rw (ne_eqb (n * 2 + 1) 1 (λ z. omega arith), ne_eqb ((n * 2 + 1) % 2) 0 (λ z. omega arith))

@@ -6,9 +6,9 @@ use mathlib.Core.Bool.{Bool, true, false}
 use mathlib.Core.List.{List, [], ◌∷◌}
 use Rattle.json_text.specs.Tree.{Json, Members}
 use Rattle.json_text.specs.Machine.{Mid, m_text, m_wide, m_slash, m_unit, m_unit_d, m_hex, m_high, m_pair, m_pair_u, m_pair_d, m_pair_digit, m_low, Num, n_minus, n_zero, n_int, n_dot, n_frac, n_exp, n_sign, n_pow, in_arr, in_obj, Stack, base, ◌▹◌, Role, as_name, as_value, State, s_val, s_elem, s_after, s_name0, s_name, s_colon, s_str, s_num, s_lit, Step, go, bad, not_json, too_deep}
-use Rattle.text.specs.declared.outline.Outline.{Outline}
-use Rattle.text.specs.declared.outline.Turn.{Turn}
-use Rattle.text.specs.declared.outline.Turn.TheVariants.{On, Bad, Deep}
+use Rattle.text.specs.Outline.{Stand, Turn}
+use Rattle.std.specs.Prelude.{Ok, Err}
+use Rattle.jer.specs.declared.Cause.TheVariants.{NotJson, TooDeep}
 
 -- ---- the mode of a state
 
@@ -81,7 +81,7 @@ abbrev pub limit : Stack → ℕ
 limit (base d) = d
 limit (f ▹ k) = limit k
 
-abbrev pub seen : ℕ → Bool → ℕ → Outline
+abbrev pub seen : ℕ → Bool → ℕ → Stand
 seen m n b = record { mode = m; name = n; brackets = b }
 
 -- a string that is a name stands in its object's bracket
@@ -93,7 +93,7 @@ abbrev pub inside : Role → Stack → ℕ
 inside (as_name o ms) k = brackets k * 2 + 1
 inside as_value k = brackets k
 
-abbrev pub outline : State → ℕ → Outline
+abbrev pub outline : State → ℕ → Stand
 outline (s_val k) m = seen m false (brackets k)
 outline (s_elem o k) m = seen m false (brackets k * 2 + 0)
 outline (s_after j k) m = seen m false (brackets k)
@@ -117,9 +117,9 @@ stack_of (s_lit c cs j k) = k
 
 -- ---- both go on, to a state and its outline, or both refuse
 pub data Agree : Step → Turn → Type 0 where
-  on : {st : State} {m : ℕ} → Mode st m → limit (stack_of st) ≡ 32 → Agree (go st) (On (outline st m))
-  no : Agree (bad not_json) Bad
-  deep : Agree (bad too_deep) Deep
+  on : {st : State} {m : ℕ} → Mode st m → limit (stack_of st) ≡ 32 → Agree (go st) (Ok (outline st m))
+  no : Agree (bad not_json) (Err NotJson)
+  deep : Agree (bad too_deep) (Err TooDeep)
 
 -- along an equation
 pub move : {a : Step} {t u : Turn} → t ≡ u → Agree a u → Agree a t

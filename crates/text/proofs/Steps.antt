@@ -4,7 +4,7 @@ use Prim.Native.Char.{code}
 use mathlib.Core.Path.{◌≡◌}
 use mathlib.Core.Bool.{Bool, false}
 use mathlib.Core.List.{List, [], ◌∷◌}
-use mathlib.Core.Option.{Option, none}
+use Rattle.std.specs.Prelude.{Option, None}
 use native.Mathlib.Omega.{arith}
 use Rattle.json_text.specs.Bytes.{Row, pick, In}
 use Rattle.json_text.specs.Bytes as bytes
@@ -70,7 +70,7 @@ module _ (n : Num) (m q b : ℕ) (k : Stack) where
   abbrev pub Counts : Option Num → ℕ → Type 0
   Counts o a = Agree (num_go o n q k b) (leads a (seen m false (brackets k)))
 
-  counts : {rs : List (Row (Option Num))} {ss : List (Row ℕ)} → Alike Counts b none (code "_") rs ss → Counts (pick b rs none) (pick b ss (code "_"))
+  counts : {rs : List (Row (Option Num))} {ss : List (Row ℕ)} → Alike Counts b None (code "_") rs ss → Counts (pick b rs None) (pick b ss (code "_"))
   counts a = pick-alike a
 
 pub digit : {n : Num} {m : ℕ} (q b : ℕ) (k : Stack) → limit k ≡ 32 → NumIs n m → Counts n m q b k (num_step n b) (act_of m b)

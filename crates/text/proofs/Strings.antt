@@ -6,7 +6,7 @@ use mathlib.Core.List.{List}
 use Rattle.json_text.specs.Bytes.{Row, pick}
 use Rattle.json_text.specs.Utf8.{wide_rows}
 use Rattle.json_text.specs.Machine.{Mid, Act, close, never, wide_next, hex_rows, hex_next, high_next, low_next, char_step, Stack, Role, as_name, as_value, go, s_str, closed, str_step}
-use Rattle.text.specs.declared.outline.Turn.TheVariants.{On}
+use Rattle.std.specs.Prelude.{Ok}
 use Rattle.text.specs.Outline.{lookup, act_of, quoted, leads}
 use Rattle.text.proofs.Alike.{Alike, end, row, pick-alike}
 use Rattle.text.proofs.Outlined.{
@@ -58,7 +58,7 @@ module _ (r : Role) (q : ℕ) (s : List ℕ) (k : Stack) (h : limit k ≡ 32) wh
       by_role (as_name o ms) = on is_colon h
       by_role as_value = on is_after h
 
-  to : {i : Mid} {n : ℕ} {t : List ℕ} → MidIs i n → Agree (go (s_str i r q t k)) (On (seen n (named r) (inside r k)))
+  to : {i : Mid} {n : ℕ} {t : List ℕ} → MidIs i n → Agree (go (s_str i r q t k)) (Ok (seen n (named r) (inside r k)))
   to w = on (is_str w) h
 
   by : (m b : ℕ) {rs : List (Row Act)} {ss : List (Row ℕ)} → Alike (Follows m) b never (code "_") rs ss → Follows m (pick b rs never) (pick b ss (code "_"))

@@ -1,4 +1,5 @@
 -- Judging a text from a place on, in the form that the loop of `check` has.
+use Rattle.std.specs.Prelude.{Err}
 use Prim.Native.Nat.{ℕ, suc, ◌+◌, ◌≤◌, ◌<◌}
 use mathlib.Core.Path.{◌≡◌, ◌∙◌, sym, ap}
 use mathlib.Core.Bool.{Bool}
@@ -8,16 +9,15 @@ use native.Mathlib.Omega.{arith}
 use borrow.Author.Tests.{le-leb, lt-leb}
 use lib.ListN.{length, drop, get_or, drop_of_length-le}
 use lib.Seq.{drop-cons}
-use Rattle.jer.specs.declared.Judged.TheVariants.{Refused}
 use Rattle.jer.specs.declared.Refusal.TheVariants.{AtByte}
-use Rattle.jer.specs.declared.Cause.TheVariants.{TooLong, NotJson, TooDeep}
+use Rattle.jer.specs.declared.Cause.TheVariants.{TooLong}
+use Rattle.jer.specs.declared.Cause.{Cause}
 use Rattle.jer.specs.Calls.{good_text, judged_by, text_judged}
-use Rattle.text.specs.declared.outline.Outline.{Outline}
-use Rattle.text.specs.declared.outline.Turn.TheVariants.{On, Bad, Deep}
-use Rattle.text.specs.Outline.{step_of, IsMode, begin, whole, judged_end, judged_from}
+use Rattle.std.specs.Prelude.{Ok, Err}
+use Rattle.text.specs.Outline.{Stand, step_of, begin, whole, judged_end, judged_from}
 use Rattle.text.proofs.Faithful.{judges}
 
-pub too_long : (s : List ℕ) → 65536 < length s → Refused (AtByte TooLong 65536) ≡ text_judged s
+pub too_long : (s : List ℕ) → 65536 < length s → Err (AtByte TooLong 65536) ≡ text_judged s
 unfolding text_judged good_text judged_by
 too_long s h = rw (lt-leb (length s) 65536 h, good_text)
 
@@ -26,28 +26,19 @@ unfolding text_judged good_text
 begun s h = sym (judges s) ∙ rw (le-leb (length s) 65536 h, good_text)
 
 -- where the judgement of the text is that from the state o at a place of it
-module _ (s : List ℕ) (at : ℕ) (o : Outline) (e : judged_from at o (drop at s) ≡ text_judged s) where
+module _ (s : List ℕ) (at : ℕ) (o : Stand) (e : judged_from at o (drop at s) ≡ text_judged s) where
   module _ (h : at < length s) where
     at_byte : judged_from at o (get_or s at 0 ∷ drop (suc at) s) ≡ text_judged s
     at_byte = ap (judged_from at o) (sym (drop-cons s at 0 h)) ∙ e
 
-    pub goes_on : (u : Outline) → On u ≡ step_of o (get_or s at 0) → judged_from (at + 1) u (drop (at + 1) s) ≡ text_judged s
+    pub goes_on : (u : Stand) → Ok u ≡ step_of o (get_or s at 0) → judged_from (at + 1) u (drop (at + 1) s) ≡ text_judged s
     unfolding judged_from
     goes_on u w = rw (add-one at) (rw (← w, judged_from) at at_byte)
 
-    pub not-json : Bad ≡ step_of o (get_or s at 0) → Refused (AtByte NotJson at) ≡ text_judged s
+    pub refuses : {e : Cause} → Err e ≡ step_of o (get_or s at 0) → Err (AtByte e at) ≡ text_judged s
     unfolding judged_from
-    not-json w = rw (← w, judged_from) at at_byte
+    refuses w = rw (← w, judged_from) at at_byte
 
-    pub too_deep_lem : Deep ≡ step_of o (get_or s at 0) → Refused (AtByte TooDeep at) ≡ text_judged s
-    unfolding judged_from
-    too_deep_lem w = rw (← w, judged_from) at at_byte
-
-  module _ (h : length s ≤ at) where
-    pub ends : (t : Bool) → t ≡ whole o → judged_end t at ≡ text_judged s
-    unfolding judged_from
-    ends t w = rw w (ap (judged_from at o) (sym (drop_of_length-le s h)) ∙ e)
-
--- the loop's invariant: at its start, and one byte on
-pub started : (s : List ℕ) (o : Outline) → o ≡ begin → length s ≤ 65536 → (0 ≤ length s) × IsMode o.mode × (judged_from 0 o s ≡ text_judged s)
-started s o e h = rw e (omega arith, omega arith, begun s h)
+  pub ends : at ≤ length s → length s ≤ at → (t : Bool) → t ≡ whole o → judged_end t (length s) ≡ text_judged s
+  unfolding judged_from
+  ends l h t w = let z : length s ≡ at = omega arith in rw (w, z) (ap (judged_from at o) (sym (drop_of_length-le s h)) ∙ e)

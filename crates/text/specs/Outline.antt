@@ -1,15 +1,14 @@
 -- The machine of crate json_text with its trees left out: a mode, whether a string is a name, and which brackets are open.
 -- `proofs/` shows that it goes on and refuses at each byte as the machine does; the code is this outline.
+use Rattle.std.specs.Prelude.{Err, Ok}
+use Rattle.jer.specs.Answer.{Judged}
 use Rattle.std.specs.Prelude.{ℕ, suc, ◌+◌, ◌-◌, ◌*◌, ◌/◌, ◌%◌, ◌^◌, ◌<◌, ◌≡◌, List, [], ◌∷◌, Bool, true, false, ◌&&◌, leb, eqb, get_or}
 use Prim.Native.Char.{Char, code}
 use Rattle.json_text.specs.Bytes.{Row, pick, In}
+use Rattle.std.specs.Prelude.{Result, Ok, Err}
+use Rattle.jer.specs.declared.Cause.{Cause}
 use Rattle.jer.specs.declared.Cause.TheVariants.{NotJson, TooDeep}
 use Rattle.jer.specs.declared.Refusal.TheVariants.{AtByte}
-use Rattle.jer.specs.declared.Judged.{Judged}
-use Rattle.jer.specs.declared.Judged.TheVariants as judged
-use Rattle.text.specs.declared.outline.Outline.{Outline}
-use Rattle.text.specs.declared.outline.Turn.{Turn}
-use Rattle.text.specs.declared.outline.Turn.TheVariants.{On, Bad, Deep}
 use Rattle.text.specs.Class.{to, at, class_of}
 
 -- what a table holds for a character
@@ -124,14 +123,23 @@ IsActs l = (m b : ℕ) → IsMode m → b < 256 → get_or (get_or l (m - 48) []
 
 -- ---- a step
 
--- to the mode m; n: a string is a name; k: the open brackets, a number that is 1 if there are none,
--- and for each of them twice the number before, and one more if it is an object's
+-- where the check of a text stands: a mode; is the string that is being read a name? and the open brackets, a number that is 1 if there are
+-- none, and for each of them twice the number before, and one more if it is an object's
+pub record Stand : Type 0 where
+  pub mode : ℕ
+  pub name : Bool
+  pub brackets : ℕ
+
+-- what a byte leads to: no JSON text has it there, or it is a 33rd open bracket
+abbrev pub Turn : Type 0
+Turn = Result Stand Cause
+
 abbrev pub goes : ℕ → Bool → ℕ → Turn
-goes m n k = On (record { mode = m; name = n; brackets = k })
+goes m n k = Ok (record { mode = m; name = n; brackets = k })
 
 -- 01, Refusal numbers, 4: "a 33rd open bracket": are 32 open?
 unfoldable pub opening : Bool → ℕ → ℕ → Turn
-opening true m k = Deep
+opening true m k = Err TooDeep
 opening false m k = goes m false k
 
 unfoldable pub opens : ℕ → ℕ → ℕ → Turn
@@ -139,16 +147,16 @@ opens m kind k = opening (leb (2 ^ 32) k) m (k * 2 + kind)
 
 -- is none open? is the last one of this kind?
 unfoldable pub closing : Bool → Bool → ℕ → Turn
-closing true t k = Bad
+closing true t k = Err NotJson
 closing false true k = goes (code "A") false k
-closing false false k = Bad
+closing false false k = Err NotJson
 
 unfoldable pub closes : ℕ → ℕ → Turn
 closes kind k = closing (eqb k 1) (eqb (k % 2) kind) (k / 2)
 
 -- after a comma a value of an array is due, or a name of an object: is none open? is the last one an array's?
 unfoldable pub parted : Bool → Bool → ℕ → Turn
-parted true t k = Bad
+parted true t k = Err NotJson
 parted false true k = goes (code "V") false k
 parted false false k = goes (code "N") false k
 
@@ -172,43 +180,36 @@ does a n k =
     ∷ entry "n" (goes (code "T") true k)
     ∷ entry "e" (quoted n k)
     ∷ [])
-    Bad
+    (Err NotJson)
 
--- where a mode or an act leads from the outline s
-unfoldable pub leads : ℕ → Outline → Turn
+-- where a mode or an act leads from s
+unfoldable pub leads : ℕ → Stand → Turn
 unfolding does
 leads a s = elim (leb a (code "Z")) [ true ↦ goes a s.name s.brackets | false ↦ does a s.name s.brackets ]
 
-unfoldable pub step_of : Outline → ℕ → Turn
+unfoldable pub step_of : Stand → ℕ → Turn
 step_of s b = leads (act_of s.mode b) s
-
--- what goes on has a mode
-abbrev pub Stays : Turn → Type 0
-Stays (On s) = IsMode s.mode
-Stays Bad = Unit {0}
-Stays Deep = Unit {0}
 
 -- ---- a text
 
 -- a value is due, and nothing is open
-abbrev pub begin : Outline
+abbrev pub begin : Stand
 begin = record { mode = code "V"; name = false; brackets = 1 }
 
 -- A text may end where a blank would follow its value, and nothing is open.
-unfoldable pub whole : Outline → Bool
+unfoldable pub whole : Stand → Bool
 whole s = eqb (act_of s.mode 0x20) (code "A") && eqb s.brackets 1
 
 -- 01, Refusal numbers, 3: "the length if it ends early"
 unfoldable pub judged_end : Bool → ℕ → Judged
-judged_end true p = judged.Good
-judged_end false p = judged.Refused (AtByte NotJson p)
+judged_end true p = Ok tt
+judged_end false p = Err (AtByte NotJson p)
 
 -- the bytes from the place p on
-unfoldable pub judged_from : ℕ → Outline → List ℕ → Judged
+unfoldable pub judged_from : ℕ → Stand → List ℕ → Judged
 judged_from p s [] = judged_end (whole s) p
 judged_from p s (b ∷ bs) =
     elim (step_of s b) [
-      | On u ↦ judged_from (suc p) u bs
-      | Bad ↦ judged.Refused (AtByte NotJson p)
-      | Deep ↦ judged.Refused (AtByte TooDeep p)
+      | Ok u ↦ judged_from (suc p) u bs
+      | Err e ↦ Err (AtByte e p)
     ]

@@ -1,7 +1,5 @@
 // What each byte may begin or continue, by mode.
-ghost use Rattle.std.specs.Prelude.{◌≡◌, ◌≤◌};
-ghost use Rattle.text.specs.Class.{IsClasses};
-ghost use Rattle.text.specs.Outline.{act_of, IsMode, IsActs};
+ghost use Rattle.text.specs.Outline.{IsActs};
 
 // What each byte leads to: a row for each mode, from 0 to Z, and a column for each class, from 0 to Z.
 // An entry is the next mode or an act: [ and { open, ] and } close, c is a comma, n begins a name, e ends a string, _ is no JSON.
@@ -59,15 +57,4 @@ pub fn table() -> [[u8; 43]; 43]
     ensures { IsActs result }
 {
     ACTS
-}
-
-// The mode or act that the byte leads to.
-pub fn act(classes: &[u8; 256], acts: &[[u8; 43]; 43], mode: u8, b: u8) -> u8
-    requires { IsMode mode × IsClasses classes.now × IsActs acts.now }
-    ensures value { result ≡ act_of mode b }
-    ensures lower_bound { 48 ≤ result }
-{
-    let row = (mode - b'0') as usize;
-    let column = (classes[b as usize] - b'0') as usize;
-    acts[row][column]
 }

@@ -3,51 +3,43 @@
 #![tactic(auto)]
 
 ghost use Rattle.std.specs.Prelude.{◌≡◌};
-ghost use Rattle.jer.specs.declared.Judged.TheVariants.{Refused};
 ghost use Rattle.jer.specs.declared.Refusal.TheVariants.{AtByte};
 ghost use Rattle.jer.specs.CallClauses.{TextCall};
 
 mod acts;
 pub mod classes;
 mod outline;
+mod tables;
 
-use jer::{Cause, Judged, Refusal};
-use outline::{Outline, Turn};
+use jer::{Cause, Refusal};
+use outline::Outline;
+use tables::Tables;
 
 // A refusal at a byte.
-fn refused(cause: Cause, at: usize) -> Judged
-    ensures { result ≡ Refused (AtByte cause at) }
+fn refused(cause: Cause, at: usize) -> Result<(), Refusal>
+    ensures { result ≡ Err (AtByte cause at) }
 {
-    Judged::Refused(Refusal::AtByte(cause, at))
+    Err(Refusal::AtByte(cause, at))
 }
 
 // JSON, or refusal 2, 3 or 4 at its byte.
-pub fn check(s: &[u8]) -> Judged
+#[tactic(auto, using(crate::proofs::Texts::too_long, crate::proofs::Texts::begun, crate::proofs::Texts::goes_on, crate::proofs::Texts::refuses))]
+pub fn check(s: &[u8]) -> Result<(), Refusal>
     ensures { TextCall s.now result }
 {
     if json_text::TEXT < s.len() {
         return refused(Cause::TooLong, json_text::TEXT);
     }
-    let classes = classes::table();
-    let acts = acts::table();
+    let tables = Tables::new();
     let mut state = Outline::begin();
-    let mut at: usize = 0;
-    while at < s.len() {
-        match state.step(&classes, &acts, s[at]) {
-            Turn::On(next) => {
-                state = next;
-                at += 1;
-            }
-            Turn::Bad => {
-                return refused(Cause::NotJson, at);
-            }
-            Turn::Deep => {
-                return refused(Cause::TooDeep, at);
-            }
+    for (at, b) in s.iter().enumerate() {
+        match state.step(&tables, *b) {
+            Ok(next) => state = next,
+            Err(cause) => return refused(cause, at),
         }
     }
-    if state.whole(&classes, &acts) {
-        return Judged::Good;
+    if state.whole(&tables) {
+        return Ok(());
     }
-    refused(Cause::NotJson, at)
+    refused(Cause::NotJson, s.len())
 }

@@ -1,32 +1,35 @@
 // The machine of crate json_text with its trees left out, one byte a step.
 ghost use Rattle.std.specs.Prelude.{◌≡◌, ◌≤◌};
-ghost use Rattle.text.specs.Class.{IsClasses};
-ghost use Rattle.text.specs.Outline.{goes, opens, closes, comma, quoted, does, step_of, begin, whole, IsMode, IsActs, Stays};
+ghost use Rattle.text.specs.Outline.{goes, opens, closes, comma, quoted, does, step_of, begin, whole, IsMode};
 
-use crate::acts::act;
+use crate::tables::Tables;
+use jer::Cause;
+use std::marker::Model;
 
 // Where the check of a text stands.
 #[derive(Clone, Copy)]
 pub struct Outline {
     // A row of the table in `acts.rt`.
-    pub mode: u8,
+    mode: u8,
     // Is the string that is being read a name?
-    pub name: bool,
+    name: bool,
     // The open brackets: NONE, and for each of them twice the number before and its kind.
-    pub brackets: u64,
+    brackets: u64,
 }
 
-// What a byte leads to.
-#[derive(Clone, Copy)]
-pub enum Turn {
-    On(Outline),
-    // No JSON text has it there.
-    Bad,
-    // A 33rd open bracket.
-    Deep,
+impl Model for Outline {
+    ghost use Rattle.text.specs.Outline.{Stand, IsMode};
+
+    ghost Value = { Stand };
+
+    ghost view = { λ o. record { mode = o.mode; name = o.name; brackets = o.brackets } };
+
+    ghost invariant = { λ o. IsMode o.mode };
+
+    ghost inverse = { λ s. record { mode = s.mode; name = s.name; brackets = s.brackets } };
 }
 
-// The modes that an act leads to.
+// The modes that an act leads to: numbers, since a mode is a row of the constant table that document 01's form asks for.
 const VALUE: u8 = b'V';
 
 const ELEMENT: u8 = b'E';
@@ -47,49 +50,53 @@ const NONE: u64 = 1;
 // From this number on 32 brackets are open.
 const FULL: u64 = 1 << json_text::BRACKETS;
 
-// The kinds of brackets.
+// The kinds of brackets: numbers, since the open ones are the digits of one number.
 const ARRAY: u64 = 0;
 
 const OBJECT: u64 = 1;
 
-fn goes(mode: u8, name: bool, brackets: u64) -> Turn
+// A byte leads to where the check stands then, or to why no text that may be read has it there.
+fn goes(mode: u8, name: bool, brackets: u64) -> Result<Outline, Cause>
+    requires { IsMode mode }
     ensures { result ≡ goes mode name brackets }
 {
-    Turn::On(Outline {
-        mode: mode,
-        name: name,
-        brackets: brackets,
+    Ok(Outline {
+        mode,
+        name,
+        brackets,
     })
 }
 
-fn opens(mode: u8, kind: u64, brackets: u64) -> Turn
-    requires { kind ≤ 1 }
+#[tactic(auto, unfolding(crate::specs::Outline::opens, crate::specs::Outline::opening))]
+fn opens(mode: u8, kind: u64, brackets: u64) -> Result<Outline, Cause>
+    requires { IsMode mode × (kind ≤ 1) }
     ensures { result ≡ opens mode kind brackets }
 {
     if FULL <= brackets {
-        return Turn::Deep;
+        return Err(Cause::TooDeep);
     }
     goes(mode, false, brackets * 2 + kind)
 }
 
 #[tactic(auto, unfolding(crate::specs::Outline::closes, crate::specs::Outline::closing))]
-fn closes(kind: u64, brackets: u64) -> Turn
+fn closes(kind: u64, brackets: u64) -> Result<Outline, Cause>
     ensures { result ≡ closes kind brackets }
 {
     if brackets == NONE {
-        return Turn::Bad;
+        return Err(Cause::NotJson);
     }
     if brackets % 2 != kind {
-        return Turn::Bad;
+        return Err(Cause::NotJson);
     }
     goes(AFTER, false, brackets / 2)
 }
 
-fn comma(brackets: u64) -> Turn
+#[tactic(auto, unfolding(crate::specs::Outline::comma, crate::specs::Outline::parted))]
+fn comma(brackets: u64) -> Result<Outline, Cause>
     ensures { result ≡ comma brackets }
 {
     if brackets == NONE {
-        return Turn::Bad;
+        return Err(Cause::NotJson);
     }
     if brackets % 2 == ARRAY {
         return goes(VALUE, false, brackets);
@@ -98,7 +105,8 @@ fn comma(brackets: u64) -> Turn
 }
 
 // The end of a string.
-fn quoted(name: bool, brackets: u64) -> Turn
+#[tactic(auto, unfolding(crate::specs::Outline::quoted))]
+fn quoted(name: bool, brackets: u64) -> Result<Outline, Cause>
     ensures { result ≡ quoted name brackets }
 {
     if name {
@@ -108,7 +116,8 @@ fn quoted(name: bool, brackets: u64) -> Turn
 }
 
 // What an act of the table does.
-fn does(act: u8, name: bool, brackets: u64) -> Turn
+#[tactic(auto, unfolding(crate::specs::Outline::does, crate::specs::Outline::lookup))]
+fn does(act: u8, name: bool, brackets: u64) -> Result<Outline, Cause>
     ensures { result ≡ does act name brackets }
 {
     match act {
@@ -119,7 +128,7 @@ fn does(act: u8, name: bool, brackets: u64) -> Turn
         b'c' => comma(brackets),
         b'n' => goes(STRING, true, brackets),
         b'e' => quoted(name, brackets),
-        _ => Turn::Bad,
+        _ => Err(Cause::NotJson),
     }
 }
 
@@ -136,12 +145,11 @@ impl Outline {
     }
 
     // One byte on.
-    pub fn step(self, classes: &[u8; 256], acts: &[[u8; 43]; 43], b: u8) -> Turn
-        requires { IsMode self.mode × IsClasses classes.now × IsActs acts.now }
-        ensures value { result ≡ step_of self b }
-        ensures stays { Stays result }
+    #[tactic(auto, unfolding(crate::specs::Outline::step_of, crate::specs::Outline::leads))]
+    pub fn step(self, tables: &Tables, b: u8) -> Result<Outline, Cause>
+        ensures { result ≡ step_of self b }
     {
-        let a = act(classes, acts, self.mode, b);
+        let a = tables.act(self.mode, b);
         if a <= b'Z' {
             return goes(a, self.name, self.brackets);
         }
@@ -149,13 +157,10 @@ impl Outline {
     }
 
     // May the text end here? It may where a blank would follow its value.
-    pub fn whole(self, classes: &[u8; 256], acts: &[[u8; 43]; 43]) -> bool
-        requires { IsMode self.mode × IsClasses classes.now × IsActs acts.now }
+    #[tactic(auto, unfolding(crate::specs::Outline::whole))]
+    pub fn whole(self, tables: &Tables) -> bool
         ensures { result ≡ whole self }
     {
-        if act(classes, acts, self.mode, b' ') != AFTER {
-            return false;
-        }
-        self.brackets == NONE
+        (tables.act(self.mode, b' ') == AFTER) & (self.brackets == NONE)
     }
 }

@@ -2,18 +2,15 @@
 use mathlib.Core.Path.{◌≡◌, refl, sym, ap, ◌∙◌}
 use mathlib.Core.List.{List}
 use mathlib.Core.Bool.{Bool, true, false, ◌||◌}
-use mathlib.Core.Option.{none}
-use Prim.Native.Nat.{ℕ, zero, suc, ◌+◌, ◌-◌, ◌*◌, ◌^◌, ◌/◌, ◌%◌, ◌<◌, ◌≤◌}
+use Rattle.std.specs.Prelude.{Option, None, Some}
+use Prim.Native.Nat.{ℕ, zero, suc, ◌+◌, ◌-◌, ◌*◌, ◌^◌, ◌%◌, ◌<◌, ◌≤◌}
 use native.Mathlib.Nat.{le_refl}
 use native.Mathlib.Omega.{arith}
 use borrow.Author.Tests.{eq-eqb, ne_eqb, lt-ltb, le-ltb, le-leb, lt-leb, leb-true, leb-false}
 use lib.Dec.{eqb, leb}
-use Rattle.tokens.specs.declared.numbers.Magnitude.{Magnitude}
-use Rattle.tokens.specs.declared.numbers.Magnitude.TheVariants.{Fits, Over}
-use Rattle.tokens.specs.declared.numbers.Integer.TheVariants.{Whole, BadNumber}
 use Rattle.tokens.specs.Places.{byte_at, run_from}
 use Rattle.tokens.specs.Numbers.{is_digit, digits_at, magnitude_at, broken_at, complement, whole_at, integer_at}
-use Rattle.tokens.specs.Enums.{within, integer_of}
+use Rattle.tokens.specs.Enums.{within}
 
 -- ---- digits
 
@@ -34,60 +31,54 @@ module _ (s : List ℕ) (p end m : ℕ) where
     digits-one = let g : end - p ≡ suc (end - (p + 1)) = omega arith in rw (g, e, f)
 
     -- with the next digit the number is above 2^63, and stays so
-    pub digits-over : (x : ℕ) → 2 ^ 63 < m * 10 + d → digits_at s p (end - p) m ≡ x → Over ≡ within x
+    pub digits-over : (x : ℕ) → 2 ^ 63 < m * 10 + d → digits_at s p (end - p) m ≡ x → None ≡ within x
     digits-over x l g =
         let k : m * 10 + d ≤ x = omega (arith, digits-grow s (end - (p + 1)) (p + 1) (m * 10 + d), digits-one, g) in
         rw (lt-leb x (2 ^ 63) (omega arith), within)
 
-pub digits-fit : (m x : ℕ) → m ≤ 2 ^ 63 → m ≡ x → Fits m ≡ within x
-digits-fit m x h e = rw (le-leb x (2 ^ 63) (omega arith), within) (ap Fits e)
+pub digits-fit : (m x : ℕ) → m ≤ 2 ^ 63 → m ≡ x → Some m ≡ within x
+digits-fit m x h e = rw (le-leb x (2 ^ 63) (omega arith), within) (ap Some e)
 
-within-over : (x : ℕ) → Over ≡ within x → 2 ^ 63 < x
+within-over : (x : ℕ) → None ≡ within x → 2 ^ 63 < x
 within-over x h = go (leb x (2 ^ 63)) refl h
   where
-    go : (t : Bool) → leb x (2 ^ 63) ≡ t → Over ≡ elim t as (λ z. Magnitude) [ true ↦ Fits x | false ↦ Over ] → 2 ^ 63 < x
+    go : (t : Bool) → leb x (2 ^ 63) ≡ t → None ≡ elim t as (λ z. Option ℕ) [ true ↦ Some x | false ↦ None ] → 2 ^ 63 < x
     go true e w = absurd (let z : ◌≡◌ {A = ℕ} 0 1 = cc in omega arith)
     go false e w = leb-false x (2 ^ 63) e
 
-pub within-fits : (m x : ℕ) → Fits m ≡ within x → (m ≡ x) × (m ≤ 2 ^ 63)
+pub within-fits : (m x : ℕ) → Some m ≡ within x → (m ≡ x) × (m ≤ 2 ^ 63)
 within-fits m x h = go (leb x (2 ^ 63)) refl h
   where
-    go : (t : Bool) → leb x (2 ^ 63) ≡ t → Fits m ≡ elim t as (λ z. Magnitude) [ true ↦ Fits x | false ↦ Over ] → (m ≡ x) × (m ≤ 2 ^ 63)
+    go : (t : Bool) → leb x (2 ^ 63) ≡ t → Some m ≡ elim t as (λ z. Option ℕ) [ true ↦ Some x | false ↦ None ] → (m ≡ x) × (m ≤ 2 ^ 63)
     go true e w = let k : m ≡ x = cc in (k, omega (arith, leb-true x (2 ^ 63) e))
     go false e w = absurd (let z : ◌≡◌ {A = ℕ} 0 1 = cc in omega arith)
 
--- ---- halves
+-- ---- the two's complement
 
 module _ (minus : Bool) (m : ℕ) where
-  pub halves_zero : minus ≡ true → m ≡ 0 → Whole 0 0 ≡ integer_of (complement minus m)
+  pub complement_minus : (n : ℕ) → minus ≡ true → m ≤ 2 ^ 63 → n < 2 ^ 64 → (n + m) % 2 ^ 64 ≡ 0 → Some n ≡ complement minus m
   unfolding complement
-  halves_zero e h = rw (e, h)
-
-  pub halves_minus : minus ≡ true → (m ≡ 0 → ⊥) → m ≤ 2 ^ 63
-      → Whole ((18446744073709551615 - m + 1) % 4294967296) ((18446744073709551615 - m + 1) / 4294967296) ≡ integer_of (complement minus m)
-  unfolding complement
-  halves_minus e h l = rw e (go m h l)
+  complement_minus n e h l k = rw e (go m h k)
     where
-      go : (m : ℕ) → (m ≡ 0 → ⊥) → m ≤ 2 ^ 63
-          → Whole ((18446744073709551615 - m + 1) % 4294967296) ((18446744073709551615 - m + 1) / 4294967296) ≡ integer_of (complement true m)
-      go zero h l = absurd (h refl)
-      go (suc n) h l =
-          let k : 18446744073709551615 - suc n + 1 ≡ 2 ^ 64 - suc n = omega arith in
-          rw (le-leb (suc n) (2 ^ 63) l, complement, k)
+      go : (m : ℕ) → m ≤ 2 ^ 63 → (n + m) % 2 ^ 64 ≡ 0 → Some n ≡ complement true m
+      go zero h k = ap Some (omega arith)
+      go (suc i) h k =
+          let j : n ≡ 2 ^ 64 - suc i = omega arith in
+          rw (le-leb (suc i) (2 ^ 63) h, complement, j)
 
-  pub halves_over : minus ≡ false → m ≡ 9223372036854775808 → BadNumber ≡ integer_of (complement minus m)
+  pub complement_most : minus ≡ false → m ≡ 9223372036854775808 → None ≡ complement minus m
   unfolding complement
-  halves_over e h = rw (e, le-ltb m (2 ^ 63) (omega arith), complement)
+  complement_most e h = rw (e, le-ltb m (2 ^ 63) (omega arith), complement)
 
-  pub halves_plus : minus ≡ false → m ≤ 2 ^ 63 → (m ≡ 9223372036854775808 → ⊥) → Whole (m % 4294967296) (m / 4294967296) ≡ integer_of (complement minus m)
+  pub complement_plus : minus ≡ false → m ≤ 2 ^ 63 → (m ≡ 9223372036854775808 → ⊥) → Some m ≡ complement minus m
   unfolding complement
-  halves_plus e l h = rw (e, lt-ltb m (2 ^ 63) (omega arith), complement)
+  complement_plus e l h = rw (e, lt-ltb m (2 ^ 63) (omega arith), complement)
 
-  complement-over : 2 ^ 63 < m → complement minus m ≡ none
+  complement-over : 2 ^ 63 < m → complement minus m ≡ None
   unfolding complement
   complement-over h = go minus m h
     where
-      go : (t : Bool) (n : ℕ) → 2 ^ 63 < n → complement t n ≡ none
+      go : (t : Bool) (n : ℕ) → 2 ^ 63 < n → complement t n ≡ None
       go false n l = rw (le-ltb n (2 ^ 63) (omega arith), complement)
       go true zero l = absurd (omega arith)
       go true (suc n) l = rw (lt-leb (suc n) (2 ^ 63) l, complement)
@@ -99,32 +90,20 @@ module _ (s : List ℕ) (p end b : ℕ) (minus : Bool) (f : end ≡ run_from is_
   unfolding broken_at
   broken-is = rw (e, f)
 
-  bad : (eqb b 0x2E || (eqb b 0x45 || eqb b 0x65)) ≡ true → BadNumber ≡ integer_of (whole_at s p minus)
+  pub whole_broken : (eqb b 0x2E || (eqb b 0x45 || eqb b 0x65)) ≡ true → None ≡ whole_at s p minus
   unfolding whole_at
-  bad h = rw (broken-is ∙ h, whole_at)
+  whole_broken h = rw (broken-is ∙ h, whole_at)
 
-  pub whole_point : b ≡ 0x2E → BadNumber ≡ integer_of (whole_at s p minus)
-  whole_point h = bad (rw (eq-eqb b 0x2E h))
-
-  pub whole-large : b ≡ 0x45 → BadNumber ≡ integer_of (whole_at s p minus)
-  whole-large h = bad (rw h)
-
-  pub whole-small : b ≡ 0x65 → BadNumber ≡ integer_of (whole_at s p minus)
-  whole-small h = bad (rw h)
-
-  module _ (h₁ : b ≡ 0x2E → ⊥) (h₂ : b ≡ 0x45 → ⊥) (h₃ : b ≡ 0x65 → ⊥) where
-    unbroken : broken_at s p ≡ false
-    unbroken = rw (broken-is, ne_eqb b 0x2E h₁, ne_eqb b 0x45 h₂, ne_eqb b 0x65 h₃)
-
+  module _ (h : (eqb b 0x2E || (eqb b 0x45 || eqb b 0x65)) ≡ false) where
     whole_is : whole_at s p minus ≡ complement minus (digits_at s p (end - p) 0)
     unfolding whole_at magnitude_at
-    whole_is = rw (unbroken, whole_at) (rw f)
+    whole_is = rw (broken-is ∙ h, whole_at) (rw f)
 
-    pub whole-over : Over ≡ within (digits_at s p (end - p) 0) → BadNumber ≡ integer_of (whole_at s p minus)
-    whole-over h = rw (whole_is, complement-over minus (digits_at s p (end - p) 0) (within-over (digits_at s p (end - p) 0) h))
+    pub whole-over : None ≡ within (digits_at s p (end - p) 0) → None ≡ whole_at s p minus
+    whole-over w = rw (whole_is, complement-over minus (digits_at s p (end - p) 0) (within-over (digits_at s p (end - p) 0) w))
 
-    pub whole-fits : (m : ℕ) → Fits m ≡ within (digits_at s p (end - p) 0) → integer_of (complement minus m) ≡ integer_of (whole_at s p minus)
-    whole-fits m h = rw (whole_is, (within-fits m (digits_at s p (end - p) 0) h).0)
+    pub whole-fits : (m : ℕ) → Some m ≡ within (digits_at s p (end - p) 0) → complement minus m ≡ whole_at s p minus
+    whole-fits m w = rw (whole_is, (within-fits m (digits_at s p (end - p) 0) w).0)
 
 -- ---- the number at a place
 

@@ -230,14 +230,3 @@ module _ {d : ℕ} {s : List ℕ} {p i q b : ℕ} (f : Passing d s p i) (g : q �
 
     pub passing_ahead : length s - r < length s - i
     passing_ahead = omega (arith, w, goes (past_value (d - 1) s) s (value-ahead (d - 1) s) i g e h k, g, between-ahead s i)
-
--- ---- the brackets, by the tests that the code makes
-
-pub either : (b x y : ℕ) → b ≡ x → (eqb b x || eqb b y) ≡ true
-either b x y h = rw (eq-eqb b x h)
-
-pub other : (b x y : ℕ) → (b ≡ x → ⊥) → b ≡ y → (eqb b x || eqb b y) ≡ true
-other b x y h k = rw (ne_eqb b x h, eq-eqb b y k)
-
-pub neither : (b x y : ℕ) → (b ≡ x → ⊥) → (b ≡ y → ⊥) → (eqb b x || eqb b y) ≡ false
-neither b x y h k = rw (ne_eqb b x h, ne_eqb b y k)

@@ -1,94 +1,34 @@
 -- Strings by their pieces: what stands at a place, in the form that the code's proofs cite.
 use mathlib.Core.Path.{◌≡◌, refl, sym, ap, ◌∙◌}
 use mathlib.Core.List.{List, [], ◌∷◌, ◌++◌}
-use mathlib.Core.Bool.{Bool, true, false, ◌||◌}
+use mathlib.Core.Bool.{Bool, true, false, ◌||◌, ◌&&◌}
 use Prim.Native.Nat.{ℕ, zero, suc, ◌+◌, ◌-◌, ◌*◌, ◌/◌, ◌%◌, ◌<◌, ◌≤◌}
 use native.Mathlib.Nat.{add-zero, add-suc}
 use native.Mathlib.Numerals.{add-one}
 use native.Mathlib.Omega.{arith}
-use borrow.Author.Tests.{lt-ltb, le-ltb, eq-eqb, ne_eqb, eqb-true, eqb-false, le-leb, lt-leb, leb-true, leb-false}
+use borrow.Author.Tests.{lt-ltb, le-ltb, eq-eqb, ne_eqb, eqb-true, eqb-false, leb-true}
 use lib.Dec.{eqb, leb, ltb}
 use lib.ListN.{length, get_or, take, drop, set, length-append}
 use lib.Seq.{sets}
-use Rattle.json_text.specs.Bytes.{Row, on, pick}
 use Rattle.json_text.specs.Utf8.{encode}
 use Rattle.json_text.specs.Grammar.{paired}
 use Rattle.jer.specs.Table.{same_bytes}
-use Rattle.tokens.specs.declared.strings.Utf8.{Utf8}
 use Rattle.tokens.specs.Places.{byte_at}
-use Rattle.tokens.specs.Strings.{digit_at, unit_at, letter_of, is_high, Piece, Close, Bare, Escaped, unit_piece, escape_at, piece_at, denoted_in, denoted, close_in, string_end, begins}
-use Rattle.tokens.specs.Enums.{Encodes}
+use Rattle.std.specs.List.{starts_with}
+use Rattle.tokens.specs.Strings.{unit_at, letter_of, is_high, Piece, Close, Bare, Escaped, unit_piece, escape_at, piece_at, denoted_in, denoted, close_in, string_end}
 use Rattle.tokens.proofs.PlaceLaws.{byte_inside, byte_past, inside}
 use Rattle.slices.proofs.PartLaws.{sets_append}
-use Rattle.tokens.proofs.SliceLaws.{same_end, same-short, same_more, same-differ, same_first, same-begins, same-room, same-other}
-
--- ---- rows of a table
-
-module _ {A : Type 0} (b lo hi : ℕ) (f : ℕ → A) (rs : List (Row A)) (d : A) where
-  pub pick-in : lo ≤ b → b ≤ hi → pick b (on lo hi f ∷ rs) d ≡ f b
-  unfolding pick
-  pick-in h k = rw (le-leb lo b h, le-leb b hi k, pick)
-
-  pub pick-below : b < lo → pick b (on lo hi f ∷ rs) d ≡ pick b rs d
-  unfolding pick
-  pick-below h = rw (lt-leb lo b h, pick)
-
-  pub pick-above : hi < b → pick b (on lo hi f ∷ rs) d ≡ pick b rs d
-  unfolding pick
-  pick-above h = go (leb lo b) refl
-    where
-      go : (t : Bool) → leb lo b ≡ t → pick b (on lo hi f ∷ rs) d ≡ pick b rs d
-      go true e = rw (e, lt-leb b hi h, pick)
-      go false e = rw (e, pick)
-
-pick-none : {A : Type 0} (b : ℕ) (d : A) → pick b [] d ≡ d
-unfolding pick
-pick-none b d = refl
-
--- a row of one byte
-pick-not : {A : Type 0} (b k : ℕ) (f : ℕ → A) (rs : List (Row A)) (d : A) → (b ≡ k → ⊥) → pick b (on k k f ∷ rs) d ≡ pick b rs d
-pick-not b k f rs d h = go (leb k b) refl
-  where
-    go : (t : Bool) → leb k b ≡ t → pick b (on k k f ∷ rs) d ≡ pick b rs d
-    go true e = pick-above b k k f rs d (omega (arith, leb-true k b e))
-    go false e = pick-below b k k f rs d (leb-false k b e)
-
--- ---- four digits
-
-pub unit-is : (s : List ℕ) (p i j k l : ℕ) → i ≡ digit_at s p → j ≡ digit_at s (p + 1) → k ≡ digit_at s (p + 2) → l ≡ digit_at s (p + 3)
-    → ((i * 16 + j) * 16 + k) * 16 + l ≡ unit_at s p
-unfolding unit_at
-unit-is s p i j k l a b c d = rw (a, b, c, d)
-
--- ---- letters
-
-module _ (b : ℕ) where
-  pub letter-backspace : b ≡ 0x62 → 0x08 ≡ letter_of b
-  unfolding letter_of pick
-  letter-backspace e = rw e
-
-  pub letter_form : b ≡ 0x66 → 0x0C ≡ letter_of b
-  unfolding letter_of pick
-  letter_form e = rw e
-
-  pub letter_line : b ≡ 0x6E → 0x0A ≡ letter_of b
-  unfolding letter_of pick
-  letter_line e = rw e
-
-  pub letter-return : b ≡ 0x72 → 0x0D ≡ letter_of b
-  unfolding letter_of pick
-  letter-return e = rw e
-
-  pub letter-tab : b ≡ 0x74 → 0x09 ≡ letter_of b
-  unfolding letter_of pick
-  letter-tab e = rw e
-
-  pub letter-own : (b ≡ 0x62 → ⊥) → (b ≡ 0x66 → ⊥) → (b ≡ 0x6E → ⊥) → (b ≡ 0x72 → ⊥) → (b ≡ 0x74 → ⊥) → b ≡ letter_of b
-  unfolding letter_of
-  letter-own h₁ h₂ h₃ h₄ h₅ =
-      sym (pick-not b 0x62 _ _ _ h₁ ∙ pick-not b 0x66 _ _ _ h₂ ∙ pick-not b 0x6E _ _ _ h₃ ∙ pick-not b 0x72 _ _ _ h₄ ∙ pick-not b 0x74 _ _ _ h₅ ∙ pick-none b b)
+use Rattle.tokens.proofs.SliceLaws.{same_end, same_more, same-differ, same_first, same-begins, same-room, same-other}
 
 -- ---- pairs
+
+pub high-range : (x : ℕ) → is_high x ≡ true → (0xD800 ≤ x) × (x ≤ 0xDBFF)
+high-range x h = go (leb 0xD800 x) refl (leb x 0xDBFF) refl h
+  where
+    go : (t : Bool) → leb 0xD800 x ≡ t → (u : Bool) → leb x 0xDBFF ≡ u → (t && u) ≡ true → (0xD800 ≤ x) × (x ≤ 0xDBFF)
+    go true e true f k = (leb-true 0xD800 x e, leb-true x 0xDBFF f)
+    go true e false f k = absurd (let z : ◌≡◌ {A = ℕ} 0 1 = cc in omega arith)
+    go false e u f k = absurd (let z : ◌≡◌ {A = ℕ} 0 1 = cc in omega arith)
 
 pub pair-plain : (h l : ℕ) → l < 0xDC00 → 0x10000 + (h - 0xD800) * 0x400 ≡ paired h l
 unfolding paired
@@ -113,20 +53,16 @@ module _ (s : List ℕ) (p b : ℕ) (e : b ≡ byte_at s p) where
     five : p + 5 ≡ p + 1 + 4
     five = omega arith
 
-    pub escape-low : x < 0xD800 → Escaped x (p + 5) ≡ escape_at s p
+    pub escape-unit : is_high x ≡ false → Escaped x (p + 5) ≡ escape_at s p
     unfolding unit_piece
-    escape-low k = rw (← unit_piece_lem, lt-leb 0xD800 x k, unit_piece, five)
+    escape-unit k = rw (← unit_piece_lem, k, unit_piece, five)
 
-    pub escape-high : 0xD800 ≤ x → 0xDBFF < x → Escaped x (p + 5) ≡ escape_at s p
+    pub escape-pair : (c y : ℕ) → is_high x ≡ true → y ≡ unit_at s (p + 7) → c ≡ paired x y → Escaped c (p + 11) ≡ escape_at s p
     unfolding unit_piece
-    escape-high j k = rw (← unit_piece_lem, le-leb 0xD800 x j, lt-leb x 0xDBFF k, unit_piece, five)
-
-    pub escape-pair : (c y : ℕ) → 0xD800 ≤ x → x ≤ 0xDBFF → y ≡ unit_at s (p + 7) → c ≡ paired x y → Escaped c (p + 11) ≡ escape_at s p
-    unfolding unit_piece
-    escape-pair c y j k g w =
+    escape-pair c y k g w =
         let n : p + 11 ≡ p + 1 + 10 = omega arith in
         let m : p + 7 ≡ p + 1 + 6 = omega arith in
-        rw (← unit_piece_lem, le-leb 0xD800 x j, le-leb x 0xDBFF k, unit_piece, n, w, g, m)
+        rw (← unit_piece_lem, k, unit_piece, n, w, g, m)
 
 -- ---- pieces
 
@@ -355,31 +291,28 @@ module _ (s : List ℕ) (p : ℕ) where
         go zero h = absurd (omega arith)
         go (suc n) h = close_other s n p (λ x. omega (arith, at)) (λ x. f (at ∙ x)) (λ x. g (at ∙ x)) ∙ close_more s n (p + 1) (omega arith)
 
--- ---- the UTF-8 of a character, in four bytes
+-- ---- the UTF-8 of a character
 
 module _ (x : ℕ) where
-  pub encode_one : x < 0x80 → Encodes (record { bytes = x ∷ 0 ∷ 0 ∷ 0 ∷ []; len = 1 }) (encode x)
+  pub encode_one : x < 0x80 → x ∷ [] ≡ encode x
   unfolding encode
-  encode_one h = rw (lt-ltb x 0x80 h, encode) (record { bytes = refl; len = refl; few = omega arith; room = omega arith })
+  encode_one h = rw (lt-ltb x 0x80 h, encode)
 
-  pub encode-two : 0x80 ≤ x → x < 0x800 → Encodes (record { bytes = (0xC0 + x / 0x40) ∷ (0x80 + x % 0x40) ∷ 0 ∷ 0 ∷ []; len = 2 }) (encode x)
+  pub encode-two : 0x80 ≤ x → x < 0x800 → (0xC0 + x / 0x40) ∷ (0x80 + x % 0x40) ∷ [] ≡ encode x
   unfolding encode
-  encode-two h k = rw (le-ltb x 0x80 h, lt-ltb x 0x800 k, encode) (record { bytes = refl; len = refl; few = omega arith; room = omega arith })
+  encode-two h k = rw (le-ltb x 0x80 h, lt-ltb x 0x800 k, encode)
 
-  pub encode-three : 0x800 ≤ x → x < 0x10000 → Encodes (record { bytes = (0xE0 + x / 0x1000) ∷ (0x80 + x / 0x40 % 0x40) ∷ (0x80 + x % 0x40) ∷ 0 ∷ []; len = 3 }) (encode x)
+  pub encode-three : 0x800 ≤ x → x < 0x10000 → (0xE0 + x / 0x1000) ∷ (0x80 + x / 0x40 % 0x40) ∷ (0x80 + x % 0x40) ∷ [] ≡ encode x
   unfolding encode
-  encode-three h k = rw (le-ltb x 0x80 (omega arith), le-ltb x 0x800 h, lt-ltb x 0x10000 k, encode) (record { bytes = refl; len = refl; few = omega arith; room = omega arith })
+  encode-three h k = rw (le-ltb x 0x80 (omega arith), le-ltb x 0x800 h, lt-ltb x 0x10000 k, encode)
 
-  pub encode-four : 0x10000 ≤ x → Encodes (record { bytes = (0xF0 + x / 0x40000) ∷ (0x80 + x / 0x1000 % 0x40) ∷ (0x80 + x / 0x40 % 0x40) ∷ (0x80 + x % 0x40) ∷ []; len = 4 }) (encode x)
+  pub encode-four : 0x10000 ≤ x → (0xF0 + x / 0x40000) ∷ (0x80 + x / 0x1000 % 0x40) ∷ (0x80 + x / 0x40 % 0x40) ∷ (0x80 + x % 0x40) ∷ [] ≡ encode x
   unfolding encode
-  encode-four h = rw (le-ltb x 0x80 (omega arith), le-ltb x 0x800 (omega arith), le-ltb x 0x10000 h, encode) (record { bytes = refl; len = refl; few = omega arith; room = omega arith })
-
-pub encodes_length : {c : Utf8} {bs : List ℕ} → Encodes c bs → length (take c.len c.bytes) ≡ c.len
-encodes_length f = ap length f.bytes ∙ sym f.len
+  encode-four h = rw (le-ltb x 0x80 (omega arith), le-ltb x 0x800 (omega arith), le-ltb x 0x10000 h, encode)
 
 -- ---- how many bytes a string denotes at the most
 
-encode-few : (x : ℕ) → length (encode x) ≤ 4
+pub encode-few : (x : ℕ) → length (encode x) ≤ 4
 unfolding encode
 encode-few x = go (ltb x 0x80) refl (ltb x 0x800) refl (ltb x 0x10000) refl
   where
@@ -417,10 +350,10 @@ module _ {s : List ℕ} {p i n : ℕ} (f : Counting s p i n) where
   counting-bare : {b : ℕ} → Bare b ≡ piece_at s i → Counting s p (i + 1) (n + 1)
   counting-bare {b} e = record { counted = omega (arith, ap length (denoted-bare s i b e)); few = omega arith }
 
-  counting-escaped : {x q : ℕ} {c : Utf8} → Escaped x q ≡ piece_at s i → Encodes c (encode x) → Counting s p q (n + c.len)
-  counting-escaped {x} {q} e g = record {
-    counted = omega (arith, g.len, ap length (denoted-escaped s i x q e), length-append (encode x) (denoted s q));
-    few = omega (arith, g.few, escaped-inside s i e);
+  counting-escaped : {x q : ℕ} {e : List ℕ} → Escaped x q ≡ piece_at s i → e ≡ encode x → Counting s p q (n + length e)
+  counting-escaped {x} {q} h g = record {
+    counted = omega (arith, ap length g, ap length (denoted-escaped s i x q h), length-append (encode x) (denoted s q));
+    few = omega (arith, ap length g, encode-few x, escaped-inside s i h);
   }
 
 -- and these are stored from j on
@@ -451,13 +384,13 @@ module _ {s : List ℕ} {p : ℕ} {before : List ℕ} {j : ℕ} {now : List ℕ}
   pub copying_rest : {m : ℕ} {after : List ℕ} → m ≡ length (denoted s i) → after ≡ sets now (j + n) (denoted s i) → (n + m ≡ length (denoted s p)) × (after ≡ sets before j (denoted s p))
   copying_rest e h = (omega (arith, e, f.counting.counted), h ∙ f.stored)
 
-  pub copying_escaped : {x q : ℕ} {c : Utf8} {after : List ℕ} → Escaped x q ≡ piece_at s i → Encodes c (encode x) → after ≡ sets now (j + n) (take c.len c.bytes)
-      → length after ≡ length now → Copying s p before j after q (n + c.len)
-  copying_escaped {x} {q} {c} e g h k =
-      let w : j + (n + length (encode x)) ≡ j + n + length (encode x) = omega arith in
+  pub copying_escaped : {x q : ℕ} {e after : List ℕ} → Escaped x q ≡ piece_at s i → e ≡ encode x → after ≡ sets now (j + n) e
+      → length after ≡ length now → Copying s p before j after q (n + length e)
+  copying_escaped {x} {q} {e} h g w k =
+      let m : j + (n + length e) ≡ j + n + length e = omega arith in
       record {
-        counting = counting-escaped f.counting e g;
-        stored = rw (h, g.bytes, g.len, w) (sym (sets_append now (j + n) (encode x) (denoted s q)) ∙ (rw (denoted-escaped s i x q e) at f.stored));
+        counting = counting-escaped f.counting h g;
+        stored = rw (w, m) (sym (sets_append now (j + n) e (denoted s q)) ∙ (rw (denoted-escaped s i x q h, ← g) at f.stored));
         kept = k ∙ f.kept;
       }
 
@@ -474,27 +407,23 @@ module _ {s : List ℕ} {p : ℕ} {name : List ℕ} {i k : ℕ} (f : Comparing s
     rest : same_bytes (drop k name) (b ∷ denoted s (i + 1)) ≡ same_bytes name (denoted s p)
     rest = rw (← denoted-bare s i b e) f.same
 
-    pub comparing_short : length name ≤ k → false ≡ same_bytes name (denoted s p)
-    comparing_short h = same-short name k b (denoted s (i + 1)) h ∙ rest
+    pub comparing_differ : (byte_at name k ≡ b → ⊥) → false ≡ same_bytes name (denoted s p)
+    comparing_differ d = same-differ name k b (denoted s (i + 1)) d ∙ rest
 
-    pub comparing_differ : k < length name → (get_or name k 0 ≡ b → ⊥) → false ≡ same_bytes name (denoted s p)
-    comparing_differ h d = same-differ name k b (denoted s (i + 1)) h d ∙ rest
+    pub comparing_bare : byte_at name k ≡ b → b < 256 → Comparing s p name (i + 1) (k + 1)
+    comparing_bare d h =
+        let here = inside name k (λ w. omega arith) in
+        record { same = sym (same_more name k b (denoted s (i + 1)) here (byte_inside name k here ∙ d)) ∙ rest; within = omega arith }
 
-    pub comparing_bare : k < length name → get_or name k 0 ≡ b → Comparing s p name (i + 1) (k + 1)
-    comparing_bare h d = record { same = sym (same_more name k b (denoted s (i + 1)) h d) ∙ rest; within = omega arith }
+  module _ {x q : ℕ} {e : List ℕ} (h : Escaped x q ≡ piece_at s i) (g : e ≡ encode x) where
+    rest-escaped : same_bytes (drop k name) (e ++ denoted s q) ≡ same_bytes name (denoted s p)
+    rest-escaped = rw (g, ← denoted-escaped s i x q h) f.same
 
-  module _ {x q : ℕ} {c : Utf8} (e : Escaped x q ≡ piece_at s i) (g : Encodes c (encode x)) where
-    rest-escaped : same_bytes (drop k name) (take c.len c.bytes ++ denoted s q) ≡ same_bytes name (denoted s p)
-    rest-escaped = rw (g.bytes, ← denoted-escaped s i x q e) f.same
+    pub comparing_other : starts_with eqb (take (length name - k) (drop k name)) e ≡ false → false ≡ same_bytes name (denoted s p)
+    comparing_other w = same-other name k e (denoted s q) w ∙ rest-escaped
 
-    pub comparing_other : begins (take c.len c.bytes) (drop k name) ≡ false → false ≡ same_bytes name (denoted s p)
-    comparing_other h = same-other name k (take c.len c.bytes) (denoted s q) h ∙ rest-escaped
-
-    pub comparing_escaped : begins (take c.len c.bytes) (drop k name) ≡ true → Comparing s p name q (k + c.len)
-    comparing_escaped h = record {
-      same =
-          ap (λ (n : ℕ). same_bytes (drop (k + n) name) (denoted s q)) (sym (encodes_length g))
-          ∙ sym (same-begins name k (take c.len c.bytes) (denoted s q) h)
-          ∙ rest-escaped;
-      within = omega (arith, encodes_length g, same-room name k (take c.len c.bytes) (denoted s q) f.within h);
+    pub comparing_escaped : starts_with eqb (take (length name - k) (drop k name)) e ≡ true → Comparing s p name q (k + length e)
+    comparing_escaped w = record {
+      same = sym (same-begins name k e (denoted s q) w) ∙ rest-escaped;
+      within = omega (arith, same-room name k e (denoted s q) f.within w);
     }

@@ -3,7 +3,7 @@ use Prim.Native.Nat.{ℕ, suc, ◌+◌, ◌-◌, ◌*◌}
 use mathlib.Core.Path.{◌≡◌, refl, ap, ◌∙◌}
 use mathlib.Core.List.{List, [], ◌∷◌, ◌++◌, append_assoc}
 use mathlib.Core.Bool.{Bool, true, false, ◌||◌}
-use mathlib.Core.Option.{none}
+use Rattle.std.specs.Prelude.{None}
 use native.Mathlib.Numerals.{add-one}
 use native.Mathlib.Omega.{arith}
 use borrow.Author.Tests.{ne_eqb}
@@ -98,7 +98,7 @@ whole-complement {bs = bs} s p ys m w h g =
     let e = broken-by s p ys w h d ∙ stop_byte s (past p bs) (ends-breaks g) refl (drop_past s p bs ys h) in
     rw (e, whole_at, magnitude-whole s p ys w h d)
 
-broken-none : {n : ℕ} {bs cs : List ℕ} (s : List ℕ) (p : ℕ) (ys : List ℕ) (m : Bool) → Whole n bs → Broken cs → drop p s ≡ (bs ++ cs) ++ ys → whole_at s p m ≡ none
+broken-none : {n : ℕ} {bs cs : List ℕ} (s : List ℕ) (p : ℕ) (ys : List ℕ) (m : Bool) → Whole n bs → Broken cs → drop p s ≡ (bs ++ cs) ++ ys → whole_at s p m ≡ None
 unfolding whole_at
 broken-none {bs = bs} {cs = cs} s p ys m w k h =
     let g : drop p s ≡ bs ++ (cs ++ ys) = rw append_assoc at h in
@@ -127,6 +127,6 @@ integer_complement s p ys (bare w) h g = bare_integer s p ys w h ∙ whole-compl
 integer_complement s p ys (minus w) h g = minus_integer s p _ h ∙ whole-complement s (suc p) ys true w (drop-next s p 0x2D _ h) g
 
 -- one with either
-pub real-none : {m : Bool} {n : ℕ} {bs cs : List ℕ} (s : List ℕ) (p : ℕ) (ys : List ℕ) → Signed m n bs → Broken cs → drop p s ≡ (bs ++ cs) ++ ys → integer_at s p ≡ none
+pub real-none : {m : Bool} {n : ℕ} {bs cs : List ℕ} (s : List ℕ) (p : ℕ) (ys : List ℕ) → Signed m n bs → Broken cs → drop p s ≡ (bs ++ cs) ++ ys → integer_at s p ≡ None
 real-none s p ys (bare w) k h = bare_integer s p _ w (rw append_assoc at h) ∙ broken-none s p ys false w k h
 real-none s p ys (minus w) k h = minus_integer s p _ h ∙ broken-none s (suc p) ys true w k (drop-next s p 0x2D _ h)

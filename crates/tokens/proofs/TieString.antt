@@ -3,7 +3,6 @@ use Prim.Native.Nat.{ℕ, zero, suc, ◌+◌, ◌≤◌, ◌<◌}
 use mathlib.Core.Path.{◌≡◌, refl, ap, ◌∙◌}
 use mathlib.Core.List.{List, [], ◌∷◌, ◌++◌, append_assoc}
 use mathlib.Core.Bool.{false}
-use native.Mathlib.Nat.{mod-eq_of_lt}
 use native.Mathlib.Numerals.{add-one, add-two}
 use native.Mathlib.Omega.{arith}
 use borrow.Author.Tests.{ne_eqb}
@@ -15,7 +14,7 @@ use Rattle.json_text.specs.Grammar.{Hex, digit, upper, lower, Four, four, Escape
 use Rattle.json_text.proofs.Feed.{in-true, in-false}
 use Rattle.tokens.specs.Places.{byte_at}
 use Rattle.tokens.specs.declared.strings.Piece.TheVariants as piece
-use Rattle.slices.proofs.DigitLaws.{digit-hex}
+use Rattle.slices.proofs.DigitLaws.{hex-of}
 use Rattle.tokens.specs.Strings.{digit_at, unit_at, letter_of, unit_piece, escape_at, piece_at, denoted_in, denoted, close_in, string_end}
 use Rattle.tokens.proofs.TiePlace.{byte_on, byte_here, drop-next, drop_past, past_append, length-left}
 
@@ -152,7 +151,7 @@ letter_piece {b = b} s p ws x h =
 
 hex-at : {x b : ℕ} (s : List ℕ) (p : ℕ) → Hex x b → byte_at s p ≡ b → digit_at s p ≡ x
 unfolding digit_at
-hex-at {x = x} s p h q = let d = digit-hex h in rw (q, d.0) (mod-eq_of_lt d.1)
+hex-at s p h q = rw (q, hex-of h)
 
 four-at : {x : ℕ} {fs : List ℕ} (s : List ℕ) (p : ℕ) (ws : List ℕ) → Four x fs → drop p s ≡ fs ++ ws → unit_at s p ≡ x
 unfolding unit_at

@@ -1,6 +1,6 @@
 -- The INTEGER at a place.
 use Rattle.std.specs.Prelude.{ℕ, zero, suc, ◌+◌, ◌-◌, ◌*◌, ◌^◌, List, Bool, true, false, ◌||◌, ◌&&◌, eqb, leb, ltb}
-use Rattle.std.proofs.Math.Option.{Option, none, some}
+use Rattle.std.specs.Prelude.{Option, None, Some}
 use Rattle.tokens.specs.Places.{byte_at, run_from}
 
 abbrev pub is_digit : ℕ → Bool
@@ -22,12 +22,12 @@ broken_at s p = let b = byte_at s (run_from is_digit s p) in eqb b 0x2E || (eqb 
 -- the 64-bit two's complement of the magnitude m, of its negative if minus; none outside the range
 -- 01, Reading: "from -2^63 to 2^63-1; -0 is 0"
 unfoldable pub complement : Bool → ℕ → Option ℕ
-complement false m = elim (ltb m (2 ^ 63)) [ true ↦ some m | false ↦ none ]
-complement true zero = some 0
-complement true (suc m) = elim (leb (suc m) (2 ^ 63)) [ true ↦ some (2 ^ 64 - suc m) | false ↦ none ]
+complement false m = elim (ltb m (2 ^ 63)) [ true ↦ Some m | false ↦ None ]
+complement true zero = Some 0
+complement true (suc m) = elim (leb (suc m) (2 ^ 63)) [ true ↦ Some (2 ^ 64 - suc m) | false ↦ None ]
 
 unfoldable pub whole_at : List ℕ → ℕ → Bool → Option ℕ
-whole_at s p minus = elim (broken_at s p) [ true ↦ none | false ↦ complement minus (magnitude_at s p) ]
+whole_at s p minus = elim (broken_at s p) [ true ↦ None | false ↦ complement minus (magnitude_at s p) ]
 
 -- the number at p, from its minus sign or first digit on: its two's complement, or none where refusal 6 is due
 unfoldable pub integer_at : List ℕ → ℕ → Option ℕ

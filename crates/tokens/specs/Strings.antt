@@ -1,16 +1,17 @@
 -- The characters that a string denotes, from the place after its opening quotation mark.
-use Rattle.std.specs.Prelude.{ℕ, zero, suc, ◌+◌, ◌*◌, ◌%◌, List, [], ◌∷◌, ◌++◌, Bool, true, false, ◌&&◌, ◌||◌, eqb, leb, length}
+use Rattle.std.specs.Prelude.{ℕ, zero, suc, ◌+◌, ◌*◌, List, [], ◌∷◌, ◌++◌, Bool, true, false, ◌&&◌, ◌||◌, eqb, leb, length}
 use Rattle.json_text.specs.Bytes.{on, pick}
 use Rattle.json_text.specs.Utf8.{encode}
 use Rattle.json_text.specs.Grammar.{paired}
-use Rattle.slices.specs.Digit.{digit_of}
+use Rattle.std.specs.Option.{unwrap_or}
+use Rattle.jer.specs.Octets.{hex_value}
 use Rattle.tokens.specs.Places.{byte_at}
 pub use Rattle.tokens.specs.declared.strings.Piece.{Piece}
 pub use Rattle.tokens.specs.declared.strings.Piece.TheVariants.{Close, Bare, Escaped}
 
 -- a hexadecimal digit's value; 0 for any other byte
 unfoldable pub digit_at : List ℕ → ℕ → ℕ
-digit_at s p = digit_of (byte_at s p) % 16
+digit_at s p = unwrap_or (hex_value (byte_at s p)) 0
 
 -- four hexadecimal digits
 unfoldable pub unit_at : List ℕ → ℕ → ℕ
@@ -59,9 +60,3 @@ close_in (suc n) s p =
 
 unfoldable pub string_end : List ℕ → ℕ → ℕ
 string_end s p = close_in (length s) s p
-
--- whether the first list begins the second
-unfoldable pub begins : List ℕ → List ℕ → Bool
-begins [] bs = true
-begins (a ∷ xs) [] = false
-begins (a ∷ xs) (b ∷ bs) = elim (eqb b a) [ true ↦ begins xs bs | false ↦ false ]

@@ -5,7 +5,8 @@ ghost use Rattle.tokens.specs.Skip.{is_end, is_between};
 ghost use Rattle.tokens.specs.Numbers.{is_digit};
 ghost use Rattle.tokens.specs.Enums.{passes};
 
-// The bytes that a run passes.
+// The bytes that a run passes. No closure says so: its contract is a relation, so `run` could promise `run_from` only at each test that
+// the relation implies, and every caller would have to show one.
 #[derive(Clone, Copy)]
 pub enum Class {
     // White space.
@@ -21,25 +22,25 @@ pub enum Class {
 fn is_space(b: u8) -> bool
     ensures { result ≡ is_space b }
 {
-    b == 0x20 || (b == 0x09 || (b == 0x0A || b == 0x0D))
+    matches!(b, 0x20 | 0x09 | 0x0A | 0x0D)
 }
 
 fn is_between(b: u8) -> bool
     ensures { result ≡ is_between b }
 {
-    is_space(b) || (b == 0x2C || b == 0x3A)
+    is_space(b) || matches!(b, 0x2C | 0x3A)
 }
 
 fn is_end(b: u8) -> bool
     ensures { result ≡ is_end b }
 {
-    is_space(b) || (b == 0x2C || (b == 0x5D || b == 0x7D))
+    is_space(b) || matches!(b, 0x2C | 0x5D | 0x7D)
 }
 
 fn is_digit(b: u8) -> bool
     ensures { result ≡ is_digit b }
 {
-    0x30 <= b && b <= 0x39
+    matches!(b, 0x30..=0x39)
 }
 
 fn is_in(class: Class, b: u8) -> bool
@@ -57,15 +58,12 @@ fn is_in(class: Class, b: u8) -> bool
 pub fn run(s: &[u8], p: usize, class: Class) -> usize
     ensures { result ≡ run_from (passes class) s.now p }
 {
-    let mut i = p;
-    while i < s.len() {
-        let b = s[i];
-        if !is_in(class, b) {
+    for i in p..s.len() {
+        if !is_in(class, s[i]) {
             return i;
         }
-        i += 1;
     }
-    i
+    p.max(s.len())
 }
 
 // A place in a text that is lent beside it.
@@ -79,9 +77,8 @@ impl Cursor {
     pub fn skip_space(self, s: &[u8]) -> Cursor
         ensures { result.at ≡ past_space s.now self.at }
     {
-        let at = self.at;
         Cursor {
-            at: run(s, at, Class::Space),
+            at: run(s, self.at, Class::Space),
         }
     }
 

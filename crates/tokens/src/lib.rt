@@ -5,5 +5,4 @@
 pub mod cursor;
 pub mod numbers;
 pub mod skip;
-pub mod starts;
 pub mod strings;

@@ -1,101 +1,95 @@
 // The INTEGER at a place.
-ghost use Rattle.std.specs.Prelude.{◌≡◌, ◌-◌, ◌^◌, ◌≤◌};
+ghost use Rattle.std.specs.Prelude.{◌≡◌, ◌-◌, ◌^◌, ◌≤◌, ◌||◌, ◌==◌};
 ghost use Rattle.tokens.specs.Numbers.{digits_at, whole_at, integer_at, complement};
-ghost use Rattle.tokens.specs.Enums.{within, integer_of};
+ghost use Rattle.tokens.specs.Enums.{split, within, integer_of};
 
 use crate::cursor::{Class, run};
 use slices::byte_at;
 
+// The halves of a 64-bit number.
 #[derive(Clone, Copy)]
-pub enum Integer {
-    // The halves of its 64-bit two's complement.
-    Whole { low: u32, high: u32 },
-    // A fraction or an exponent, or outside the range.
-    BadNumber,
+pub struct Halves {
+    pub low: u32,
+    pub high: u32,
 }
 
-// A decimal number, as far as 2^63.
-#[derive(Clone, Copy)]
-enum Magnitude {
-    Fits(u64),
-    Over,
+// A number's halves.
+fn split(n: u64) -> Halves
+    ensures { result ≡ split n }
+{
+    Halves {
+        low: (n % 4294967296) as u32,
+        high: (n / 4294967296) as u32,
+    }
 }
 
 // A digit's value, 0 below '0'.
 fn value_of(b: u32) -> u64
     ensures { (result ≡ b - 0x30) × (result ≤ 4294967295) }
 {
-    if b < 0x30 { 0 } else { (b - 0x30) as u64 }
+    u64::from(b.saturating_sub(0x30))
 }
 
-// The decimal number from p to end.
-fn magnitude_at(s: &[u8], p: usize, end: usize) -> Magnitude
+// The decimal number from p to end, if it is not above 2^63.
+fn magnitude_at(s: &[u8], p: usize, end: usize) -> Option<u64>
     ensures { result ≡ within (digits_at s.now p (end - p) 0) }
 {
     let mut m: u64 = 0;
-    let mut i = p;
-    while i < end {
+    for i in p..end {
         let d = value_of(byte_at(s, i));
         if (9223372036854775808 - d) / 10 < m {
-            return Magnitude::Over;
+            return None;
         }
         m = m * 10 + d;
-        i += 1;
     }
-    Magnitude::Fits(m)
+    Some(m)
 }
 
-// The halves of m, or of its negative.
-fn halves(minus: bool, m: u64) -> Integer
+// The 64-bit two's complement of m, or of its negative.
+fn complement(minus: bool, m: u64) -> Option<u64>
     requires { m ≤ 2 ^ 63 }
-    ensures { result ≡ integer_of (complement minus m) }
+    ensures { result ≡ complement minus m }
 {
     if minus {
-        if m == 0 {
-            return Integer::Whole { low: 0, high: 0 };
-        }
-        let n = 18446744073709551615 - m + 1;
-        return Integer::Whole {
-            low: (n % 4294967296) as u32,
-            high: (n / 4294967296) as u32,
-        };
+        return Some(m.wrapping_neg());
     }
     if m == 9223372036854775808 {
-        return Integer::BadNumber;
+        return None;
     }
-    Integer::Whole {
-        low: (m % 4294967296) as u32,
-        high: (m / 4294967296) as u32,
-    }
+    Some(m)
+}
+
+// Whether a byte begins a fraction or an exponent.
+fn breaks(b: u32) -> bool
+    ensures { result ≡ (b == 0x2E || (b == 0x45 || b == 0x65)) }
+{
+    matches!(b, 0x2E | 0x45 | 0x65)
 }
 
 // The number whose digits begin at p, after a minus sign or none.
-fn whole(s: &[u8], p: usize, minus: bool) -> Integer
-    ensures { result ≡ integer_of (whole_at s.now p minus) }
+fn whole(s: &[u8], p: usize, minus: bool) -> Option<u64>
+    ensures { result ≡ whole_at s.now p minus }
 {
     let end = run(s, p, Class::Digit);
-    let b = byte_at(s, end);
-    if b == 0x2E {
-        return Integer::BadNumber;
+    if breaks(byte_at(s, end)) {
+        return None;
     }
-    if b == 0x45 {
-        return Integer::BadNumber;
-    }
-    if b == 0x65 {
-        return Integer::BadNumber;
-    }
-    match magnitude_at(s, p, end) {
-        Magnitude::Over => Integer::BadNumber,
-        Magnitude::Fits(m) => halves(minus, m),
-    }
+    complement(minus, magnitude_at(s, p, end)?)
 }
 
-// The number at p, from its minus sign or first digit on.
-pub fn integer_at(s: &[u8], p: usize) -> Integer
-    ensures { result ≡ integer_of (integer_at s.now p) }
+// The 64-bit two's complement of the number at p, from its minus sign or first digit on.
+fn signed(s: &[u8], p: usize) -> Option<u64>
+    ensures { result ≡ integer_at s.now p }
 {
     if byte_at(s, p) == 0x2D {
         return whole(s, p + 1, true);
     }
     whole(s, p, false)
+}
+
+// Its halves. None if the number has a fraction or an exponent, or is outside the range.
+pub fn integer_at(s: &[u8], p: usize) -> Option<Halves>
+    ensures { result ≡ integer_of (integer_at s.now p) }
+{
+    Some(split(signed(s, p)?))
 }

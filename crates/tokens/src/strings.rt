@@ -1,14 +1,13 @@
 // Strings, from the place after the opening quotation mark: the characters that they denote, compared, counted and copied.
-ghost use Rattle.std.specs.Prelude.{◌≡◌, true, false, List, ℕ, ◌≤◌, ◌<◌, length, take, drop};
+ghost use Rattle.std.specs.Prelude.{◌≡◌, true, false, List, ℕ, ◌≤◌, ◌<◌, length, take, drop, IfSome};
 ghost use Rattle.std.proofs.lemmas.List.Edits.{sets};
 ghost use Rattle.json_text.specs.Utf8.{encode};
 ghost use Rattle.json_text.specs.Grammar.{paired};
 ghost use Rattle.jer.specs.Table.{same_bytes};
-ghost use Rattle.tokens.specs.Strings.{digit_at, unit_at, letter_of, Bare, Escaped, escape_at, piece_at, denoted, string_end};
-ghost use Rattle.tokens.specs.Enums.{Coded, Encodes};
+ghost use Rattle.tokens.specs.Strings.{digit_at, unit_at, letter_of, is_high, Bare, Escaped, escape_at, piece_at, denoted, string_end};
+ghost use Rattle.tokens.specs.Enums.{Coded};
 
-use crate::starts::starts;
-use slices::{byte_at, part, put, put_all};
+use slices::{byte_at, hex_value, part, put, put_all};
 
 // One piece of a string.
 #[derive(Clone, Copy)]
@@ -27,6 +26,7 @@ pub fn string_end(s: &[u8], p: usize) -> usize
     ensures { result ≡ string_end s.now p }
 {
     let mut i = p;
+    // An escape is longer than one byte: the step varies.
     while i < s.len() {
         let b = s[i];
         if b == 0x22 {
@@ -42,13 +42,18 @@ pub fn string_end(s: &[u8], p: usize) -> usize
 }
 
 // A hexadecimal digit's value, 0 for any other byte.
+#[tactic(auto, unfolding(crate::specs::Strings::digit_at, jer::specs::Octets::hex_value, json_text::specs::Bytes::pick))]
 fn digit(s: &[u8], p: usize) -> u32
     ensures { (result ≡ digit_at s.now p) × (result ≤ 15) }
 {
-    slices::digit(byte_at(s, p)) % 16
+    match s.get(p) {
+        Some(b) => u32::from(hex_value(*b).unwrap_or(0)),
+        None => 0,
+    }
 }
 
 // Four hexadecimal digits.
+#[tactic(auto, unfolding(crate::specs::Strings::unit_at))]
 fn unit(s: &[u8], p: usize) -> u32
     requires { p ≤ 4294967295 }
     ensures { (result ≡ unit_at s.now p) × (result ≤ 65535) }
@@ -57,6 +62,7 @@ fn unit(s: &[u8], p: usize) -> u32
 }
 
 // The character of a letter after a backslash.
+#[tactic(auto, unfolding(crate::specs::Strings::letter_of, json_text::specs::Bytes::pick))]
 fn letter(b: u32) -> u32
     requires { b ≤ 256 }
     ensures { (result ≡ letter_of b) × (result ≤ 256) }
@@ -71,9 +77,16 @@ fn letter(b: u32) -> u32
     }
 }
 
+// Whether a unit is the first of a surrogate pair.
+fn is_high(x: u32) -> bool
+    ensures { result ≡ is_high x }
+{
+    matches!(x, 0xD800..=0xDBFF)
+}
+
 // The character of a surrogate pair.
 fn pair(high: u32, low: u32) -> u32
-    requires { (0xD800 ≤ high) × (high ≤ 0xDBFF) × (low ≤ 65535) }
+    requires { (is_high high ≡ true) × (low ≤ 65535) }
     ensures { (result ≡ paired high low) × (result < 2097152) }
 {
     let top = 0x10000 + (high - 0xD800) * 0x400;
@@ -105,13 +118,7 @@ fn escape(s: &[u8], p: usize) -> Unescaped
         };
     }
     let x = unit(s, p + 1);
-    if x < 0xD800 {
-        return Unescaped {
-            code: x,
-            next: p + 5,
-        };
-    }
-    if 0xDBFF < x {
+    if !is_high(x) {
         return Unescaped {
             code: x,
             next: p + 5,
@@ -143,42 +150,28 @@ pub fn piece_at(s: &[u8], p: usize) -> Piece
     Piece::Bare(b)
 }
 
-// The UTF-8 of a character: the first len of four bytes.
-#[derive(Clone, Copy)]
-pub struct Utf8 {
-    pub bytes: [u8; 4],
-    pub len: usize,
-}
-
-fn encoded(x: u32) -> Utf8
+// The UTF-8 of a character, in the bytes that are lent for it.
+fn encoded(x: u32, bytes: &mut [u8; 4]) -> &[u8]
     requires { x < 2097152 }
-    ensures { Encodes result (encode x) }
+    ensures { result.now ≡ encode x }
 {
     if x < 0x80 {
-        return Utf8 {
-            bytes: [x as u8, 0, 0, 0],
-            len: 1,
-        };
+        *bytes = [x as u8, 0, 0, 0];
+        return &bytes[..1];
     }
     let a = (0x80 + x % 0x40) as u8;
     if x < 0x800 {
-        return Utf8 {
-            bytes: [(0xC0 + x / 0x40) as u8, a, 0, 0],
-            len: 2,
-        };
+        *bytes = [(0xC0 + x / 0x40) as u8, a, 0, 0];
+        return &bytes[..2];
     }
     let b = (0x80 + x / 0x40 % 0x40) as u8;
     if x < 0x10000 {
-        return Utf8 {
-            bytes: [(0xE0 + x / 0x1000) as u8, b, a, 0],
-            len: 3,
-        };
+        *bytes = [(0xE0 + x / 0x1000) as u8, b, a, 0];
+        return &bytes[..3];
     }
     let c = (0x80 + x / 0x1000 % 0x40) as u8;
-    Utf8 {
-        bytes: [(0xF0 + x / 0x40000) as u8, c, b, a],
-        len: 4,
-    }
+    *bytes = [(0xF0 + x / 0x40000) as u8, c, b, a];
+    &bytes[..]
 }
 
 // Whether the string at p denotes these bytes.
@@ -188,6 +181,7 @@ pub fn same_as(s: &[u8], p: usize, name: &[u8]) -> bool
 {
     let mut i = p;
     let mut k = 0;
+    // An escape is longer than one byte: the step varies.
     while i < s.len() {
         let b = s[i];
         if b == 0x22 {
@@ -195,19 +189,15 @@ pub fn same_as(s: &[u8], p: usize, name: &[u8]) -> bool
         }
         if b == 0x5C {
             let e = escape(s, i + 1);
-            let u = encoded(e.code);
-            let bytes = u.bytes;
-            let len = u.len;
-            if !starts(name, k, &bytes[..len]) {
+            let mut four = [0u8; 4];
+            let bytes = encoded(e.code, &mut four);
+            if !name[k..].starts_with(bytes) {
                 return false;
             }
-            k += len;
+            k += bytes.len();
             i = e.next;
         } else {
-            if name.len() <= k {
-                return false;
-            }
-            if name[k] != b {
+            if byte_at(name, k) != u32::from(b) {
                 return false;
             }
             k += 1;
@@ -217,28 +207,25 @@ pub fn same_as(s: &[u8], p: usize, name: &[u8]) -> bool
     k == name.len()
 }
 
-// The first byte of the string at p if it stands for itself, or 256.
-pub fn plain_first(s: &[u8], p: usize) -> u32
-    ensures { result < 256 → Bare result ≡ piece_at s.now p }
+// The first byte of the string at p, if it stands for itself.
+pub fn plain_first(s: &[u8], p: usize) -> Option<u8>
+    ensures { IfSome result (λ b. Bare b ≡ piece_at s.now p) }
 {
-    let b = byte_at(s, p);
-    if b == 0x22 {
-        return 256;
+    let b = *s.get(p)?;
+    if b == 0x22 || b == 0x5C {
+        return None;
     }
-    if b == 0x5C {
-        return 256;
-    }
-    b
+    Some(b)
 }
 
-// Whether no name at `from` can be a string that begins with b, its plain first byte. Where b is 256, any can.
-pub fn first_differs(names: &[u8], from: usize, b: u32) -> bool
-    ensures { result ≡ true → (s : List ℕ) (p n : ℕ) → (b < 256 → Bare b ≡ piece_at s p) → same_bytes (take n (drop from names.now)) (denoted s p) ≡ false }
+// Whether no name at `from` can be a string whose plain first byte is b. Where there is no such byte, any can.
+pub fn first_differs(names: &[u8], from: usize, b: Option<u8>) -> bool
+    ensures { result ≡ true → (s : List ℕ) (p n : ℕ) → IfSome b (λ b. Bare b ≡ piece_at s p) → same_bytes (take n (drop from names.now)) (denoted s p) ≡ false }
 {
-    if 256 <= b {
-        return false;
+    match b {
+        None => false,
+        Some(b) => byte_at(names, from) != u32::from(b),
     }
-    byte_at(names, from) != b
 }
 
 // Whether the string at p denotes the name that stands in `names` at `from`, len bytes long.
@@ -258,6 +245,7 @@ fn copy_rest(s: &[u8], p: usize, pool: &mut [u8], j: usize) -> usize
 {
     let mut i = p;
     let mut n = 0;
+    // An escape is longer than one byte: the step varies.
     while i < s.len() {
         let b = s[i];
         if b == 0x22 {
@@ -265,11 +253,10 @@ fn copy_rest(s: &[u8], p: usize, pool: &mut [u8], j: usize) -> usize
         }
         if b == 0x5C {
             let e = escape(s, i + 1);
-            let u = encoded(e.code);
-            let bytes = u.bytes;
-            let len = u.len;
-            put_all(pool, j + n, &bytes[..len]);
-            n += len;
+            let mut four = [0u8; 4];
+            let bytes = encoded(e.code, &mut four);
+            put_all(pool, j + n, bytes);
+            n += bytes.len();
             i = e.next;
         } else {
             put(pool, j + n, b);
@@ -294,10 +281,9 @@ pub fn copy(s: &[u8], p: usize, pool: &mut [u8], j: usize) -> Copied
     ensures from_value { string_end s.now result.from ≡ string_end s.now p }
     ensures pool_after { pool.new ≡ sets pool.old j (denoted s.now p) }
 {
-    let mut i = p;
-    let mut n = 0;
-    while i < s.len() {
+    for i in p..s.len() {
         let b = s[i];
+        let n = i - p;
         if b == 0x22 {
             return Copied { count: n, from: i };
         }
@@ -309,8 +295,9 @@ pub fn copy(s: &[u8], p: usize, pool: &mut [u8], j: usize) -> Copied
             };
         }
         put(pool, j + n, b);
-        n += 1;
-        i += 1;
     }
-    Copied { count: n, from: i }
+    Copied {
+        count: s.len().saturating_sub(p),
+        from: p.max(s.len()),
+    }
 }

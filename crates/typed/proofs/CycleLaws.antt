@@ -1,33 +1,29 @@
 -- The readers of the cycle, by the facts that the code has at each call and return. Assumes nothing.
 use mathlib.Core.Path.{◌≡◌, refl, sym, subst, ◌∙◌}
-use mathlib.Core.List.{List}
+use mathlib.Core.List.{List, [], ◌∷◌}
 use mathlib.Core.Bool.{Bool, true, false}
-use mathlib.Core.Option.{Option, none, some}
-use Prim.Native.Nat.{ℕ, ◌+◌, ◌-◌, ◌^◌, ◌<◌, ◌≤◌}
+use Rattle.std.specs.Prelude.{Option, None, Some, Ok, Err}
+use Prim.Native.Nat.{ℕ, ◌+◌, ◌-◌, ◌^◌, ◌<◌, ◌≤◌, ◌*◌}
 use native.Mathlib.Omega.{arith}
 use lib.Count.{ones}
 use lib.Dec.{eqb}
 use lib.ListN.{length}
+use lib.Seq.{sets}
 use Rattle.jer.specs.declared.Cause.{Cause}
 use Rattle.jer.specs.declared.Cause.TheVariants.{Unknown}
 use Rattle.jer.specs.declared.Refusal.{Refusal}
-use Rattle.jer.specs.declared.Refusal.TheVariants.{AtByte}
 use Rattle.jer.specs.Table.{Table, is_type, element_of, count_of, kind_of, SEQUENCE}
 use Rattle.jer.specs.Value.{Val, v_seq, v_list, Vals, Parts}
 use Rattle.jer.specs.Answer.{Res, ok, no, bind, at}
 use Rattle.places.specs.declared.Follows.{Follows}
 use Rattle.places.specs.declared.Follows.TheVariants.{Part, Shut}
-use Rattle.places.specs.declared.One.{One}
-use Rattle.places.specs.declared.One.TheVariants as one
 use Rattle.places.specs.ByPlaces.{Got, got, Reader, value_place, first_part, one_at, items_at, list_at, elements_at, array_at, surplus_at, within}
-use Rattle.types.specs.Rows.{found_of}
 use Rattle.tokens.specs.Places.{byte_at, past_space}
 use Rattle.tokens.specs.Skip.{past_value}
 use Rattle.scan.proofs.PartLaws.{first-inside}
-use Rattle.types.specs.declared.token.Found.TheVariants.{At, Nothing}
-use Rattle.leaf.specs.declared.Step.{Step}
-use Rattle.leaf.specs.declared.Step.TheVariants.{Read, Refused}
-use Rattle.typed.specs.Cycle.{Given, Reads, Small, ArrayEnd, stops, closes}
+use Rattle.leaf.specs.declared.Taken.{Taken}
+use Rattle.leaf.specs.Step.{Step, taken, refused_at}
+use Rattle.typed.specs.Cycle.{Given, Reads, Small, bounded}
 use Rattle.typed.proofs.StoredLaws.{Took, took, not-took, reads-no, along, closed, whole_seq}
 use Rattle.typed.proofs.ListLaws.{Near}
 use Rattle.typed.proofs.SequenceLaws.{Elements, elements-end, elements-surplus, surplus-near}
@@ -41,12 +37,12 @@ pub record Passed (t : Table) (r : ℕ) (x : Res (Got Val)) (b y a m : ℕ) : Ty
   pub few_bytes : m < 2 ^ 32
 
 module _ {z : Step} {rows₁ rows₀ pool₁ pool₀ : List ℕ} {i o b : ℕ} {t : Table} {r : ℕ} {x : Res (Got Val)} (f : Reads z rows₁ rows₀ pool₁ pool₀ i o b t r x) where
-  pub passed : {y a m : ℕ} → z ≡ Read y a m → Passed t r x b y a m
-  passed {y} {a} {m} e =
-      let s : Small b (Read y a m) = subst (Small b) e f.small in
-      record { took = took t r x y a m (sym e ∙ f.stepped.answer); near = s.0; few_rows = s.1; few_bytes = s.2 }
+  pub passed : {y : Taken} → z ≡ Ok y → Passed t r x b y.next y.rows y.pool
+  passed {y} e =
+      let s : Small b (Ok y) = subst (Small b) e f.small in
+      record { took = took t r x y (sym e ∙ f.stepped.answer); near = s.0; few_rows = s.1; few_bytes = s.2 }
 
-  pub failed : {e : Refusal} → z ≡ Refused e → x ≡ no e
+  pub failed : {e : Refusal} → z ≡ Err e → x ≡ no e
   failed {e} h = not-took t r x e (sym h ∙ f.stepped.answer)
 
 -- ---- what a reader is given
@@ -95,59 +91,50 @@ module _ (value : Reader) (t : Table) (s : List ℕ) (r p : ℕ) where
     unfolding array_at bind
     array-no e = rw (← e)
 
-    -- the array's own row, after its last member
-    pub array-end : {f : Follows} {i o n m k bits a b y : ℕ} {z : Step} {rows₂ rows₁ rows₀ pool₁ pool₀ : List ℕ}
-        → Elements value d t s r p (elements_at value d t s r p 0 (count_of t r) (first_part s 0x5D p)) f i o n m k bits rows₁ rows₀ pool₁ pool₀
-        → count_of t r ≤ k → kind_of t r ≡ SEQUENCE → a ≡ ones bits → length s ≤ 65536 → 65537 ≤ b → b ≤ y → Near b f
-        → ArrayEnd z rows₂ rows₁ i a n m (surplus_at d t s r f) → Reads z rows₂ rows₀ pool₁ pool₀ i o y t r (bind (array_at value d t s r p) (within t r))
-    array-end w l h e short far far' near (stops u v) = rw v (reads-no (over_no t r (array-no (elements-surplus value d t s r p w l u))))
-    array-end {f} {b = b} w l h e short far far' near (closes {q} u v st) =
-        along (over-ok t r (array_ok (elements-end value d t s r p w l u))) (closed (whole_seq w.done.sofar h w.done.members (e ∙ w.done.count)) (omega (arith, surplus-near d t s r b q f short far near u)) v st)
+    module _ {f : Follows} {i o n m k bits : ℕ} {rows₁ rows₀ pool₁ pool₀ : List ℕ}
+        (w : Elements value d t s r p (elements_at value d t s r p 0 (count_of t r) (first_part s 0x5D p)) f i o n m k bits rows₁ rows₀ pool₁ pool₀) (l : count_of t r ≤ k) where
+      -- an array with surplus elements, refused
+      pub array-surplus : {e : Refusal} → Err e ≡ surplus_at d t s r f → no e ≡ array_at value d t s r p
+      array-surplus u = array-no (elements-surplus value d t s r p w l u)
 
--- ---- what was looked for
-
-pub found_some : (x : Option ℕ) {i : ℕ} → At i ≡ found_of x → x ≡ some i
-unfolding found_of
-found_some none e = absurd (let z : ◌≡◌ {A = ℕ} 0 1 = cc in omega arith)
-found_some (some j) e = cc
-
-pub found_none : (x : Option ℕ) → Nothing ≡ found_of x → x ≡ none
-unfolding found_of
-found_none none e = refl
-found_none (some j) e = absurd (let z : ◌≡◌ {A = ℕ} 0 1 = cc in omega arith)
+      -- the array's own row, after its last member
+      pub array-end : {a b y q : ℕ} {z : Step} {rows₂ : List ℕ} → kind_of t r ≡ SEQUENCE → a ≡ ones bits → length s ≤ 65536 → 65537 ≤ b → b ≤ y → Near b f → Ok q ≡ surplus_at d t s r f
+          → z ≡ bounded (taken q (n + 1) m) → (n + 1 < 2 ^ 32 → rows₂ ≡ sets rows₁ (i * 4) (SEQUENCE ∷ a ∷ 0 ∷ (n + 1) ∷ [])) → Reads z rows₂ rows₀ pool₁ pool₀ i o y t r (bind (array_at value d t s r p) (within t r))
+      array-end {b = b} {q = q} h e short far far' near u v st =
+          along (over-ok t r (array_ok (elements-end value d t s r p w l u))) (closed (whole_seq w.done.sofar h w.done.members (e ∙ w.done.count)) (omega (arith, surplus-near d t s r b q f short far near u)) v st)
 
 -- ---- along an equation of rows, and refusals by a test
 
 pub at_row : {z : Step} {rows₁ rows₀ pool₁ pool₀ : List ℕ} {i o b : ℕ} {t : Table} {r e : ℕ} (value : Reader) (q : ℕ) → r ≡ e → Reads z rows₁ rows₀ pool₁ pool₀ i o b t r (value r q) → Reads z rows₁ rows₀ pool₁ pool₀ i o b t e (value e q)
 at_row {z} {rows₁} {rows₀} {pool₁} {pool₀} {i} {o} {b} {t} value q e f = subst (λ (u : ℕ). Reads z rows₁ rows₀ pool₁ pool₀ i o b t u (value u q)) e f
 
-module _ {z : Step} {rows₁ rows₀ pool₁ pool₀ : List ℕ} {i o b : ℕ} {t : Table} {r : ℕ} {y : Res (Got Val)} (c : Cause) (p q : ℕ) (x : Bool) (e : z ≡ elim x as (λ b. Step) [ true ↦ Refused (AtByte Unknown p) | false ↦ Refused (AtByte c q) ]) where
+module _ {z : Step} {rows₁ rows₀ pool₁ pool₀ : List ℕ} {i o b : ℕ} {t : Table} {r : ℕ} {y : Res (Got Val)} (c : Cause) (p q : ℕ) (x : Bool) (e : z ≡ elim x as (λ b. Step) [ true ↦ refused_at Unknown p | false ↦ refused_at c q ]) where
   pub unknown-reads : elim x as (λ b. Res (Got Val)) [ true ↦ at Unknown p | false ↦ at c q ] ≡ y → Reads z rows₁ rows₀ pool₁ pool₀ i o b t r y
   unknown-reads h = go x e h
     where
-      go : (x : Bool) → z ≡ elim x as (λ b. Step) [ true ↦ Refused (AtByte Unknown p) | false ↦ Refused (AtByte c q) ] → elim x as (λ b. Res (Got Val)) [ true ↦ at Unknown p | false ↦ at c q ] ≡ y → Reads z rows₁ rows₀ pool₁ pool₀ i o b t r y
-      go true e h = rw e (reads-no h)
-      go false e h = rw e (reads-no h)
+      go : (x : Bool) → z ≡ elim x as (λ b. Step) [ true ↦ refused_at Unknown p | false ↦ refused_at c q ] → elim x as (λ b. Res (Got Val)) [ true ↦ at Unknown p | false ↦ at c q ] ≡ y → Reads z rows₁ rows₀ pool₁ pool₀ i o b t r y
+      go true e h = reads-no e h
+      go false e h = reads-no e h
 
   pub unknown-over : elim x as (λ b. Res (Got Val)) [ true ↦ at Unknown p | false ↦ at c q ] ≡ y → Reads z rows₁ rows₀ pool₁ pool₀ i o b t r (bind y (within t r))
   unknown-over h = go x e h
     where
-      go : (x : Bool) → z ≡ elim x as (λ b. Step) [ true ↦ Refused (AtByte Unknown p) | false ↦ Refused (AtByte c q) ] → elim x as (λ b. Res (Got Val)) [ true ↦ at Unknown p | false ↦ at c q ] ≡ y → Reads z rows₁ rows₀ pool₁ pool₀ i o b t r (bind y (within t r))
-      go true e h = rw e (reads-no (over_no t r h))
-      go false e h = rw e (reads-no (over_no t r h))
+      go : (x : Bool) → z ≡ elim x as (λ b. Step) [ true ↦ refused_at Unknown p | false ↦ refused_at c q ] → elim x as (λ b. Res (Got Val)) [ true ↦ at Unknown p | false ↦ at c q ] ≡ y → Reads z rows₁ rows₀ pool₁ pool₀ i o b t r (bind y (within t r))
+      go true e h = reads-no e (over_no t r h)
+      go false e h = reads-no e (over_no t r h)
 
 pub at_place : {z : Step} {rows₁ rows₀ pool₁ pool₀ : List ℕ} {i o b : ℕ} {t : Table} {r e p q : ℕ} (value : Reader) → r ≡ e → p ≡ q → Reads z rows₁ rows₀ pool₁ pool₀ i o b t r (value r p) → Reads z rows₁ rows₀ pool₁ pool₀ i o b t e (value e q)
 at_place {z} {rows₁} {rows₀} {pool₁} {pool₀} {i} {o} {b} {t} {r} {e} {p} {q} value h k f = subst (λ (u : ℕ). Reads z rows₁ rows₀ pool₁ pool₀ i o b t e (value e u)) k (at_row value p h f)
 
 -- the name of the one member of an object
-pub one-near : (d : ℕ) (s : List ℕ) (p : ℕ) {q : ℕ} → length s ≤ 65536 → p < length s → one.At q ≡ one_at d s (first_part s 0x7D p) → q ≤ 65536
+pub one-near : (d : ℕ) (s : List ℕ) (p : ℕ) {q : ℕ} → length s ≤ 65536 → p < length s → Some q ≡ one_at d s (first_part s 0x7D p) → q ≤ 65536
 unfolding one_at
 one-near d s p {q} l h e = go (first_part s 0x7D p) refl e
   where
-    go : (f : Follows) → first_part s 0x7D p ≡ f → one.At q ≡ one_at d s f → q ≤ 65536
+    go : (f : Follows) → first_part s 0x7D p ≡ f → Some q ≡ one_at d s f → q ≤ 65536
     go (Shut y) w e = absurd (let z : ◌≡◌ {A = ℕ} 0 1 = cc in omega arith)
     go (Part y) w e = go₂ (eqb (byte_at s (past_space s (past_value d s (value_place s y)))) 0x2C) e
       where
-        go₂ : (b : Bool) → one.At q ≡ elim b as (λ x. One) [ true ↦ one.NotOne | false ↦ one.At y ] → q ≤ 65536
+        go₂ : (b : Bool) → Some q ≡ elim b as (λ x. Option ℕ) [ true ↦ None | false ↦ Some y ] → q ≤ 65536
         go₂ true e = absurd (let z : ◌≡◌ {A = ℕ} 0 1 = cc in omega arith)
         go₂ false e = let z : q ≡ y = cc in omega (arith, first-inside s 0x7D p y h w)

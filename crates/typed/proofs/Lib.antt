@@ -1,5 +1,4 @@
 -- Laws of the definitions in the form that the code's proofs cite.
-pub mod FoundLaws
 pub mod StoredLaws
 pub mod ListLaws
 pub mod SequenceLaws

@@ -13,8 +13,7 @@ use Rattle.places.specs.declared.Follows.{Follows}
 use Rattle.places.specs.declared.Follows.TheVariants.{Part, Shut}
 use Rattle.places.specs.ByPlaces.{Got, got, follows_at, after_part, first_part, with_item, items_at}
 use Rattle.scan.proofs.PartLaws.{first-inside, after-inside, first-within, after-within}
-use Rattle.leaf.specs.declared.Step.{Step}
-use Rattle.leaf.specs.Step.{Stepped}
+use Rattle.leaf.specs.Step.{Step, Stepped}
 use Rattle.typed.proofs.StoredLaws.{Took, Items, items-start, items_more_lem, Sofar, sofar-start, sofar-more, no_rows}
 
 -- ---- what follows is near

@@ -2,7 +2,7 @@
 use mathlib.Core.Path.{◌≡◌, refl, sym, ap, subst, ◌∙◌}
 use mathlib.Core.List.{List, [], ◌∷◌}
 use mathlib.Core.Bool.{Bool, true, false, ◌&&◌, not}
-use mathlib.Core.Option.{Option, none, some}
+use Rattle.std.specs.Prelude.{Option, None, Some, Result, Ok, Err}
 use Prim.Native.Nat.{ℕ, zero, suc, ◌+◌, ◌-◌, ◌*◌, ◌^◌, ◌<◌, ◌≤◌}
 use native.Mathlib.Numerals.{add-one}
 use native.Mathlib.Omega.{arith}
@@ -26,17 +26,15 @@ use Rattle.tokens.specs.Skip.{is_end, is_between, is_closing, past_word, past_be
 use Rattle.tokens.proofs.PlaceLaws.{inside}
 use Rattle.places.specs.declared.Follows.{Follows}
 use Rattle.places.specs.declared.Follows.TheVariants.{Part, Shut}
-use Rattle.places.specs.declared.Ended.TheVariants.{Closed, Stopped}
 use Rattle.places.specs.declared.Scanned.{Scanned}
 use Rattle.places.specs.declared.Member.{Member}
 use Rattle.places.specs.declared.Member.TheVariants as member
 use Rattle.places.specs.declared.Element.{Element}
 use Rattle.places.specs.declared.Element.TheVariants as element
-use Rattle.places.specs.ByPlaces.{Got, got, ending, Reader, follows_at, after_part, is_null_at, got_absent, got_present, surplus_at, no_more, element_found, element_then, elements_at, bit_of, with_bit, value_place, scanned, scan_at, member_found, member_then, no_places, object_at, first_part, members_at, after_scan}
+use Rattle.places.specs.ByPlaces.{Got, got, ending, Reader, follows_at, after_part, is_null_at, got_absent, got_present, surplus_at, no_more, element_found, element_then, elements_at, bit_of, with_bit, value_place, scan_at, member_found, member_then, no_places, object_at, first_part, members_at, after_scan}
 use Rattle.scan.proofs.WithinLaws.{run-within, value-within}
 use Rattle.scan.proofs.NameLaws.{place-within}
-use Rattle.leaf.specs.declared.Step.{Step}
-use Rattle.leaf.specs.Step.{Stepped}
+use Rattle.leaf.specs.Step.{Step, Stepped}
 use Rattle.typed.proofs.StoredLaws.{Took, Members, members-start, members-gap, members-more, Sofar, sofar-start, sofar-gap, sofar-more, no_rows, ones-zero, ones_with, with_low, more-low}
 use Rattle.typed.proofs.ListLaws.{Near, near-after, bind-bind, bind-got}
 
@@ -152,11 +150,11 @@ module _ (value : Reader) (d : ℕ) (t : Table) (s : List ℕ) (r p : ℕ) where
       unfolding elements_at
       last = let z : count_of t r - k ≡ 0 = omega arith in rw z at w.inv
 
-      pub elements-end : {q : ℕ} → Closed q ≡ surplus_at d t s r f → ok (got (w.acc pnil) q) ≡ X
+      pub elements-end : {q : ℕ} → Ok q ≡ surplus_at d t s r f → ok (got (w.acc pnil) q) ≡ X
       unfolding no_more bind
       elements-end e = rw (← e) at last
 
-      pub elements-surplus : {y : Refusal} → Stopped y ≡ surplus_at d t s r f → no y ≡ X
+      pub elements-surplus : {y : Refusal} → Err y ≡ surplus_at d t s r f → no y ≡ X
       unfolding no_more bind
       elements-surplus e = rw (← e) at last
 
@@ -218,14 +216,15 @@ module _ (value : Reader) (t : Table) (s : List ℕ) (r p met : ℕ) (places : L
     unfolding members_at bind
     order_end l = let z : count_of t r - k ≡ 0 = omega arith in rw z at w.inv
 
-  -- an object whose names are good
-  pub object-ok : {q : ℕ} {ps : Parts} → ok ps ≡ members_at value t s r p met places 0 (count_of t r) → ok (got (v_seq ps) q) ≡ after_scan value t s r p (scanned (Closed q) met places)
+-- an object whose names are good
+module _ (value : Reader) (t : Table) (s : List ℕ) (r p : ℕ) (x : Scanned) where
+  pub object-ok : {ps : Parts} → ok ps ≡ members_at value t s r p x.met x.places 0 (count_of t r) → ok (got (v_seq ps) x.next) ≡ after_scan value t s r p (Ok x)
   unfolding after_scan ending bind
   object-ok e = rw (← e)
 
-  pub object-no : (q : ℕ) {y : Refusal} → no y ≡ members_at value t s r p met places 0 (count_of t r) → no y ≡ after_scan value t s r p (scanned (Closed q) met places)
+  pub object-no : {y : Refusal} → no y ≡ members_at value t s r p x.met x.places 0 (count_of t r) → no y ≡ after_scan value t s r p (Ok x)
   unfolding after_scan ending bind
-  object-no q e = rw (← e)
+  object-no e = rw (← e)
 
 -- ---- places
 
@@ -243,7 +242,7 @@ parts-near s m l v w (suc n) p h =
     (λ e. let i = inside s (past_between s p) (eqb-false (byte_at s (past_between s p)) 256 e) in
     branch (λ q. q ≤ m) (is_closing (byte_at s (past_between s p))) (λ f. omega arith) (λ f. parts-near s m l v w n (v (past_between s p)) (w (past_between s p) b)))
 
-pub surplus-near : (d : ℕ) (t : Table) (s : List ℕ) (r b q : ℕ) (f : Follows) → length s ≤ 65536 → 65537 ≤ b → Near b f → Closed q ≡ surplus_at d t s r f → q ≤ b
+pub surplus-near : (d : ℕ) (t : Table) (s : List ℕ) (r b q : ℕ) (f : Follows) → length s ≤ 65536 → 65537 ≤ b → Near b f → Ok q ≡ surplus_at d t s r f → q ≤ b
 unfolding surplus_at
 surplus-near d t s r b q (Shut y) l h n e = let z : q ≡ y = cc in omega arith
 surplus-near d t s r b q (Part y) l h n e =
@@ -253,17 +252,15 @@ surplus-near d t s r b q (Part y) l h n e =
     (λ x k. absurd (let z : ◌≡◌ {A = ℕ} 0 1 = cc in omega arith)) (sym e)
 
 -- where a scan ends
-abbrev Ends : ℕ → Scanned → Type 0
-Ends b x = (q : ℕ) → Closed q ≡ x.end → q ≤ b
-
-stopped_ends : {b : ℕ} (z : Refusal) (met : ℕ) (places : List ℕ) → Ends b (scanned (Stopped z) met places)
-stopped_ends z met places q e = absurd (let z : ◌≡◌ {A = ℕ} 0 1 = cc in omega arith)
+abbrev pub Ends : ℕ → Result Scanned Refusal → Type 0
+Ends b (Ok x) = x.next ≤ b
+Ends b (Err e) = Unit {0}
 
 pub scan_near : (d : ℕ) (t : Table) (s : List ℕ) (r b : ℕ) → length s ≤ 65536 → 65540 ≤ b → (n : ℕ) (f : Follows) (met : ℕ) (places : List ℕ) → Near b f → Ends b (scan_at d t s r n f met places)
 unfolding scan_at follows_at
-scan_near d t s r b l h zero (Shut y) met places w = λ q e. let z : y ≡ q = cc in rw (← z) w
-scan_near d t s r b l h zero (Part y) met places w = λ q e. let z : y ≡ q = cc in omega arith
-scan_near d t s r b l h (suc n) (Shut y) met places w = λ q e. let z : y ≡ q = cc in rw (← z) w
+scan_near d t s r b l h zero (Shut y) met places w = w
+scan_near d t s r b l h zero (Part y) met places w = omega arith
+scan_near d t s r b l h (suc n) (Shut y) met places w = w
 scan_near d t s r b l h (suc n) (Part y) met places w = go (λ u us. scan_near d t s r b l h n (after_part s (past_value d s (value_place s y))) u us next) (position t r (denoted s (y + 1)))
   where
     next : Near b (after_part s (past_value d s (value_place s y)))
@@ -271,12 +268,12 @@ scan_near d t s r b l h (suc n) (Part y) met places w = go (λ u us. scan_near d
         let v = value-within s 65539 (omega arith) d (value_place s y) (omega (arith, place-within s y 65537 (omega arith) (omega arith))) in
         near-after s (past_value d s (value_place s y)) b (after_part s (past_value d s (value_place s y))) l (omega arith) (omega arith) refl
 
-    go : ((u : ℕ) (us : List ℕ) → Ends b (scan_at d t s r n (after_part s (past_value d s (value_place s y))) u us)) → (c : Option ℕ) → Ends b (elim c as (λ z. Scanned) [
-      | none ↦ elim (extensible t r) as (λ z. Scanned) [ true ↦ scan_at d t s r n (after_part s (past_value d s (value_place s y))) met places | false ↦ scanned (Stopped (AtByte UnknownName y)) met places ]
-      | some i ↦ elim (bit_of met i) as (λ z. Scanned) [ true ↦ scanned (Stopped (AtByte RepeatedName y)) met places | false ↦ scan_at d t s r n (after_part s (past_value d s (value_place s y))) (with_bit met i) (set places i (value_place s y)) ]
+    go : ((u : ℕ) (us : List ℕ) → Ends b (scan_at d t s r n (after_part s (past_value d s (value_place s y))) u us)) → (c : Option ℕ) → Ends b (elim c as (λ z. Result Scanned Refusal) [
+      | None ↦ elim (extensible t r) as (λ z. Result Scanned Refusal) [ true ↦ scan_at d t s r n (after_part s (past_value d s (value_place s y))) met places | false ↦ Err (AtByte UnknownName y) ]
+      | Some i ↦ elim (bit_of met i) as (λ z. Result Scanned Refusal) [ true ↦ Err (AtByte RepeatedName y) | false ↦ scan_at d t s r n (after_part s (past_value d s (value_place s y))) (with_bit met i) (set places i (value_place s y)) ]
     ])
-    go ih none = branch (Ends b) (extensible t r) (λ z. ih met places) (λ z. stopped_ends (AtByte UnknownName y) met places)
-    go ih (some i) = branch (Ends b) (bit_of met i) (λ z. stopped_ends (AtByte RepeatedName y) met places) (λ z. ih (with_bit met i) (set places i (value_place s y)))
+    go ih None = branch (Ends b) (extensible t r) (λ z. ih met places) (λ z. tt)
+    go ih (Some i) = branch (Ends b) (bit_of met i) (λ z. tt) (λ z. ih (with_bit met i) (set places i (value_place s y)))
 
 -- after an absent element
 pub near-absent : (t : Table) (s : List ℕ) (r k b : ℕ) (f u : Follows) → length s ≤ 65536 → 65537 ≤ b → Near b f → element.Absent u ≡ element_found t s r k f → Near b u
@@ -303,14 +300,13 @@ there-place t s r k b p {q} e = go b e
 -- ---- an object, by its scan
 
 module _ (value : Reader) (d : ℕ) (t : Table) (s : List ℕ) (r p : ℕ) where
-  module _ {x : Scanned} where
-    pub object-scanned : {q : ℕ} → x.end ≡ Closed q → x ≡ scan_at d t s r (length s) (first_part s 0x7D p) 0 no_places → after_scan value t s r p (scanned (Closed q) x.met x.places) ≡ object_at value d t s r p
-    unfolding object_at
-    object-scanned h e = rw (← h) (ap (after_scan value t s r p) e)
+  pub object-scanned : {x : Result Scanned Refusal} → x ≡ scan_at d t s r (length s) (first_part s 0x7D p) 0 no_places → after_scan value t s r p x ≡ object_at value d t s r p
+  unfolding object_at
+  object-scanned e = ap (after_scan value t s r p) e
 
-    pub object_stopped : {y : Refusal} → x.end ≡ Stopped y → x ≡ scan_at d t s r (length s) (first_part s 0x7D p) 0 no_places → no y ≡ object_at value d t s r p
-    unfolding object_at after_scan
-    object_stopped h e = rw (← e, h, after_scan)
+  pub object_stopped : {y : Refusal} → Err y ≡ scan_at d t s r (length s) (first_part s 0x7D p) 0 no_places → no y ≡ object_at value d t s r p
+  unfolding object_at after_scan
+  object_stopped e = rw (← e, after_scan)
 
 -- ---- an element that is there
 

@@ -23,9 +23,9 @@ use Rattle.jer.specs.Rows.{ValueRow, row, absent_row, numbers, above, rows_of, i
 use Rattle.jer.proofs.WeightMeasure.{rows-length}
 use Rattle.slices.proofs.PartLaws.{sets_append}
 use Rattle.places.specs.ByPlaces.{Got, got, within, with_bit}
-use Rattle.leaf.specs.declared.Step.{Step}
-use Rattle.leaf.specs.declared.Step.TheVariants.{Read, Refused}
-use Rattle.leaf.specs.Step.{step_of, RowsStored, PoolStored, Stepped}
+use Rattle.std.specs.Prelude.{Ok, Err}
+use Rattle.leaf.specs.declared.Taken.{Taken}
+use Rattle.leaf.specs.Step.{Step, taken, step_of, RowsStored, PoolStored, Stepped}
 use Rattle.leaf.proofs.StoreLaws.{rows-after, own_row}
 use Rattle.typed.specs.Cycle.{Reads, bounded}
 
@@ -38,11 +38,13 @@ pub record Took (t : Table) (r : ℕ) (x : Res (Got Val)) (y a b : ℕ) : Type 0
   pub many : length (rows_of g.value t r 0) ≡ a
   pub long : length (pool_of g.value) ≡ b
 
-pub took : (t : Table) (r : ℕ) (x : Res (Got Val)) (y a b : ℕ) → Read y a b ≡ step_of t r x → Took t r x y a b
-took t r (ok g) y a b h = record { g = g; is = refl; next = cc; many = cc; long = cc }
-took t r (no e) y a b h = absurd (let z : ◌≡◌ {A = ℕ} 0 1 = cc in omega arith)
+pub took : (t : Table) (r : ℕ) (x : Res (Got Val)) (y : Taken) → Ok y ≡ step_of t r x → Took t r x y.next y.rows y.pool
+took t r (ok g) y h =
+    let e : taken g.next (length (rows_of g.value t r 0)) (length (pool_of g.value)) ≡ y = cc in
+    record { g = g; is = refl; next = ap (λ (z : Taken). z.next) e; many = ap (λ (z : Taken). z.rows) e; long = ap (λ (z : Taken). z.pool) e }
+took t r (no e) y h = absurd (let z : ◌≡◌ {A = ℕ} 0 1 = cc in omega arith)
 
-pub not-took : (t : Table) (r : ℕ) (x : Res (Got Val)) (e : Refusal) → Refused e ≡ step_of t r x → x ≡ no e
+pub not-took : (t : Table) (r : ℕ) (x : Res (Got Val)) (e : Refusal) → Err e ≡ step_of t r x → x ≡ no e
 not-took t r (ok g) e h = absurd (let z : ◌≡◌ {A = ℕ} 0 1 = cc in omega arith)
 not-took t r (no f) e h = let w : f ≡ e = cc in rw w
 
@@ -244,12 +246,12 @@ module _ {t : Table} {r kind a n m i o : ℕ} {v : Val} {rows₁ rows₀ pool₁
       ∙ ap (λ (ws : List ValueRow). sets rows₀ (i * 4) (numbers ws)) (ap (λ (u : ℕ). row kind a 0 u ∷ f.parts o) (let w : n + 1 ≡ suc (length (f.parts o)) = omega (arith, f.many o) in w) ∙ sym (f.above o))
 
   -- its own row is stored after those of its parts
-  pub closed : {q b : ℕ} {z : Step} {rows₂ : List ℕ} → q ≤ b → z ≡ bounded (Read q (n + 1) m) → (n + 1 < 2 ^ 32 → rows₂ ≡ sets rows₁ (i * 4) (kind ∷ a ∷ 0 ∷ (n + 1) ∷ [])) → Reads z rows₂ rows₀ pool₁ pool₀ i o b t r (within t r (got v q))
+  pub closed : {q b : ℕ} {z : Step} {rows₂ : List ℕ} → q ≤ b → z ≡ bounded (taken q (n + 1) m) → (n + 1 < 2 ^ 32 → rows₂ ≡ sets rows₁ (i * 4) (kind ∷ a ∷ 0 ∷ (n + 1) ∷ [])) → Reads z rows₂ rows₀ pool₁ pool₀ i o b t r (within t r (got v q))
   unfolding within bounded
   closed {q} {b} {z} {rows₂} l e s = rw (e, whole-many, f.long, within, bounded) (go (ltb (n + 1) (2 ^ 32)) (ltb m (2 ^ 32)) refl refl)
     where
       go : (x y : Bool) → ltb (n + 1) (2 ^ 32) ≡ x → ltb m (2 ^ 32) ≡ y
-          → Reads (elim (x && y) as (λ c. Step) [ true ↦ Read q (n + 1) m | false ↦ Refused (Amounts LentRoom (2 ^ 32) (2 ^ 32)) ]) rows₂ rows₀ pool₁ pool₀ i o b t r (elim (x && y) as (λ c. Res (Got Val)) [ true ↦ ok (got v q) | false ↦ no (Amounts LentRoom (2 ^ 32) (2 ^ 32)) ])
+          → Reads (elim (x && y) as (λ c. Step) [ true ↦ Ok (taken q (n + 1) m) | false ↦ Err (Amounts LentRoom (2 ^ 32) (2 ^ 32)) ]) rows₂ rows₀ pool₁ pool₀ i o b t r (elim (x && y) as (λ c. Res (Got Val)) [ true ↦ ok (got v q) | false ↦ no (Amounts LentRoom (2 ^ 32) (2 ^ 32)) ])
       go true true e₁ e₂ = record {
         stepped = record { answer = rw (whole-many, f.long); rows = λ h. whole-rows (omega (arith, f.long)) (s (ltb-true (n + 1) (2 ^ 32) e₁)); pool = λ h. f.pool (omega (arith, f.long)) };
         small = (l, ltb-true (n + 1) (2 ^ 32) e₁, ltb-true m (2 ^ 32) e₂);
@@ -264,5 +266,5 @@ module _ {z : Step} {rows₁ rows₀ pool₁ pool₀ : List ℕ} {i o b : ℕ} {
   along e h = subst (λ (w : Res (Got Val)). Reads z rows₁ rows₀ pool₁ pool₀ i o b t r w) e h
 
 -- a refusal stores nothing that is promised
-pub reads-no : {e : Refusal} {rows₁ rows₀ pool₁ pool₀ : List ℕ} {i o b : ℕ} {t : Table} {r : ℕ} {y : Res (Got Val)} → no e ≡ y → Reads (Refused e) rows₁ rows₀ pool₁ pool₀ i o b t r y
-reads-no e = along e record { stepped = record { answer = refl; rows = tt; pool = tt }; small = tt }
+pub reads-no : {z : Step} {e : Refusal} {rows₁ rows₀ pool₁ pool₀ : List ℕ} {i o b : ℕ} {t : Table} {r : ℕ} {y : Res (Got Val)} → z ≡ Err e → no e ≡ y → Reads z rows₁ rows₀ pool₁ pool₀ i o b t r y
+reads-no h e = rw h (along e record { stepped = record { answer = refl; rows = tt; pool = tt }; small = tt })

@@ -1,21 +1,17 @@
 -- What each reader of the cycle is given, and what it does; how a value is closed above its parts.
-use Rattle.std.specs.Prelude.{ℕ, zero, suc, ◌+◌, ◌-◌, ◌*◌, ◌^◌, ◌≤◌, ◌<◌, ◌≡◌, true, false, ◌&&◌, List, [], ◌∷◌, ltb, length}
-use Rattle.std.proofs.lemmas.List.Edits.{sets}
+use Rattle.jer.specs.declared.Token.{Token}
+use Rattle.std.specs.Prelude.{ℕ, zero, suc, ◌+◌, ◌-◌, ◌*◌, ◌^◌, ◌≤◌, ◌<◌, ◌≡◌, true, false, ◌&&◌, List, ltb, length, Ok, Err}
 use Rattle.jer.specs.declared.Limit.TheVariants.{LentRoom}
-use Rattle.jer.specs.declared.Refusal.{Refusal}
 use Rattle.jer.specs.declared.Refusal.TheVariants.{Amounts}
-use Rattle.jer.specs.Table.{Table, is_type, Token, SEQUENCE}
+use Rattle.jer.specs.Table.{Table, is_type}
 use Rattle.jer.specs.Value.{Val}
 use Rattle.jer.specs.Answer.{Res, bind}
 use Rattle.jer.specs.Sane.{Sane}
-use Rattle.places.specs.declared.Ended.{Ended}
-use Rattle.places.specs.declared.Ended.TheVariants.{Closed, Stopped}
 use Rattle.places.specs.declared.Scanned.{Scanned}
 use Rattle.places.specs.ByPlaces.{Got, Reader, shallow_at, bracket_at, read_at, token_at, list_at, array_at, object_at, choice_at, within, after_scan}
 use Rattle.slices.specs.Lent.{Shown, Lent, held, before, after, table_in}
-use Rattle.leaf.specs.declared.Step.{Step}
-use Rattle.leaf.specs.declared.Step.TheVariants.{Read, Refused}
-use Rattle.leaf.specs.Step.{Stepped}
+use Rattle.leaf.specs.declared.Taken.{Taken}
+use Rattle.leaf.specs.Step.{Step, Stepped}
 
 -- a good table, a type's row, a text and a place within the sizes; and room to count: each bracket adds less than 2^49 rows and bytes
 pub record Given (t : Table) (s : List ℕ) (row place slot offset depth : ℕ) : Type 0 where
@@ -32,8 +28,8 @@ limit p = p + (65539 - p)
 
 -- an answer whose numbers are small
 abbrev pub Small : ℕ → Step → Type 0
-Small b (Read q n m) = (q ≤ b) × (n < 2 ^ 32) × (m < 2 ^ 32)
-Small b (Refused e) = Unit {0}
+Small b (Ok x) = (x.next ≤ b) × (x.rows < 2 ^ 32) × (x.pool < 2 ^ 32)
+Small b (Err e) = Unit {0}
 
 -- what a reader of the cycle does: it reads x, and its answer is small
 pub record Reads (z : Step) (rows₁ rows₀ pool₁ pool₀ : List ℕ) (i o b : ℕ) (t : Table) (r : ℕ) (x : Res (Got Val)) : Type 0 where
@@ -45,15 +41,9 @@ unfoldable pub plain_at : ℕ → Table → List ℕ → Token → Reader
 plain_at zero t s k r p = shallow_at t s k r p
 plain_at (suc d) t s k r p = bracket_at (λ q u. read_at d t s q u) d t s k r p
 
--- `within` of `ByPlaces.antt`, of an answer
-unfoldable pub bounded : Step → Step
-bounded (Read q n m) = elim (ltb n (2 ^ 32) && ltb m (2 ^ 32)) [ true ↦ Read q n m | false ↦ Refused (Amounts LentRoom (2 ^ 32) (2 ^ 32)) ]
-bounded (Refused e) = Refused e
-
--- what closing an array after its last member does, by what is surplus: it is refused, or the array's own row is stored above n rows
-pub data ArrayEnd (z : Step) (rows₁ rows₀ : List ℕ) (i a n m : ℕ) (x : Ended) : Type 0 where
-  stops : {e : Refusal} → Stopped e ≡ x → z ≡ Refused e → ArrayEnd z rows₁ rows₀ i a n m x
-  closes : {q : ℕ} → Closed q ≡ x → z ≡ bounded (Read q (n + 1) m) → (n + 1 < 2 ^ 32 → rows₁ ≡ sets rows₀ (i * 4) (SEQUENCE ∷ a ∷ 0 ∷ (n + 1) ∷ [])) → ArrayEnd z rows₁ rows₀ i a n m x
+-- `within` of `ByPlaces.antt`, of what a value took
+unfoldable pub bounded : Taken → Step
+bounded x = elim (ltb x.rows (2 ^ 32) && ltb x.pool (2 ^ 32)) [ true ↦ Ok x | false ↦ Err (Amounts LentRoom (2 ^ 32) (2 ^ 32)) ]
 
 -- ---- what the members of the cycle read
 
@@ -84,7 +74,7 @@ object d t s r p = object_at (λ q u. inside d t s q u) (d - 1) t s r p
 
 -- the members of an object whose names are scanned
 abbrev pub members : Scanned → Way
-members x d t s r p = after_scan (λ q u. inside d t s q u) t s r p x
+members x d t s r p = after_scan (λ q u. inside d t s q u) t s r p (Ok x)
 
 abbrev pub choice : Way
 choice d t s r p = choice_at (λ q u. inside d t s q u) (d - 1) t s r p

@@ -1,25 +1,24 @@
 // The readers that call one another: each reads the value of the type at `row` from a place of the text on, and stores it from a slot of
 // the rows and an offset of the pool on; so many brackets may be open in it (`depth`).
 ghost use Rattle.std.specs.Prelude.{◌≡◌, ◌+◌, ◌-◌, ◌≤◌, ◌<◌, length};
-ghost use Rattle.jer.specs.Table.{token_code, kind_of, SEQUENCE, SEQUENCE-OF, CHOICE, table};
-ghost use Rattle.places.specs.declared.Ended.TheVariants.{Closed};
-ghost use Rattle.places.specs.ByPlaces.{token_at, read_at, scanned};
+ghost use Rattle.jer.specs.Table.{kind_of, SEQUENCE, SEQUENCE-OF, CHOICE, table};
+ghost use Rattle.places.specs.ByPlaces.{token_at, read_at};
 ghost use Rattle.typed.specs.Cycle.{Given, limit, counted, by_token, list, array, object, members, choice, ReadsAs};
 
-use crate::close::{bounded, close, close_array};
-use crate::members::{element_found, member_found, one_at, unknown};
-use jer::Cause;
+use crate::close::{bounded, close};
+use crate::members::{element_found, member_found, one_at, surplus, unknown};
+use jer::{Cause, Refusal, Token};
 use leaf::missing::missing;
 use leaf::store::{narrow, put_row};
-use leaf::{Step, leaf, refused};
-use places::{Element, Ended, Follows, Member, One};
+use leaf::{Taken, leaf, refused};
+use places::{Element, Follows, Member, Scanned};
 use scan::met::{bit, ones, with};
 use scan::names::{position, value_place};
 use scan::parts::{after_part, first_part, token_at};
 use scan::scan;
 use tokens::cursor::Cursor;
 use types::row::{Row, count_of, element_of, type_at, wide};
-use types::token::{ARRAY, Found, alternative};
+use types::token::alternative;
 
 // The row of an absent member.
 const ABSENT: u32 = 15;
@@ -36,7 +35,7 @@ pub fn value(
     slot: usize,
     offset: usize,
     depth: u32,
-) -> Step
+) -> Result<Taken, Refusal>
     requires { Given (table types.now names.now) s.now row place (slot + 1) offset depth }
     ensures { ReadsAs read_at types names s row place slot offset depth result rows pool }
 {
@@ -47,10 +46,10 @@ pub fn value(
         );
     }
     match alternative(types, row, token) {
-        Found::Nothing => unknown(types, row, place, Cause::OtherKind, place),
-        Found::At(k) => {
+        None => unknown(types, row, place, Cause::OtherKind, place),
+        Some(k) => {
             let m = type_at(types, row, k);
-            match plain(
+            let one = plain(
                 types,
                 names,
                 s,
@@ -62,10 +61,8 @@ pub fn value(
                 slot + 1,
                 offset,
                 depth,
-            ) {
-                Step::Refused(e) => Step::Refused(e),
-                Step::Read(next, n, b) => close(rows, slot, Row::CHOICE, k, n, b, next),
-            }
+            )?;
+            close(rows, slot, Row::CHOICE, k, one.rows, one.pool, one.next)
         }
     }
 }
@@ -79,39 +76,44 @@ fn plain(
     rows: &mut [u32],
     pool: &mut [u8],
     row: usize,
-    token: u32,
+    token: Token,
     place: usize,
     slot: usize,
     offset: usize,
     depth: u32,
-) -> Step
+) -> Result<Taken, Refusal>
     requires given { Given (table types.now names.now) s.now row place slot offset depth }
-    requires token_value { token ≡ token_code (token_at s.now place) }
+    requires token_value { token ≡ token_at s.now place }
     ensures { ReadsAs (counted by_token) types names s row place slot offset depth result rows pool }
 {
-    if token < ARRAY {
-        return bounded(leaf(types, names, s, rows, pool, row, token, place, slot, offset));
-    }
-    if depth == 0 {
-        return refused(Cause::TooDeep, place);
-    }
     let w = Row::at(types, row);
-    if token == ARRAY {
-        if w.kind == Row::SEQUENCE_OF {
-            return list(types, names, s, rows, pool, row, place, slot, offset, depth);
+    match token {
+        Token::Array => {
+            if depth == 0 {
+                return refused(Cause::TooDeep, place);
+            }
+            if w.kind == Row::SEQUENCE_OF {
+                return list(types, names, s, rows, pool, row, place, slot, offset, depth);
+            }
+            if w.is_array() {
+                return array(types, names, s, rows, pool, row, place, slot, offset, depth);
+            }
+            refused(Cause::OtherKind, place)
         }
-        if w.is_array() {
-            return array(types, names, s, rows, pool, row, place, slot, offset, depth);
+        Token::Object => {
+            if depth == 0 {
+                return refused(Cause::TooDeep, place);
+            }
+            if w.kind == Row::CHOICE {
+                return choice(types, names, s, rows, pool, row, place, slot, offset, depth);
+            }
+            if (w.kind == Row::SEQUENCE) & !w.is_array() {
+                return object(types, names, s, rows, pool, row, place, slot, offset, depth);
+            }
+            refused(Cause::OtherKind, place)
         }
-        return refused(Cause::OtherKind, place);
+        _ => bounded(leaf(types, names, s, rows, pool, row, token, place, slot, offset)?),
     }
-    if w.kind == Row::CHOICE {
-        return choice(types, names, s, rows, pool, row, place, slot, offset, depth);
-    }
-    if (w.kind == Row::SEQUENCE) & !w.is_array() {
-        return object(types, names, s, rows, pool, row, place, slot, offset, depth);
-    }
-    refused(Cause::OtherKind, place)
 }
 
 // SEQUENCE OF. A text has no more items than bytes.
@@ -127,7 +129,7 @@ fn list(
     slot: usize,
     offset: usize,
     depth: u32,
-) -> Step
+) -> Result<Taken, Refusal>
     requires given { Given (table types.now names.now) s.now row place slot offset depth }
     requires place_in_bounds { (place < length s.now) × (0 < depth) × (kind_of (table types.now names.now) row ≡ SEQUENCE-OF) }
     ensures { ReadsAs (counted list) types names s row place slot offset depth result rows pool }
@@ -137,6 +139,7 @@ fn list(
     let mut count: usize = 0;
     let mut n: usize = 0;
     let mut m: usize = 0;
+    // An item ends where its reading does: the step varies.
     loop {
         match next {
             Follows::Shut(q) => {
@@ -146,7 +149,7 @@ fn list(
                 if s.len() <= count {
                     return close(rows, slot, Row::SEQUENCE_OF, narrow(count), n, m, q);
                 }
-                match value(
+                let item = value(
                     types,
                     names,
                     s,
@@ -157,15 +160,11 @@ fn list(
                     slot + 1 + n,
                     offset + m,
                     depth - 1,
-                ) {
-                    Step::Refused(e) => return Step::Refused(e),
-                    Step::Read(end, a, b) => {
-                        next = after_part(s, end);
-                        count += 1;
-                        n += a;
-                        m += b;
-                    }
-                }
+                )?;
+                next = after_part(s, item.next);
+                count += 1;
+                n += item.rows;
+                m += item.pool;
             }
         }
     }
@@ -184,37 +183,32 @@ fn array(
     slot: usize,
     offset: usize,
     depth: u32,
-) -> Step
+) -> Result<Taken, Refusal>
     requires given { Given (table types.now names.now) s.now row place slot offset depth }
     requires place_in_bounds { (place < length s.now) × (0 < depth) × (kind_of (table types.now names.now) row ≡ SEQUENCE) }
     ensures { ReadsAs (counted array) types names s row place slot offset depth result rows pool }
 {
     let count = count_of(types, row);
     let mut next = first_part(s, 0x5D, place);
-    let mut k: u32 = 0;
     let mut present: u64 = 0;
     let mut n: usize = 0;
     let mut m: usize = 0;
-    while k < count {
+    for k in 0..count {
         match element_found(types, s, row, k, next) {
             Element::Absent(f) => {
                 put_row(rows, slot + 1 + n, ABSENT, 0, 0, 1);
                 next = f;
                 n += 1;
-                k += 1;
             }
-            Element::Missing(q) => match missing(types, rows, row, k, place, q, slot + 1 + n) {
-                Step::Refused(e) => return Step::Refused(e),
-                Step::Read(_, a, b) => {
-                    present = with(present, k);
-                    n += a;
-                    m += b;
-                    k += 1;
-                }
-            },
+            Element::Missing(q) => {
+                let null = missing(types, rows, row, k, place, q, slot + 1 + n)?;
+                present = with(present, k);
+                n += null.rows;
+                m += null.pool;
+            }
             Element::There(q) => {
                 let t = type_at(types, row, k);
-                match value(
+                let element = value(
                     types,
                     names,
                     s,
@@ -225,20 +219,16 @@ fn array(
                     slot + 1 + n,
                     offset + m,
                     depth - 1,
-                ) {
-                    Step::Refused(e) => return Step::Refused(e),
-                    Step::Read(end, a, b) => {
-                        next = after_part(s, end);
-                        present = with(present, k);
-                        n += a;
-                        m += b;
-                        k += 1;
-                    }
-                }
+                )?;
+                next = after_part(s, element.next);
+                present = with(present, k);
+                n += element.rows;
+                m += element.pool;
             }
         }
     }
-    close_array(types, s, rows, row, next, slot, ones(present), n, m, depth)
+    let end = surplus(types, s, row, next, depth)?;
+    close(rows, slot, Row::SEQUENCE, ones(present), n, m, end)
 }
 
 // A SEQUENCE as an object: its names in text order, then its members.
@@ -254,21 +244,15 @@ fn object(
     slot: usize,
     offset: usize,
     depth: u32,
-) -> Step
+) -> Result<Taken, Refusal>
     requires given { Given (table types.now names.now) s.now row place slot offset depth }
     requires place_in_bounds { (place < length s.now) × (0 < depth) × (kind_of (table types.now names.now) row ≡ SEQUENCE) }
     ensures { ReadsAs (counted object) types names s row place slot offset depth result rows pool }
 {
-    let found = scan(types, names, s, row, place, depth - 1);
-    let end = found.end;
-    let met = found.met;
-    let places = found.places;
-    match end {
-        Ended::Stopped(e) => Step::Refused(e),
-        Ended::Closed(next) => each_member(
-            types, names, s, rows, pool, places, met, row, place, next, slot, offset, depth,
-        ),
-    }
+    let found = scan(types, names, s, row, place, depth - 1)?;
+    each_member(
+        types, names, s, rows, pool, &found, row, place, slot, offset, depth,
+    )
 }
 
 // The members of the object at the place, in table order, wherever their values stand.
@@ -279,37 +263,32 @@ fn each_member(
     s: &[u8],
     rows: &mut [u32],
     pool: &mut [u8],
-    places: [u32; 64],
-    met: u64,
+    found: &Scanned,
     row: usize,
     place: usize,
-    next: usize,
     slot: usize,
     offset: usize,
     depth: u32,
-) -> Step
+) -> Result<Taken, Refusal>
     requires given { Given (table types.now names.now) s.now row place slot offset depth }
-    requires depth_nonzero { (0 < depth) × (next ≤ limit place + depth) × (kind_of (table types.now names.now) row ≡ SEQUENCE) }
-    ensures { ReadsAs (counted (members (scanned (Closed next) met places))) types names s row place slot offset depth result rows pool }
+    requires depth_nonzero { (0 < depth) × (found.now.next ≤ limit place + depth) × (kind_of (table types.now names.now) row ≡ SEQUENCE) }
+    ensures { ReadsAs (counted (members found.now)) types names s row place slot offset depth result rows pool }
 {
     let count = count_of(types, row);
-    let mut k: u32 = 0;
     let mut present: u64 = 0;
     let mut n: usize = 0;
     let mut m: usize = 0;
-    while k < count {
-        let j = wide(k);
-        let there = wide(places[j]);
-        match member_found(types, s, row, k, bit(met, k), there) {
+    for k in 0..count {
+        let there = wide(found.places[wide(k)]);
+        match member_found(types, s, row, k, bit(found.met, k), there) {
             Member::Missing => return refused(Cause::Missing(k), place),
             Member::Absent => {
                 put_row(rows, slot + 1 + n, ABSENT, 0, 0, 1);
                 n += 1;
-                k += 1;
             }
             Member::There(q) => {
                 let t = type_at(types, row, k);
-                match value(
+                let member = value(
                     types,
                     names,
                     s,
@@ -320,19 +299,14 @@ fn each_member(
                     slot + 1 + n,
                     offset + m,
                     depth - 1,
-                ) {
-                    Step::Refused(e) => return Step::Refused(e),
-                    Step::Read(_, a, b) => {
-                        present = with(present, k);
-                        n += a;
-                        m += b;
-                        k += 1;
-                    }
-                }
+                )?;
+                present = with(present, k);
+                n += member.rows;
+                m += member.pool;
             }
         }
     }
-    close(rows, slot, Row::SEQUENCE, ones(present), n, m, next)
+    close(rows, slot, Row::SEQUENCE, ones(present), n, m, found.next)
 }
 
 // A wrapped CHOICE: an object of exactly one member.
@@ -348,38 +322,32 @@ fn choice(
     slot: usize,
     offset: usize,
     depth: u32,
-) -> Step
+) -> Result<Taken, Refusal>
     requires given { Given (table types.now names.now) s.now row place slot offset depth }
     requires place_in_bounds { (place < length s.now) × (0 < depth) × (kind_of (table types.now names.now) row ≡ CHOICE) }
     ensures { ReadsAs (counted choice) types names s row place slot offset depth result rows pool }
 {
-    match one_at(s, place, depth - 1) {
-        One::NotOne => refused(Cause::NotOne, place),
-        One::At(q) => match position(types, names, s, row, q) {
-            Found::Nothing => unknown(types, row, place, Cause::UnknownName, q),
-            Found::At(k) => {
-                let t = type_at(types, row, k);
-                let at = value_place(s, q);
-                match value(
-                    types,
-                    names,
-                    s,
-                    rows,
-                    pool,
-                    t,
-                    at,
-                    slot + 1,
-                    offset,
-                    depth - 1,
-                ) {
-                    Step::Refused(e) => Step::Refused(e),
-                    Step::Read(next, n, m) => {
-                        let end = Cursor { at: next };
-                        let c = end.skip_space(s).advance(1);
-                        close(rows, slot, Row::CHOICE, k, n, m, c.at)
-                    }
-                }
-            }
-        },
-    }
+    let Some(q) = one_at(s, place, depth - 1) else {
+        return refused(Cause::NotOne, place);
+    };
+    let Some(k) = position(types, names, s, row, q) else {
+        return unknown(types, row, place, Cause::UnknownName, q);
+    };
+    let t = type_at(types, row, k);
+    let at = value_place(s, q);
+    let one = value(
+        types,
+        names,
+        s,
+        rows,
+        pool,
+        t,
+        at,
+        slot + 1,
+        offset,
+        depth - 1,
+    )?;
+    let end = Cursor { at: one.next };
+    let c = end.skip_space(s).advance(1);
+    close(rows, slot, Row::CHOICE, k, one.rows, one.pool, c.at)
 }

@@ -1,12 +1,13 @@
 -- Equal bytes, and UTF-8, one byte at a time. Assumes nothing.
-use mathlib.Core.Path.{◌≡◌, refl, sym, ap}
+use mathlib.Core.Path.{◌≡◌, refl, sym}
 use mathlib.Core.List.{List, [], ◌∷◌}
 use mathlib.Core.Bool.{Bool, true, false, ◌&&◌}
 use Prim.Native.Nat.{ℕ, zero, suc, ◌+◌, ◌-◌, ◌<◌, ◌≤◌}
 use native.Mathlib.Numerals.{add-one}
 use native.Mathlib.Omega.{arith}
-use borrow.Author.Tests.{eq-eqb, ne_eqb, le-leb, lt-leb, leb-true}
+use borrow.Author.Tests.{le-leb, lt-leb, leb-true}
 use lib.Dec.{eqb, leb}
+use Rattle.std.specs.Cmp.Lexicographic.{pointwise}
 use lib.ListN.{length, get_or, take, drop, length-drop, drop_of_length-le}
 use lib.Seq.{length-take-le, get_or-take, get_or-drop, drop-cons}
 use Rattle.json_text.specs.Bytes.{pick}
@@ -18,41 +19,14 @@ use Rattle.types.specs.Bytes.{due_of, Ascii}
 
 -- ---- equal bytes
 
-same-cons : (a b : ℕ) (x y : List ℕ) → a ≡ b → same_bytes (a ∷ x) (b ∷ y) ≡ same_bytes x y
+-- what `==` tells of two slices
+pub pointwise-same : (x y : List ℕ) → pointwise eqb x y ≡ same_bytes x y
 unfolding same_bytes
-same-cons a b x y e = rw (eq-eqb a b e, same_bytes)
-
-differ-cons : (a b : ℕ) (x y : List ℕ) → (a ≡ b → ⊥) → same_bytes (a ∷ x) (b ∷ y) ≡ false
-unfolding same_bytes
-differ-cons a b x y e = rw (ne_eqb a b e, same_bytes)
-
-pub same_lengths : (x y : List ℕ) → (length x ≡ length y → ⊥) → false ≡ same_bytes x y
-unfolding same_bytes
-same_lengths [] [] h = absurd (h refl)
-same_lengths [] (b ∷ y) h = refl
-same_lengths (a ∷ x) [] h = refl
-same_lengths (a ∷ x) (b ∷ y) h = go (eqb a b) (same_lengths x y (λ e. h (ap suc e)))
-  where
-    go : (t : Bool) → false ≡ same_bytes x y → false ≡ elim t as (λ z. Bool) [ true ↦ same_bytes x y | false ↦ false ]
-    go true r = r
-    go false r = refl
-
-module _ (x y : List ℕ) (i : ℕ) (h : i < length x) (l : length x ≡ length y) where
-  pub same_next : get_or x i 0 ≡ get_or y i 0 → same_bytes (drop (i + 1) x) (drop (i + 1) y) ≡ same_bytes (drop i x) (drop i y)
-  same_next e =
-      let k : i < length y = omega arith in
-      rw (drop-cons x i 0 h, drop-cons y i 0 k, add-one i) (sym (same-cons (get_or x i 0) (get_or y i 0) (drop (suc i) x) (drop (suc i) y) e))
-
-  pub same-fails : (get_or x i 0 ≡ get_or y i 0 → ⊥) → false ≡ same_bytes (drop i x) (drop i y)
-  same-fails e =
-      let k : i < length y = omega arith in
-      rw (drop-cons x i 0 h, drop-cons y i 0 k) (sym (differ-cons (get_or x i 0) (get_or y i 0) (drop (suc i) x) (drop (suc i) y) e))
-
-pub same_ends : (x y : List ℕ) (i : ℕ) → length x ≤ i → length x ≡ length y → true ≡ same_bytes (drop i x) (drop i y)
-unfolding same_bytes
-same_ends x y i h l =
-    let k : length y ≤ i = omega arith in
-    rw (drop_of_length-le x h, drop_of_length-le y k)
+pointwise-same [] [] = refl
+pointwise-same [] (b ∷ y) = refl
+pointwise-same (a ∷ x) [] = refl
+pointwise-same (a ∷ x) (b ∷ y) =
+    elim (eqb a b) as (λ t. (t && pointwise eqb x y) ≡ elim t [ true ↦ same_bytes x y | false ↦ false ]) [ true ↦ pointwise-same x y | false ↦ refl ]
 
 -- ---- UTF-8
 

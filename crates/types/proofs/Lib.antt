@@ -3,7 +3,6 @@ pub mod ByteLaws
 pub mod RowLaws
 pub mod AloneLaws
 pub mod TokenLaws
-pub mod MemberLaws
 pub mod RuleLaws
 pub mod CheckLaws
 pub mod SureLaws

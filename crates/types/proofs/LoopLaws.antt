@@ -1,11 +1,13 @@
 -- Loops that count k up to e: `every` and `first_where` over any test f, one turn at a time. b is what the code's test gave at k, and x what the loop
 -- is to answer, which its invariant ties to what is left of the count. Assumes nothing.
-use mathlib.Core.Path.{◌≡◌, sym, ◌∙◌}
-use mathlib.Core.Bool.{Bool, true, false}
-use mathlib.Core.Option.{Option, none, some}
-use Prim.Native.Nat.{ℕ, suc, ◌+◌, ◌-◌, ◌<◌, ◌≤◌}
+use mathlib.Core.Path.{◌≡◌, refl, sym, ◌∙◌}
+use mathlib.Core.Bool.{Bool, true, false, cond, ◌&&◌}
+use Rattle.std.specs.Prelude.{Option, None, Some}
+use Prim.Native.Nat.{ℕ, zero, suc, ◌+◌, ◌-◌, ◌<◌, ◌≤◌}
 use native.Mathlib.Numerals.{add-one}
 use native.Mathlib.Omega.{arith}
+use Rattle.std.specs.Option.{option_map}
+use Rattle.std.specs.List.{list_all, find, range_with_len}
 use Rattle.jer.specs.Table.{first_where}
 use Rattle.jer.specs.Valid.{every}
 
@@ -28,10 +30,30 @@ module _ (f : ℕ → Bool) (k e : ℕ) where
     unfolding first_where
     first_next q i = let g : e - k ≡ suc (e - suc k) = omega arith in rw (add-one k) (rw (g, sym p ∙ q, first_where) at i)
 
-    pub first_found : b ≡ true → first_where f k (e - k) ≡ x → some k ≡ x
+    pub first_found : b ≡ true → first_where f k (e - k) ≡ x → Some k ≡ x
     unfolding first_where
     first_found q i = let g : e - k ≡ suc (e - suc k) = omega arith in rw (g, sym p ∙ q, first_where) at i
 
-  pub first_ends : {x : Option ℕ} → e ≤ k → first_where f k (e - k) ≡ x → none ≡ x
+  pub first_ends : {x : Option ℕ} → e ≤ k → first_where f k (e - k) ≡ x → None ≡ x
   unfolding first_where
   first_ends h i = let g : e - k ≡ 0 = omega arith in rw g at i
+
+-- ---- the same of a chain over a range
+
+pub every-list : (f : ℕ → Bool) (i n : ℕ) → list_all f (range_with_len i n) ≡ every f i n
+unfolding every
+every-list f i zero = refl
+every-list f i (suc n) =
+    elim (f i) as (λ b. (b && list_all f (range_with_len (i + 1) n)) ≡ elim b [ true ↦ every f (suc i) n | false ↦ false ])
+    [ true ↦ rw (add-one i) (every-list f (suc i) n) | false ↦ refl ]
+
+pub first-list : (f : ℕ → Bool) (i n : ℕ) → find f (range_with_len i n) ≡ first_where f i n
+unfolding first_where
+first-list f i zero = refl
+first-list f i (suc n) =
+    elim (f i) as (λ b. cond b (Some i) (find f (range_with_len (i + 1) n)) ≡ elim b [ true ↦ Some i | false ↦ first_where f (suc i) n ])
+    [ true ↦ refl | false ↦ rw (add-one i) (first-list f (suc i) n) ]
+
+pub map-same : {A : Type 0} (o : Option A) → option_map (λ x. x) o ≡ o
+map-same None = refl
+map-same (Some x) = refl

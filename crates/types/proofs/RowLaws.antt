@@ -1,19 +1,19 @@
 -- Rows and their fields. Assumes nothing.
-use mathlib.Core.Path.{◌≡◌, refl, sym, ap, ◌∙◌}
+use mathlib.Core.Path.{◌≡◌, sym, ap, ◌∙◌}
 use mathlib.Core.List.{List}
-use mathlib.Core.Bool.{Bool, true, false, not, ◌&&◌, ◌||◌}
-use mathlib.Core.Option.{Option, none, some}
+use mathlib.Core.Bool.{Bool, true, false, ◌&&◌, ◌||◌}
+use Rattle.std.specs.Prelude.{None}
 use Prim.Native.Nat.{ℕ, ◌+◌, ◌*◌, ◌/◌, ◌%◌, ◌≤◌}
 use native.Mathlib.Omega.{arith}
 use lib.Dec.{eqb, leb}
 use lib.ListN.{length, get_or, take, drop, get_or-eq_default}
 use Rattle.json_text.specs.Bytes.{pick}
-use Rattle.jer.specs.Table.{Table, field, Token, t_null, t_boolean, t_number, t_string, t_array, t_object, token_code, code_of, token_pick, is_some, carries, tag_of, kind_of, marks_of, marked, first_of, count_of, root_of, member_row, optional, addition, may_miss, may_be_absent, name_start, name_length, name_in, token_of, table}
+use Rattle.jer.specs.Table.{Table, field, token_pick, carried, carries, tag_of, kind_of, marks_of, marked, first_of, count_of, root_of, member_row, optional, addition, may_miss, may_be_absent, name_start, name_length, name_in, token_of, table}
 use Rattle.jer.specs.Valid.{good_marks}
 use Rattle.types.specs.declared.row.Row.{Row}
 use Rattle.jer.specs.declared.Layout.TheVariants.{Unknown}
-use Rattle.types.specs.declared.row.Carried.{Carried as CarriedRow}
-use Rattle.types.specs.Rows.{row_of, line_of, carried_of}
+use Rattle.jer.specs.declared.Carried.{Carried}
+use Rattle.types.specs.Rows.{row_of}
 use Rattle.jer.proofs.Forms.{kind_tag}
 use Rattle.types.proofs.ByteLaws.{other}
 
@@ -82,33 +82,23 @@ kind-not t r e k h q = h (kind-of t r e ∙ q)
 -- ---- what a kind carries
 
 pub carries-none : (k : ℕ) → (k ≡ 0 → ⊥) → (k ≡ 1 → ⊥) → (k ≡ 2 → ⊥) → (k ≡ 3 → ⊥) → (k ≡ 4 → ⊥) → (k ≡ 5 → ⊥) → (k ≡ 6 → ⊥) → (k ≡ 7 → ⊥) → (k ≡ 8 → ⊥) → (k ≡ 9 → ⊥)
-    → line_of 0 Unknown 6 6 ≡ carried_of (carries k)
-unfolding carries pick code_of
+    → carried 0 Unknown None None ≡ carries k
+unfolding carries pick
 carries-none k n₀ n₁ n₂ n₃ n₄ n₅ n₆ n₇ n₈ n₉ =
     rw (other k 0 n₀, other k 1 n₁, other k 2 n₂, other k 3 n₃, other k 4 n₄, other k 5 n₅, other k 6 n₆, other k 7 n₇, other k 8 n₈, other k 9 n₉, pick)
 
-pub some-told : (x : Option Token) → not (eqb (code_of x) 6) ≡ is_some x
-unfolding code_of token_code is_some
-some-told none = refl
-some-told (some t_null) = refl
-some-told (some t_boolean) = refl
-some-told (some t_number) = refl
-some-told (some t_string) = refl
-some-told (some t_array) = refl
-some-told (some t_object) = refl
-
-module _ (t : Table) (r : ℕ) {w : Row} {c : CarriedRow} (e : w ≡ row_of t r) (p : c ≡ carried_of (carries w.kind)) where
+module _ (t : Table) (r : ℕ) {w : Row} {c : Carried} (e : w ≡ row_of t r) (p : c ≡ carries w.kind) where
   pub marks-told : c.marks ≡ (carries (tag_of t r)).marks
-  marks-told = ap (λ (x : CarriedRow). x.marks) p ∙ rw e
+  marks-told = ap (λ (x : Carried). x.marks) p ∙ rw e
 
   pub layout-told : c.layout ≡ (carries (tag_of t r)).layout
-  layout-told = ap (λ (x : CarriedRow). x.layout) p ∙ rw e
+  layout-told = ap (λ (x : Carried). x.layout) p ∙ rw e
 
   module _ {b : Bool} (v : b ≡ marked t r 1) where
-    pub begins-marked : b ≡ true → c.other ≡ code_of (token_of t r)
+    pub begins-marked : b ≡ true → c.other ≡ token_of t r
     unfolding token_of token_pick
-    begins-marked h = ap (λ (x : CarriedRow). x.other) p ∙ rw (e, kind_tag t r, sym v ∙ h)
+    begins-marked h = ap (λ (x : Carried). x.other) p ∙ rw (e, kind_tag t r, sym v ∙ h)
 
-    pub begins-plain : b ≡ false → c.token ≡ code_of (token_of t r)
+    pub begins-plain : b ≡ false → c.token ≡ token_of t r
     unfolding token_of token_pick
-    begins-plain h = ap (λ (x : CarriedRow). x.token) p ∙ rw (e, kind_tag t r, sym v ∙ h)
+    begins-plain h = ap (λ (x : Carried). x.token) p ∙ rw (e, kind_tag t r, sym v ∙ h)

@@ -6,11 +6,10 @@ use Rattle.json_text.specs.Bytes.{pick}
 use Rattle.jer.specs.declared.Layout.{Layout}
 use Rattle.jer.specs.declared.Layout.TheVariants.{Bare, Holds, Lists, Names, Unknown}
 use Rattle.jer.specs.Table.{Table, carries, tag_of, kind_of, is_type, is_array, is_unwrapped, first_of, element_of, count_of}
-use Rattle.jer.specs.Valid.{every, implies, good_links, good_pointers, names_differ, none_optional, good_array, good_unwrapped, good_rules}
+use Rattle.jer.specs.Valid.{every, all_differ, implies, owns_members, good_links, good_pointers, names_differ, none_optional, good_array, good_unwrapped, good_rules}
 use Rattle.types.specs.declared.row.Row.{Row}
-use Rattle.types.specs.declared.members.Rule.TheVariants.{IsMember, Untyped}
 use Rattle.types.specs.Rows.{row_of}
-use Rattle.types.specs.Check.{keeps}
+use Rattle.types.specs.Check.{name_is_new, token_is_new, untyped, tokens_differ}
 use Rattle.jer.proofs.Forms.{kind-layout}
 use Rattle.types.proofs.ByteLaws.{other}
 use Rattle.types.proofs.RowLaws.{kind-is, kind-not}
@@ -32,6 +31,17 @@ module _ (t : Table) (r : ℕ) (h : holder (carries (tag_of t r)).layout ≡ fal
   unfolding good_rules carries pick holder
   rules-plain = rw (other (kind_of t r) 2 (no_kind 2 refl), other (kind_of t r) 6 (no_kind 6 refl), other (kind_of t r) 8 (no_kind 8 refl), pick)
 
+-- ---- the members of a type, one by one
+
+module _ (t : Table) (r : ℕ) where
+  pub all-name_is_new : every (name_is_new t r) 0 (count_of t r) ≡ names_differ t r
+  unfolding name_is_new names_differ all_differ
+  all-name_is_new = refl
+
+  pub all-token_is_new : every (token_is_new t r) 0 (count_of t r) ≡ tokens_differ t r
+  unfolding token_is_new all_differ
+  all-token_is_new = refl
+
 module _ (t : Table) (r : ℕ) {w : Row} (e : w ≡ row_of t r) where
   -- ---- by the kinds of the rows it points to
 
@@ -40,8 +50,8 @@ module _ (t : Table) (r : ℕ) {w : Row} (e : w ≡ row_of t r) where
     unfolding good_pointers good_links
     pointers-bare k = rw (sym p ∙ k)
 
-    pub pointers-members : {n : ℕ} {b : Bool} → l ≡ Holds n → b ≡ every (keeps IsMember t r) 0 (count_of t r) → b ≡ good_pointers t r
-    unfolding good_pointers good_links keeps
+    pub pointers-members : {n : ℕ} {b : Bool} → l ≡ Holds n → b ≡ owns_members t r → b ≡ good_pointers t r
+    unfolding good_pointers good_links
     pointers-members k q = q ∙ rw (sym p ∙ k)
 
     pub pointers-element : {a : ℕ} {b : Bool} → l ≡ Lists → a ≡ w.first → b ≡ is_type t a → b ≡ good_pointers t r
@@ -59,8 +69,8 @@ module _ (t : Table) (r : ℕ) {w : Row} (e : w ≡ row_of t r) where
   -- ---- each type by its other rules
 
   module _ {n : Bool} (d : n ≡ names_differ t r) where
-    pub rules-enumerated : {o u : Bool} → w.kind ≡ 2 → o ≡ none_optional t r → u ≡ every (keeps Untyped t r) 0 (count_of t r) → (n && o && u) ≡ good_rules t r
-    unfolding good_rules pick keeps
+    pub rules-enumerated : {o u : Bool} → w.kind ≡ 2 → o ≡ none_optional t r → u ≡ untyped t r → (n && o && u) ≡ good_rules t r
+    unfolding good_rules pick
     rules-enumerated k p q = rw (kind-is t r e k) (rw (d, p, q) (simp and_assoc))
 
     module _ {a : Bool} (k : w.kind ≡ 6) (p : a ≡ is_array t r) where

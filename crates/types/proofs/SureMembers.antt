@@ -10,14 +10,13 @@ use lib.ListN.{length, get_or, set, replicate, drop, length-drop, length-set, le
 use lib.Seq.{length-take-le, get_or-set_same, get_or-set_other}
 use Rattle.jer.proofs.ValidLaws.{same_bytes-eq}
 use Rattle.jer.specs.Table.{Table, row_count, field, is_type, is_array, is_unwrapped, carries, tag_of, first_of, count_of, member_row, optional, type_at, name_in, name_at, same_bytes, table}
-use Rattle.jer.specs.Valid.{every, good_pointers, all_differ, names_differ, none_optional, good_array, good_unwrapped}
+use Rattle.jer.specs.Valid.{every, owns_members, good_pointers, all_differ, names_differ, none_optional, good_array, good_unwrapped}
 use Rattle.json_text.specs.Bytes.{pick}
 use Rattle.jer.specs.declared.Layout.{Layout}
 use Rattle.jer.specs.declared.Layout.TheVariants.{Bare, Lists, Names, Unknown}
 use Rattle.types.specs.declared.row.Row.{Row}
-use Rattle.types.specs.declared.members.Rule.TheVariants.{IsMember, Untyped}
 use Rattle.types.specs.Rows.{row_of}
-use Rattle.types.specs.Check.{keeps}
+use Rattle.types.specs.Check as check
 use Rattle.types.specs.Sure.{NameInside, BlockInside, sign_of, Apart, Fits, SureMember, SureMembers, SureLinks}
 use Rattle.types.proofs.RuleLaws.{holder, pointers-bare, pointers-members, pointers-element, pointers-member, pointers-unknown, rules-plain, rules-enumerated, rules-array, rules-sequence, rules-unwrapped, rules-choice}
 use Rattle.types.proofs.RowLaws.{tag_is}
@@ -126,8 +125,8 @@ every_true f zero i h = refl
 every_true f (suc n) i h = rw (h i (omega arith), every) (every_true f n (suc i) (λ k l. h k (omega arith)))
 
 module _ (t : Table) (r : ℕ) {marks types : ℕ} (s : SureMembers t r marks types) where
-  owned : true ≡ every (keeps IsMember t r) 0 (count_of t r)
-  unfolding keeps member_row
+  owned : true ≡ owns_members t r
+  unfolding member_row
   owned = every_true _ (count_of t r) 0 (λ k l. eq-eqb (tag_of t (first_of t r + k)) 9 (s k (omega arith)).fit.kind)
 
   differ : true ≡ names_differ t r
@@ -142,8 +141,8 @@ module _ (t : Table) (r : ℕ) {marks types : ℕ} (s : SureMembers t r marks ty
       every_true (λ i. not (eqb (field t (first_of t r + i) 1) 1)) (count_of t r) 0
       (λ k l. ap not (ne_eqb (field t (first_of t r + k) 1) 1 (λ e. let m : field t (first_of t r + k) 1 ≤ marks = (s k (omega arith)).fit.mark in absurd (omega arith))))
 
-  untyped : types ≡ 0 → true ≡ every (keeps Untyped t r) 0 (count_of t r)
-  unfolding keeps type_at member_row
+  untyped : types ≡ 0 → true ≡ check.untyped t r
+  unfolding type_at member_row
   untyped z =
       every_true (λ i. eqb (field t (first_of t r + i) 2) 0) (count_of t r) 0
       (λ k l. eq-eqb (field t (first_of t r + k) 2) 0 (let m : field t (first_of t r + k) 2 ≤ types = (s k (omega arith)).fit.type in omega arith))

@@ -15,12 +15,10 @@ fn unused(rows: &[u32], r: usize, from: usize) -> bool
     ensures { (ns : List ℕ) → result ≡ unused (table rows.now ns) r from (8 - from) }
 {
     let k = r * 8;
-    let mut i = from;
-    while i < 8 {
+    for i in from..8 {
         if rows[k + i] != 0 {
             return false;
         }
-        i += 1;
     }
     true
 }
@@ -70,8 +68,7 @@ pub fn good_alone(rows: &[u32], names: &[u8], ascii: bool, r: usize) -> bool
         return false;
     }
     let count = row_count(rows);
-    let layout = carried.layout;
-    match layout {
+    match carried.layout {
         Layout::Bare => unused(rows, r, 2),
         Layout::Holds(least) => {
             let empty = (row.members != 0) | (row.first == 0);

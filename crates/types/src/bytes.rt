@@ -7,17 +7,7 @@ ghost use Rattle.types.specs.Bytes.{due_of, Ascii};
 pub fn same_bytes(a: &[u8], b: &[u8]) -> bool
     ensures { result ≡ same_bytes a.now b.now }
 {
-    if a.len() != b.len() {
-        return false;
-    }
-    let mut i = 0;
-    while i < a.len() {
-        if a[i] != b[i] {
-            return false;
-        }
-        i += 1;
-    }
-    true
+    a == b
 }
 
 // Where a check of UTF-8 stands.
@@ -83,7 +73,7 @@ impl Due {
     {
         match self {
             Due::Start => true,
-            Due::Next(_, _, _) => false,
+            Due::Next(..) => false,
             Due::Never => false,
         }
     }
@@ -93,10 +83,8 @@ pub fn utf8(s: &[u8]) -> bool
     ensures { result ≡ utf8 s.now }
 {
     let mut due = Due::Start;
-    let mut i = 0;
-    while i < s.len() {
-        due = due.step(s[i]);
-        i += 1;
+    for b in s {
+        due = due.step(*b);
     }
     due.ended()
 }
@@ -106,10 +94,8 @@ pub fn all_ascii(s: &[u8]) -> bool
     ensures { result ≡ true → Ascii s.now }
 {
     let mut all = true;
-    let mut i = 0;
-    while i < s.len() {
-        all = all & (s[i] <= 0x7F);
-        i += 1;
+    for b in s {
+        all &= b.is_ascii();
     }
     all
 }

@@ -12,30 +12,36 @@ mod rules; // rules.rt: each row by those it points to, each type by its other r
 mod passes; // passes.rt: sizes, and one pass over the rows
 mod sure; // sure.rt: the second and the third pass at once, if surely good
 
+ghost use Rattle.std.specs.Prelude.{◌≡◌};
 ghost use Rattle.jer.specs.CallClauses.{TableCall};
 ghost use Rattle.jer.specs.Table.{table};
+ghost use Rattle.types.specs.Check.{row_judged};
 
-use jer::{Judged, Refusal, Which};
-use passes::{Pass, good_sizes, passed, passed_alone};
+use jer::{Refusal, Which};
+use passes::{bad_alone, bad_pointers, bad_rules, good_sizes};
 use sure::sure;
 
+// Refusal 1 at the first bad row, if there is one.
+fn judged(bad: Option<usize>) -> Result<(), Refusal>
+    ensures { result ≡ row_judged bad }
+{
+    match bad {
+        Some(r) => Err(Refusal::AtRow(Which::TypeTable, r)),
+        None => Ok(()),
+    }
+}
+
 // Well formed, or refusal 1 with the first bad row of three passes upwards.
-pub fn check(rows: &[u32], names: &[u8]) -> Judged
+pub fn check(rows: &[u32], names: &[u8]) -> Result<(), Refusal>
     ensures { TableCall (table rows.now names.now) result }
 {
     if !good_sizes(rows, names) {
-        return Judged::Refused(Refusal::AtRow(Which::TypeTable, 0));
+        return judged(Some(0));
     }
-    match passed_alone(rows, names) {
-        Judged::Refused(e) => Judged::Refused(e),
-        Judged::Good => {
-            if sure(rows, names) {
-                return Judged::Good;
-            }
-            match passed(rows, names, Pass::Pointers) {
-                Judged::Refused(e) => Judged::Refused(e),
-                Judged::Good => passed(rows, names, Pass::Rules),
-            }
-        }
+    judged(bad_alone(rows, names))?;
+    if sure(rows, names) {
+        return Ok(());
     }
+    judged(bad_pointers(rows, names))?;
+    judged(bad_rules(rows, names))
 }

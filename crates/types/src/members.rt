@@ -1,92 +1,80 @@
-// Rules that a type's members keep one by one: one loop over the members, and one over those before a member.
-ghost use Rattle.std.specs.Prelude.{◌≡◌};
-ghost use Rattle.jer.specs.Table.{count_of, table};
-ghost use Rattle.jer.specs.Valid.{every};
-ghost use Rattle.types.specs.Check.{alike, keeps};
+// Rules that a type's members keep one by one.
+ghost use Rattle.std.specs.Prelude.{◌≡◌, List, ℕ};
+ghost use Rattle.jer.specs.Table.{name_at, same_bytes, table};
+ghost use Rattle.jer.specs.Valid.{names_differ, none_optional, good_array, owns_members};
+ghost use Rattle.types.specs.Check.{name_is_new, none_unwrapped, token_is_new, tokens_differ, untyped};
 
 use crate::bytes::same_bytes;
 use crate::row::{Row, count_of, may_miss, member_at, member_row, name_in, type_at};
-use crate::token::{null_taken, token_of};
+use crate::token::{null_taken, same_token, token_of};
 
-// By what two members are compared.
-#[derive(Clone, Copy)]
-pub enum By {
-    Name,
-    // The JSON token of their types.
-    Token,
-}
-
-#[derive(Clone, Copy)]
-pub enum Rule {
-    // The row is a member's.
-    IsMember,
-    // Not OPTIONAL.
-    Required,
-    // Its type row is 0: an item.
-    Untyped,
-    // Null does not stand both for its absence and for a value.
-    NullFree,
-    // Its type is not UNWRAPPED.
-    Wrapped,
-    // No member before it is alike.
-    Differs(By),
-}
-
-pub fn alike(rows: &[u32], names: &[u8], by: By, r: usize, i: u32, j: u32) -> bool
-    ensures { result ≡ alike by (table rows.now names.now) r i j }
+// Each row of them is a member's.
+pub fn owns_members(rows: &[u32], r: usize) -> bool
+    ensures { (ns : List ℕ) → result ≡ owns_members (table rows.now ns) r }
 {
-    match by {
-        By::Name => {
-            let a = name_in(rows, names, member_row(rows, r, i));
-            let b = name_in(rows, names, member_row(rows, r, j));
-            same_bytes(a, b)
-        }
-        By::Token => {
-            let a = token_of(rows, type_at(rows, r, i));
-            let b = token_of(rows, type_at(rows, r, j));
-            a == b
-        }
-    }
+    (0..count_of(rows, r)).all(|i| member_at(rows, r, i).kind == Row::MEMBER)
 }
 
-// No member before the one at j is like it.
-pub fn differs(rows: &[u32], names: &[u8], by: By, r: usize, j: u32) -> bool
-    ensures { result ≡ keeps (Rule.Differs by) (table rows.now names.now) r j }
+// None is OPTIONAL.
+pub fn none_optional(rows: &[u32], r: usize) -> bool
+    ensures { (ns : List ℕ) → result ≡ none_optional (table rows.now ns) r }
 {
-    let mut i: u32 = 0;
-    while i < j {
-        if alike(rows, names, by, r, i, j) {
-            return false;
-        }
-        i += 1;
-    }
-    true
+    (0..count_of(rows, r)).all(|i| !member_at(rows, r, i).optional())
 }
 
-pub fn keeps(rows: &[u32], names: &[u8], rule: Rule, r: usize, i: u32) -> bool
-    ensures { result ≡ keeps rule (table rows.now names.now) r i }
+// The type row of each is 0: they are items.
+pub fn untyped(rows: &[u32], r: usize) -> bool
+    ensures { (ns : List ℕ) → result ≡ untyped (table rows.now ns) r }
 {
-    match rule {
-        Rule::IsMember => member_at(rows, r, i).kind == Row::MEMBER,
-        Rule::Required => !member_at(rows, r, i).optional(),
-        Rule::Untyped => type_at(rows, r, i) == 0,
-        Rule::NullFree => !(may_miss(rows, r, i) & null_taken(rows, type_at(rows, r, i))),
-        Rule::Wrapped => !Row::at(rows, type_at(rows, r, i)).is_unwrapped(),
-        Rule::Differs(by) => differs(rows, names, by, r, i),
-    }
+    (0..count_of(rows, r)).all(|i| type_at(rows, r, i) == 0)
 }
 
-// Every member of the type at r keeps the rule.
-pub fn all_keep(rows: &[u32], names: &[u8], rule: Rule, r: usize) -> bool
-    ensures { result ≡ every (keeps rule (table rows.now names.now) r) 0 (count_of (table rows.now names.now) r) }
+// Null never stands both for the absence of one and for a value.
+pub fn good_array(rows: &[u32], r: usize) -> bool
+    ensures { (ns : List ℕ) → result ≡ good_array (table rows.now ns) r }
 {
-    let count = count_of(rows, r);
-    let mut i: u32 = 0;
-    while i < count {
-        if !keeps(rows, names, rule, r, i) {
-            return false;
-        }
-        i += 1;
-    }
-    true
+    (0..count_of(rows, r)).all(|i| !(may_miss(rows, r, i) & null_taken(rows, type_at(rows, r, i))))
+}
+
+// No type of one is UNWRAPPED.
+pub fn none_unwrapped(rows: &[u32], r: usize) -> bool
+    ensures { (ns : List ℕ) → result ≡ none_unwrapped (table rows.now ns) r }
+{
+    (0..count_of(rows, r)).all(|i| !Row::at(rows, type_at(rows, r, i)).is_unwrapped())
+}
+
+// The names of the members at i and j are the same.
+fn same_name(rows: &[u32], names: &[u8], r: usize, i: u32, j: u32) -> bool
+    ensures { result ≡ same_bytes (name_at (table rows.now names.now) r i) (name_at (table rows.now names.now) r j) }
+{
+    let a = name_in(rows, names, member_row(rows, r, i));
+    let b = name_in(rows, names, member_row(rows, r, j));
+    same_bytes(a, b)
+}
+
+// No member before the one at j has its name.
+fn new_name(rows: &[u32], names: &[u8], r: usize, j: u32) -> bool
+    ensures { result ≡ name_is_new (table rows.now names.now) r j }
+{
+    (0..j).all(|i| !same_name(rows, names, r, i, j))
+}
+
+pub fn names_differ(rows: &[u32], names: &[u8], r: usize) -> bool
+    ensures { result ≡ names_differ (table rows.now names.now) r }
+{
+    (0..count_of(rows, r)).all(|j| new_name(rows, names, r, j))
+}
+
+// No member before the one at j has a type whose values begin with the same token.
+fn new_token(rows: &[u32], r: usize, j: u32) -> bool
+    ensures { (ns : List ℕ) → result ≡ token_is_new (table rows.now ns) r j }
+{
+    let due = token_of(rows, type_at(rows, r, j));
+    (0..j).all(|i| !same_token(token_of(rows, type_at(rows, r, i)), due))
+}
+
+pub fn tokens_differ(rows: &[u32], r: usize) -> bool
+    ensures { (ns : List ℕ) → result ≡ tokens_differ (table rows.now ns) r }
+{
+    (0..count_of(rows, r)).all(|j| new_token(rows, r, j))
 }

@@ -1,26 +1,17 @@
-// The sizes of a type table, and one pass over its rows.
+// The sizes of a type table, and three passes over its rows: each tells the first bad row.
 ghost use Rattle.std.specs.Prelude.{◌≡◌};
-ghost use Rattle.jer.specs.Valid.{good_alone, good_sizes, pass};
+ghost use Rattle.jer.specs.Valid.{good_alone, good_pointers, good_rules, good_sizes, pass};
 ghost use Rattle.jer.specs.Table.{table};
-ghost use Rattle.types.specs.Check.{good_in, row_judged};
 
 use crate::alone::good_alone;
 use crate::bytes::all_ascii;
 use crate::row::row_count;
 use crate::rules::{good_pointers, good_rules};
-use jer::{Judged, Refusal, Which};
 
 // House sizes of document 01: the numbers of 4,096 rows, and bytes of names.
 const NUMBERS: usize = 32768;
 
 const NAMES: usize = 65536;
-
-// After each row by itself: by the kinds of the rows it points to; each type by its other rules.
-#[derive(Clone, Copy)]
-pub enum Pass {
-    Pointers,
-    Rules,
-}
 
 pub fn good_sizes(rows: &[u32], names: &[u8]) -> bool
     ensures { result ≡ good_sizes (table rows.now names.now) }
@@ -29,42 +20,29 @@ pub fn good_sizes(rows: &[u32], names: &[u8]) -> bool
     (1 <= n) & (n % 8 == 0) & (n <= NUMBERS) & (names.len() <= NAMES)
 }
 
-pub fn good_in(rows: &[u32], names: &[u8], p: Pass, r: usize) -> bool
-    ensures { result ≡ good_in p (table rows.now names.now) r }
-{
-    match p {
-        Pass::Pointers => good_pointers(rows, names, r),
-        Pass::Rules => good_rules(rows, names, r),
-    }
-}
-
-// The first pass: each row by itself.
-pub fn passed_alone(rows: &[u32], names: &[u8]) -> Judged
-    ensures { result ≡ row_judged (pass (table rows.now names.now) (good_alone (table rows.now names.now))) }
+// Each row by itself.
+pub fn bad_alone(rows: &[u32], names: &[u8]) -> Option<usize>
+    ensures { result ≡ pass (table rows.now names.now) (good_alone (table rows.now names.now)) }
 {
     let ascii = all_ascii(names);
-    let count = row_count(rows);
-    let mut r = 0;
-    while r < count {
+    for r in 0..row_count(rows) {
         if !good_alone(rows, names, ascii, r) {
-            return Judged::Refused(Refusal::AtRow(Which::TypeTable, r));
+            return Some(r);
         }
-        r += 1;
     }
-    Judged::Good
+    None
 }
 
-// One pass upwards: refusal 1 at the first row that fails.
-pub fn passed(rows: &[u32], names: &[u8], p: Pass) -> Judged
-    ensures { result ≡ row_judged (pass (table rows.now names.now) (good_in p (table rows.now names.now))) }
+// By the kinds of the rows it points to.
+pub fn bad_pointers(rows: &[u32], names: &[u8]) -> Option<usize>
+    ensures { result ≡ pass (table rows.now names.now) (good_pointers (table rows.now names.now)) }
 {
-    let count = row_count(rows);
-    let mut r = 0;
-    while r < count {
-        if !good_in(rows, names, p, r) {
-            return Judged::Refused(Refusal::AtRow(Which::TypeTable, r));
-        }
-        r += 1;
-    }
-    Judged::Good
+    (0..row_count(rows)).find(|r| !good_pointers(rows, *r))
+}
+
+// Each type by its other rules.
+pub fn bad_rules(rows: &[u32], names: &[u8]) -> Option<usize>
+    ensures { result ≡ pass (table rows.now names.now) (good_rules (table rows.now names.now)) }
+{
+    (0..row_count(rows)).find(|r| !good_rules(rows, names, *r))
 }

@@ -1,11 +1,10 @@
 // A row of the type table: its fields by name, its kinds and marks, the tests of its marks, and the rows that it points to.
 ghost use Rattle.std.specs.Prelude.{◌≡◌, List, ℕ, ◌<◌, ◌/◌, length};
-ghost use Rattle.jer.specs.Table.{Table, row_count, field, carries, type_kind, tag_of, kind_of, is_type, marked, extensible, is_base64, is_array, is_unwrapped, first_of, element_of, count_of, root_of, member_row, optional, type_in, type_at, name_start, name_length, name_in, code_of, token_of, may_miss, may_be_absent, table};
+ghost use Rattle.jer.specs.Table.{Table, row_count, field, carried, carries, type_kind, tag_of, kind_of, is_type, marked, extensible, is_base64, is_array, is_unwrapped, first_of, element_of, count_of, root_of, member_row, optional, type_in, type_at, name_start, name_length, name_in, code_of, token_of, may_miss, may_be_absent, table};
 ghost use Rattle.jer.specs.Valid.{good_marks};
-ghost use Rattle.types.specs.Rows.{row_of, line_of, carried_of};
+ghost use Rattle.types.specs.Rows.{row_of};
 
-use crate::token;
-use jer::Layout;
+use jer::{Carried, Layout, Token};
 use slices::part;
 
 // Fields 0 to 4; the last three have another use in a member's row.
@@ -19,17 +18,6 @@ pub struct Row {
     pub members: u32,
     // How many of them are root; of a member, its name's length.
     pub root: u32,
-}
-
-// What a row of a kind carries.
-#[derive(Clone, Copy)]
-pub struct Carried {
-    // The sum of the marks that it may have.
-    pub marks: u32,
-    pub layout: Layout,
-    // Of a type, the token that a value begins with: without mark 1, and with it.
-    pub token: u32,
-    pub other: u32,
 }
 
 // Field i of row r, or 0 past the end.
@@ -74,7 +62,7 @@ pub fn first_of(rows: &[u32], r: usize) -> usize
     wide(field(rows, r, 2))
 }
 
-// The row of its elements' type.
+// The row of its elements' type. One field has three names, as in the definitions: this, `first_of` and `type_in`.
 pub fn element_of(rows: &[u32], r: usize) -> usize
     ensures { (ns : List ℕ) → result ≡ element_of (table rows.now ns) r }
 {
@@ -116,20 +104,20 @@ pub fn name_length(rows: &[u32], m: usize) -> usize
     wide(field(rows, m, 4))
 }
 
-// A line of the table of kinds.
-fn line(marks: u32, layout: Layout, token: u32, other: u32) -> Carried
-    ensures { result ≡ line_of marks layout token other }
+// A line of the table of kinds, whose values begin with one token, or with none.
+fn line(marks: u32, layout: Layout, token: Option<Token>) -> Carried
+    ensures { result ≡ carried marks layout token token }
 {
     Carried {
         marks,
         layout,
         token,
-        other,
+        other: token,
     }
 }
 
 impl Row {
-    // Kinds, field 0.
+    // Kinds, field 0, and marks: constants of the row's own type, the form that document 01 asks for.
     pub const BOOLEAN: u32 = 0;
 
     pub const INTEGER: u32 = 1;
@@ -163,35 +151,29 @@ impl Row {
 
     // What a row of the kind carries: a kind that has no line here is no kind.
     pub fn carries(kind: u32) -> Carried
-        ensures { result ≡ carried_of (carries kind) }
+        ensures { result ≡ carries kind }
     {
         match kind {
-            Row::BOOLEAN => line(0, Layout::Bare, token::BOOLEAN, token::BOOLEAN),
-            Row::INTEGER => line(0, Layout::Bare, token::NUMBER, token::NUMBER),
-            Row::ENUMERATED => line(
-                Row::EXTENSIBLE,
-                Layout::Holds(1),
-                token::STRING,
-                token::STRING,
-            ),
-            Row::NULL => line(0, Layout::Bare, token::NULL, token::NULL),
-            Row::OCTET_STRING => line(Row::BASE64, Layout::Bare, token::STRING, token::STRING),
-            Row::UTF8_STRING => line(0, Layout::Bare, token::STRING, token::STRING),
-            Row::SEQUENCE => line(
-                Row::ARRAY + Row::EXTENSIBLE,
-                Layout::Holds(0),
-                token::OBJECT,
-                token::ARRAY,
-            ),
-            Row::SEQUENCE_OF => line(0, Layout::Lists, token::ARRAY, token::ARRAY),
+            Row::BOOLEAN => line(0, Layout::Bare, Some(Token::Boolean)),
+            Row::INTEGER => line(0, Layout::Bare, Some(Token::Number)),
+            Row::ENUMERATED => line(Row::EXTENSIBLE, Layout::Holds(1), Some(Token::String)),
+            Row::NULL => line(0, Layout::Bare, Some(Token::Null)),
+            Row::OCTET_STRING => line(Row::BASE64, Layout::Bare, Some(Token::String)),
+            Row::UTF8_STRING => line(0, Layout::Bare, Some(Token::String)),
+            Row::SEQUENCE => Carried {
+                marks: Row::ARRAY + Row::EXTENSIBLE,
+                layout: Layout::Holds(0),
+                token: Some(Token::Object),
+                other: Some(Token::Array),
+            },
+            Row::SEQUENCE_OF => line(0, Layout::Lists, Some(Token::Array)),
             Row::CHOICE => line(
                 Row::UNWRAPPED + Row::EXTENSIBLE,
                 Layout::Holds(1),
-                token::OBJECT,
-                token::OBJECT,
+                Some(Token::Object),
             ),
-            Row::MEMBER => line(Row::OPTIONAL, Layout::Names, token::NONE, token::NONE),
-            _ => line(0, Layout::Unknown, token::NONE, token::NONE),
+            Row::MEMBER => line(Row::OPTIONAL, Layout::Names, None),
+            _ => line(0, Layout::Unknown, None),
         }
     }
 
@@ -199,7 +181,7 @@ impl Row {
     pub fn type_kind(kind: u32) -> bool
         ensures { result ≡ type_kind kind }
     {
-        Row::carries(kind).token != token::NONE
+        Row::carries(kind).token.is_some()
     }
 
     // Row r, with 0 past the end.
@@ -261,8 +243,8 @@ impl Row {
     }
 
     // The token that a value of the type begins with, if it is not UNWRAPPED.
-    pub fn begins(self) -> u32
-        ensures { (t : Table) (r : ℕ) → self ≡ row_of t r → result ≡ code_of (token_of t r) }
+    pub fn begins(self) -> Option<Token>
+        ensures { (t : Table) (r : ℕ) → self ≡ row_of t r → result ≡ token_of t r }
     {
         let c = Row::carries(self.kind);
         if self.marked(1) { c.other } else { c.token }
@@ -319,7 +301,7 @@ pub fn may_miss(rows: &[u32], r: usize, i: u32) -> bool
     member_at(rows, r, i).optional() | (root_of(rows, r) <= i)
 }
 
-// The same of the value: it may be absent.
+// The same of the value: it may be absent. Another definition, and another answer once a member has a DEFAULT.
 pub fn may_be_absent(rows: &[u32], r: usize, i: u32) -> bool
     ensures { (ns : List ℕ) → result ≡ may_be_absent (table rows.now ns) r i }
 {

@@ -4,8 +4,9 @@ ghost use Rattle.jer.specs.Table.{is_type, name_in, table};
 ghost use Rattle.types.specs.Sure.{Alone, BlockInside, sign_of, NameInside, NamesInside, Apart, Fits, SureMembers, SureLinks};
 
 use crate::bytes::same_bytes;
+use crate::members::good_array;
 use crate::row::{Row, row_count, row_in, wide};
-use crate::rules::{good_array, good_unwrapped};
+use crate::rules::good_unwrapped;
 use jer::Layout;
 
 // Any type row.
@@ -63,12 +64,10 @@ fn unlike(rows: &[u32], names: &[u8], first: usize, j: usize, name: &[u8]) -> bo
     requires { (first + j ≤ length rows.now / 8) × NamesInside (table rows.now names.now) first j }
     ensures { result ≡ true → Apart (table rows.now names.now) first j name.now }
 {
-    let mut i = 0;
-    while i < j {
+    for i in 0..j {
         if same_bytes(name_inside(rows, names, first + i), name) {
             return false;
         }
-        i += 1;
     }
     true
 }
@@ -85,6 +84,7 @@ fn fresh(rows: &[u32], names: &[u8], first: usize, j: usize, name: &[u8], mark: 
 }
 
 // The members of the type at r: each fits, and their names differ. Names of different signs do.
+#[inline(always)]
 fn sure_members(rows: &[u32], names: &[u8], r: usize, marks: u32, types: u32) -> bool
     requires { (r < length rows.now / 8) × Alone (table rows.now names.now) × BlockInside (table rows.now names.now) r }
     ensures { result ≡ true → SureMembers (table rows.now names.now) r marks types }
@@ -93,8 +93,7 @@ fn sure_members(rows: &[u32], names: &[u8], r: usize, marks: u32, types: u32) ->
     let first = wide(row.first);
     let count = wide(row.members);
     let mut seen = [0u8; 256];
-    let mut j = 0;
-    while j < count {
+    for j in 0..count {
         let m = first + j;
         if !fits(rows, m, marks, types) {
             return false;
@@ -105,7 +104,6 @@ fn sure_members(rows: &[u32], names: &[u8], r: usize, marks: u32, types: u32) ->
             return false;
         }
         seen[s] = 1;
-        j += 1;
     }
     true
 }
@@ -116,15 +114,14 @@ fn sure_holder(rows: &[u32], names: &[u8], r: usize) -> bool
     ensures { result ≡ true → SureLinks (table rows.now names.now) r }
 {
     let row = row_in(rows, r);
-    let kind = row.kind;
-    match kind {
+    match row.kind {
         Row::ENUMERATED => sure_members(rows, names, r, 0, 0),
         Row::SEQUENCE => {
             if !sure_members(rows, names, r, 1, ANY) {
                 return false;
             }
             if row.is_array() {
-                return good_array(rows, names, r);
+                return good_array(rows, r);
             }
             true
         }
@@ -133,7 +130,7 @@ fn sure_holder(rows: &[u32], names: &[u8], r: usize) -> bool
                 return false;
             }
             if row.is_unwrapped() {
-                return good_unwrapped(rows, names, r);
+                return good_unwrapped(rows, r);
             }
             true
         }
@@ -147,9 +144,7 @@ fn sure_links(rows: &[u32], names: &[u8], r: usize) -> bool
     ensures { result ≡ true → SureLinks (table rows.now names.now) r }
 {
     let row = row_in(rows, r);
-    let carried = Row::carries(row.kind);
-    let layout = carried.layout;
-    match layout {
+    match Row::carries(row.kind).layout {
         Layout::Bare => true,
         Layout::Holds(_) => sure_holder(rows, names, r),
         Layout::Lists => holds_type(rows, wide(row.first)),
@@ -163,13 +158,10 @@ pub fn sure(rows: &[u32], names: &[u8]) -> bool
     requires { Alone (table rows.now names.now) }
     ensures { result ≡ true → ((r : ℕ) → r < length rows.now / 8 → SureLinks (table rows.now names.now) r) }
 {
-    let count = row_count(rows);
-    let mut r = 0;
-    while r < count {
+    for r in 0..row_count(rows) {
         if !sure_links(rows, names, r) {
             return false;
         }
-        r += 1;
     }
     true
 }

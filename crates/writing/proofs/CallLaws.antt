@@ -1,8 +1,10 @@
 -- The call from outside: document 01's order of refusals, 1, 12, 13, 14.
+use Rattle.std.specs.Prelude.{Err, Ok}
+use Rattle.jer.specs.Answer.{Writing}
 use mathlib.Core.Path.{◌≡◌, refl, sym, ap, ◌∙◌}
 use mathlib.Core.List.{List, [], ◌∷◌, ◌++◌}
 use mathlib.Core.Bool.{Bool, true, false, ◌&&◌}
-use mathlib.Core.Option.{Option, none, some}
+use Rattle.std.specs.Prelude.{Option, None, Some}
 use Prim.Native.Nat.{ℕ, zero, suc, ◌+◌, ◌*◌, ◌/◌, ◌%◌, ◌≤◌, ◌<◌}
 use native.Mathlib.Omega.{arith}
 use lib.Dec.{eqb, leb}
@@ -13,9 +15,6 @@ use Rattle.jer.specs.declared.Which.TheVariants.{ValueTable}
 use Rattle.jer.specs.declared.Limit.TheVariants.{HouseSize, LentRoom}
 use Rattle.jer.specs.declared.Refusal.{Refusal}
 use Rattle.jer.specs.declared.Refusal.TheVariants.{AtRow, Amounts}
-use Rattle.jer.specs.declared.Judged.TheVariants as judged
-use Rattle.jer.specs.declared.Writing.{Writing}
-use Rattle.jer.specs.declared.Writing.TheVariants as writing
 use Rattle.jer.specs.Table.{Table}
 use Rattle.jer.specs.Valid.{good_alone, good_pointers, good_rules, good_sizes, or_else, pass, first_bad}
 use Rattle.jer.proofs.ValidRows.{both}
@@ -27,11 +26,11 @@ use Rattle.jer.specs.Write.{write}
 use Rattle.jer.specs.Calls.{table_of, good_table, judged_by, table_judged, over, write_text, amount, write_answer, text_after}
 use Rattle.jer.proofs.ValidSane.{valid_sane}
 use Rattle.octets.proofs.AmountLaws.{amount-within}
-use Rattle.written.specs.declared.taken.Taken.{Taken}
-use Rattle.written.specs.Text.{Puts, value_text, Stored, Writes}
+use Rattle.written.specs.Tables.{GoodTable}
+use Rattle.written.specs.Text.{Taken, Puts, value_text, Stored, Writes}
 use Rattle.written.proofs.PutLaws.{fits}
 use Rattle.written.proofs.TextLaws.{Value, NoValue, text-of}
-use Rattle.writing.specs.Call.{GoodTable, value_written, Answers}
+use Rattle.writing.specs.Call.{value_written, Answers}
 
 -- ---- 1
 
@@ -39,27 +38,27 @@ pub record Good (t : Table) (ns pool : List ℕ) : Type 0 where
   pub table : GoodTable t.rows t.names
   pub text : value_written t ns pool ≡ write_text t ns pool
 
-rows_whole : (t : Table) → first_bad t ≡ none → length t.rows % 8 ≡ 0
+rows_whole : (t : Table) → first_bad t ≡ None → length t.rows % 8 ≡ 0
 unfolding first_bad good_sizes
 rows_whole t e = go (good_sizes t) refl e
   where
-    go : (c : Bool) → good_sizes t ≡ c → ◌≡◌ {A = Option ℕ} (elim c [ false ↦ some 0 | true ↦ or_else (pass t (good_alone t)) (or_else (pass t (good_pointers t)) (pass t (good_rules t))) ]) none → length t.rows % 8 ≡ 0
+    go : (c : Bool) → good_sizes t ≡ c → ◌≡◌ {A = Option ℕ} (elim c [ false ↦ Some 0 | true ↦ or_else (pass t (good_alone t)) (or_else (pass t (good_pointers t)) (pass t (good_rules t))) ]) None → length t.rows % 8 ≡ 0
     go true s w = let p = simp both at s in eqb-true (length t.rows % 8) 0 p.1.0
     go false s w = absurd (let z : ◌≡◌ {A = ℕ} 0 1 = cc in omega arith)
 
-pub table-good : {t : Table} {ns pool : List ℕ} → judged.Good ≡ table_judged t → Good t ns pool
+pub table-good : {t : Table} {ns pool : List ℕ} → Ok tt ≡ table_judged t → Good t ns pool
 unfolding table_judged judged_by good_table table_of write_text value_written bind
 table-good {t} {ns} {pool} h = go (first_bad t) refl h
   where
-    go : (x : Option ℕ) → first_bad t ≡ x → judged.Good ≡ judged_by (table_of t x) → Good t ns pool
-    go none e f = record { table = record { wrapped = (valid_sane t e).plain; whole = rows_whole t e }; text = rw e }
-    go (some r) e f = absurd (let z : ◌≡◌ {A = ℕ} 0 1 = cc in omega arith)
+    go : (x : Option ℕ) → first_bad t ≡ x → Ok tt ≡ judged_by (table_of t x) → Good t ns pool
+    go None e f = record { table = record { wrapped = (valid_sane t e).plain; whole = rows_whole t e }; text = rw e }
+    go (Some r) e f = absurd (let z : ◌≡◌ {A = ℕ} 0 1 = cc in omega arith)
 
-pub table-bad : (t : Table) (ns pool : List ℕ) {e : Refusal} → judged.Refused e ≡ table_judged t → no e ≡ write_text t ns pool
+pub table-bad : (t : Table) (ns pool : List ℕ) {e : Refusal} → Err e ≡ table_judged t → no e ≡ write_text t ns pool
 unfolding table_judged judged_by write_text value_written bind
 table-bad t ns pool {e} h = go (good_table t) h
   where
-    go : (x : Res Table) → judged.Refused e ≡ judged_by x → no e ≡ bind x (λ u. value_written t ns pool)
+    go : (x : Res Table) → Err e ≡ judged_by x → no e ≡ bind x (λ u. value_written t ns pool)
     go (no f) g = cc
     go (ok u) g = absurd (let z : ◌≡◌ {A = ℕ} 0 1 = cc in omega arith)
 
@@ -68,7 +67,7 @@ table-bad t ns pool {e} h = go (good_table t) h
 pub answers_as : {x y : Res (List ℕ)} {l m : List ℕ} {a : Writing} → x ≡ y → Answers x l m a → Answers y l m a
 answers_as h f = rw h at f
 
-pub refuses : {x : Res (List ℕ)} {e : Refusal} (l : List ℕ) → no e ≡ x → Answers x l l (writing.Refused e)
+pub refuses : {x : Res (List ℕ)} {e : Refusal} (l : List ℕ) → no e ≡ x → Answers x l l (Err e)
 unfolding write_answer text_after
 refuses l h = rw (← h) record { answer = refl; text = refl }
 
@@ -77,11 +76,11 @@ module _ (l s : List ℕ) {e : ℕ} (h : e ≡ amount (length s)) where
   end_is b = let z = fits s 0 (h ∙ ap amount (let y : length s ≡ 0 + length s = omega arith in y)) b in h ∙ sym (amount-within (length s) (omega arith))
 
   -- 13
-  pub too_long : 65536 < e → Answers (ok s) l l (writing.Refused (Amounts HouseSize e 0))
+  pub too_long : 65536 < e → Answers (ok s) l l (Err (Amounts HouseSize e 0))
   unfolding write_answer text_after
   too_long b =
       let n : 65536 < length s = long in
-      record { answer = rw (lt-leb (length s) 65536 n, write_answer) (ap (λ (x : ℕ). writing.Refused (Amounts HouseSize x 0)) h); text = rw (lt-leb (length s) 65536 n, text_after) }
+      record { answer = rw (lt-leb (length s) 65536 n, write_answer) (ap (λ (x : ℕ). Err (Amounts HouseSize x 0)) h); text = rw (lt-leb (length s) 65536 n, text_after) }
     where
       long : 65536 < length s
       long = go (leb (length s) 65536) refl
@@ -92,21 +91,21 @@ module _ (l s : List ℕ) {e : ℕ} (h : e ≡ amount (length s)) where
 
   module _ (b : e ≤ 65536) where
     -- 14
-    pub too_small : length l < e → Answers (ok s) l l (writing.Refused (Amounts LentRoom e 0))
+    pub too_small : length l < e → Answers (ok s) l l (Err (Amounts LentRoom e 0))
     unfolding write_answer text_after
     too_small c =
         let f = end_is b in
         let n : length l < length s = omega arith in
         let m : length s ≤ 65536 = omega arith in
-        record { answer = rw (le-leb (length s) 65536 m, write_answer) (rw (lt-leb (length s) (length l) n) (ap (λ (x : ℕ). writing.Refused (Amounts LentRoom x 0)) f)); text = rw (le-leb (length s) 65536 m, lt-leb (length s) (length l) n, text_after) }
+        record { answer = rw (le-leb (length s) 65536 m, write_answer) (rw (lt-leb (length s) (length l) n) (ap (λ (x : ℕ). Err (Amounts LentRoom x 0)) f)); text = rw (le-leb (length s) 65536 m, lt-leb (length s) (length l) n, text_after) }
 
-    pub written : {m : List ℕ} → e ≤ length l → m ≡ sets l 0 s → Answers (ok s) l m (writing.Written e)
+    pub written : {m : List ℕ} → e ≤ length l → m ≡ sets l 0 s → Answers (ok s) l m (Ok e)
     unfolding write_answer text_after over
     written c g =
         let f = end_is b in
         let n : length s ≤ length l = omega arith in
         let m : length s ≤ 65536 = omega arith in
-        record { answer = rw (le-leb (length s) 65536 m, write_answer) (rw (le-leb (length s) (length l) n) (ap writing.Written f)); text = rw (le-leb (length s) 65536 m, le-leb (length s) (length l) n, text_after) (g ∙ sets-eq s l 0 (omega arith) ∙ ap (λ (i : ℕ). s ++ drop i l) (let z : 0 + length s ≡ length s = omega arith in z)) }
+        record { answer = rw (le-leb (length s) 65536 m, write_answer) (rw (le-leb (length s) (length l) n) (ap Ok f)); text = rw (le-leb (length s) 65536 m, le-leb (length s) (length l) n, text_after) (g ∙ sets-eq s l 0 (omega arith) ∙ ap (λ (i : ℕ). s ++ drop i l) (let z : 0 + length s ≡ length s = omega arith in z)) }
 
 -- ---- 12
 

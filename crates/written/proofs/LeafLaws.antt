@@ -2,16 +2,16 @@
 use mathlib.Core.Path.{◌≡◌, refl, sym, ap, ◌∙◌}
 use mathlib.Core.List.{List}
 use mathlib.Core.Bool.{Bool, true, false, ◌&&◌, ◌||◌, not}
-use mathlib.Core.Option.{Option}
+use Rattle.std.specs.Prelude.{Option}
 use Prim.Native.Nat.{ℕ, suc, ◌+◌, ◌-◌, ◌*◌, ◌^◌, ◌≤◌, ◌<◌}
 use native.Mathlib.Omega.{arith}
 use native.Mathlib.Numerals.{add-one}
 use lib.Dec.{eqb, ltb, leb}
 use lib.ListN.{length, take, drop}
-use borrow.Author.Tests.{eqb-true, eqb-false, eq-eqb, ne_eqb}
+use borrow.Author.Tests.{eqb-true, eqb-false, eq-eqb}
 use Rattle.json_text.specs.Bytes.{pick}
 use Rattle.json_text.specs.Utf8.{utf8}
-use Rattle.jer.specs.Table.{Table, UTF8String, tag_of, kind_of, is_base64, count_of, member_row, name_in, name_at}
+use Rattle.jer.specs.Table.{Table, UTF8String, tag_of, kind_of, is_base64, count_of, name_at}
 use Rattle.jer.proofs.Forms.{kind_tag}
 use Rattle.jer.specs.Value.{Val, v_bool, v_int, v_enum, v_null, v_bytes}
 use Rattle.jer.specs.Rows.{ValueRow, row}
@@ -20,28 +20,22 @@ use Rattle.jer.specs.Write.{null_text, bool_text, int_text, quotes, string_text,
 use Rattle.jer.specs.Calls.{amount}
 use Rattle.jer.proofs.ValidRows.{both}
 use Rattle.octets.proofs.AmountLaws.{amount-within}
-use Rattle.written.specs.declared.taken.Taken.{Taken}
 use Rattle.written.specs.declared.put.Form.{Form}
-use Rattle.written.specs.declared.put.Form.TheVariants.{Escaped, Hexadecimal, Base64}
-use Rattle.written.specs.Text.{Puts, spelled, form_of, text_of, Writes, ended_as}
+use Rattle.written.specs.declared.put.Form.TheVariants.{Escaped}
+use Rattle.written.specs.Text.{Taken, Puts, spelled, form_of, text_of, Writes, ended_as}
 use Rattle.written.proofs.PutLaws.{puts_as}
 use Rattle.written.proofs.TextLaws.{closed, ends, text-ended}
 
 -- ---- how a string is spelled
 
 module _ (t : Table) (r : ℕ) where
-  pub form_text : {k : ℕ} → k ≡ kind_of t r → k ≡ 5 → Escaped ≡ form_of t r
+  form_text : {k : ℕ} → k ≡ kind_of t r → k ≡ 5 → Escaped ≡ form_of t r
   unfolding form_of
   form_text e h = sym (rw (eq-eqb (kind_of t r) UTF8String (sym e ∙ h), form_of))
 
-  module _ {k : ℕ} (e : k ≡ kind_of t r) (h : k ≡ 5 → ⊥) {b : Bool} (g : b ≡ is_base64 t r) where
-    pub form_base64 : b ≡ true → Base64 ≡ form_of t r
-    unfolding form_of
-    form_base64 f = sym (rw (ne_eqb (kind_of t r) UTF8String (λ x. h (e ∙ x)), form_of) (rw (sym g ∙ f)))
-
-    pub form_hex : b ≡ false → Hexadecimal ≡ form_of t r
-    unfolding form_of
-    form_hex f = sym (rw (ne_eqb (kind_of t r) UTF8String (λ x. h (e ∙ x)), form_of) (rw (sym g ∙ f)))
+  pub chars-text : {k : ℕ} (s : List ℕ) {p e : ℕ} {l m : List ℕ} → k ≡ kind_of t r → k ≡ 5 → Puts (string_text s) p l m e → Puts (quotes (spelled (form_of t r) s)) p l m e
+  unfolding string_text spelled
+  chars-text s y h = puts_as (ap (λ (z : Form). quotes (spelled z s)) (form_text y h))
 
   bytes-text : (s : List ℕ) → quotes (spelled (form_of t r) s) ≡ write (v_bytes s) t r
   unfolding write bytes_text string_text form_of spelled
@@ -107,10 +101,10 @@ module _ (i : Option Taker) (t : Table) (pool : List ℕ) (r a b n : ℕ) (ws : 
   unfolding write
   int-ends h p g = row_ends i t pool r (row kind a b n) ws q o _ (v_int (b * 2 ^ 32 + a)) (row-int i t pool r a b n ws q o y h) (one-row true n q) p g
 
-  pub enum_ends : {c j : ℕ} {s : List ℕ} → kind ≡ 2 → c ≡ count_of t r → j ≡ member_row t r a → s ≡ name_in t j → Puts (string_text s) k l m e → x ≡ ended_as ((ltb a c && eqb b 0) && eqb n (q + 1 - q)) q (q + 1) o e → Writes (text_of (λ v. write v t r) (take_row i t pool r (row kind a b n) ws q o)) k l m x
-  unfolding write name_at
-  enum_ends {c} h d u v p g =
-      let f = puts_as (ap string_text (v ∙ ap (name_in t) u)) p in
+  pub enum_ends : {c : ℕ} {s : List ℕ} → kind ≡ 2 → c ≡ count_of t r → s ≡ name_at t r a → Puts (string_text s) k l m e → x ≡ ended_as ((ltb a c && eqb b 0) && eqb n (q + 1 - q)) q (q + 1) o e → Writes (text_of (λ v. write v t r) (take_row i t pool r (row kind a b n) ws q o)) k l m x
+  unfolding write
+  enum_ends {c} h d v p g =
+      let f = puts_as (ap string_text v) p in
       row_ends i t pool r (row kind a b n) ws q o _ (v_enum a) (row_enum i t pool r a b n ws q o y h) (ap (λ (z : ℕ). ltb a z && (eqb b 0 && eqb n 1)) (sym d) ∙ and_assoc (ltb a c) (eqb b 0) (eqb n 1) ∙ one-row (ltb a c && eqb b 0) n q) f g
 
   pub null-ends : kind ≡ 3 → Puts null_text k l m e → x ≡ ended_as ((eqb a 0 && eqb b 0) && eqb n (q + 1 - q)) q (q + 1) o e → Writes (text_of (λ v. write v t r) (take_row i t pool r (row kind a b n) ws q o)) k l m x
@@ -152,13 +146,13 @@ module _ (text : Bool) (pool : List ℕ) (w : ValueRow) (ws : List ValueRow) (q 
       go true e = rw (e, string_row) (sym (text-ended f (not text || utf8 (take w.b (drop o pool))) (v_bytes (take w.b (drop o pool))) ws q (suc q) (o + w.b)))
 
 module _ (i : Option Taker) (t : Table) (pool : List ℕ) (r a b n : ℕ) (ws : List ValueRow) (q o : ℕ) {kind : ℕ} (y : kind ≡ kind_of t r) {k e : ℕ} {l m : List ℕ} {x : Taken} where
-  pub string-ends : {c d used : ℕ} {s : List ℕ} {u : Bool} {g : Form} → 4 ≤ kind → kind ≤ 5 → a < 4294967296 → b < 4294967296 → c ≡ a → d ≡ b → s ≡ take d (drop o pool) → g ≡ form_of t r → u ≡ utf8 s → used ≡ amount (o + d)
-      → Puts (quotes (spelled g s)) k l m e → x ≡ ended_as ((((eqb c o && leb (c + d) (length pool)) && (eqb kind 4 || u)) && eqb n (q + 1 - q))) q (q + 1) used e → Writes (text_of (λ v. write v t r) (take_row i t pool r (row kind a b n) ws q o)) k l m x
+  pub string-ends : {c d used : ℕ} {s : List ℕ} {u : Bool} → 4 ≤ kind → kind ≤ 5 → a < 4294967296 → b < 4294967296 → c ≡ a → d ≡ b → s ≡ take d (drop o pool) → u ≡ (eqb kind 4 || utf8 s) → used ≡ amount (o + d)
+      → Puts (quotes (spelled (form_of t r) s)) k l m e → x ≡ ended_as ((((eqb c o && leb (c + d) (length pool)) && u) && eqb n (q + 1 - q))) q (q + 1) used e → Writes (text_of (λ v. write v t r) (take_row i t pool r (row kind a b n) ws q o)) k l m x
   unfolding ended_as
-  string-ends {c} {d} {used} {s} {u} {g} lo hi fa fb ca db ss gf uu us p h =
+  string-ends {c} {d} {used} {s} {u} lo hi fa fb ca db ss uu us p h =
       let S = take b (drop o pool) in
-      let flag : test ≡ (((eqb c o && leb (c + d) (length pool)) && (eqb kind 4 || u)) && eqb n (q + 1 - q)) = string-flag a b o (length pool) n (eqb kind 4) (utf8 S) ∙ rw (ca, uu, ss, db) (one-row (((eqb a o && leb (a + b) (length pool)) && (eqb kind 4 || utf8 S))) n q) in
-      let f = puts_as (ap (λ (z : List ℕ). quotes (spelled g z)) (ss ∙ ap (λ (z : ℕ). take z (drop o pool)) db) ∙ ap (λ (z : Form). quotes (spelled z S)) gf ∙ bytes-text t r S) p in
+      let flag : test ≡ (((eqb c o && leb (c + d) (length pool)) && u) && eqb n (q + 1 - q)) = string-flag a b o (length pool) n (eqb kind 4) (utf8 S) ∙ rw (ca, uu, ss, db) (one-row (((eqb a o && leb (a + b) (length pool)) && (eqb kind 4 || utf8 S))) n q) in
+      let f = puts_as (ap (λ (z : List ℕ). quotes (spelled (form_of t r) z)) (ss ∙ ap (λ (z : ℕ). take z (drop o pool)) db) ∙ bytes-text t r S) p in
       let x : x ≡ ended_as test q (suc q) (o + b) e = h ∙ ap (λ (z : Bool). ended_as z q (q + 1) used e) (sym flag) ∙ moved test used (λ v. us ∙ ap (λ (z : ℕ). amount (o + z)) db ∙ within fa fb v) in
       rw x (ends test ws q (suc q) (o + b) (string-text (not (eqb kind 4)) pool (row kind a b n) ws q o (λ v. write v t r) ∙ ap (text_of (λ v. write v t r)) (sym (row-string i t pool r a b n ws q o y lo hi))) f)
     where
@@ -171,25 +165,3 @@ module _ (i : Option Taker) (t : Table) (pool : List ℕ) (r a b n : ℕ) (ws : 
       moved : (c : Bool) (used : ℕ) → (c ≡ true → used ≡ o + b) → ended_as c q (q + 1) used e ≡ ended_as c q (suc q) (o + b) e
       moved true used z = rw (add-one q, z refl)
       moved false used z = refl
-
-and-true : (b : Bool) → b ≡ (b && true)
-and-true true = refl
-and-true false = refl
-
-flagged : (n q used e : ℕ) {x : Taken} {z w : Bool} → z ≡ w → x ≡ ended_as (z && eqb n (q + 1 - q)) q (q + 1) used e → x ≡ ended_as (w && eqb n (q + 1 - q)) q (q + 1) used e
-flagged n q used e h g = g ∙ ap (λ (z : Bool). ended_as (z && eqb n (q + 1 - q)) q (q + 1) used e) h
-
-module _ (i : Option Taker) (t : Table) (pool : List ℕ) (r a b n : ℕ) (ws : List ValueRow) (q o : ℕ) {kind : ℕ} (y : kind ≡ kind_of t r) {k e : ℕ} {l m : List ℕ} {x : Taken} {c d used : ℕ} {s : List ℕ}
-    (fa : a < 4294967296) (fb : b < 4294967296) (ca : c ≡ a) (db : d ≡ b) (ss : s ≡ take d (drop o pool)) (us : used ≡ amount (o + d)) where
-  pub octets-ends : {g : Form} → kind ≡ 4 → g ≡ form_of t r → Puts (quotes (spelled g s)) k l m e → x ≡ ended_as ((eqb c o && leb (c + d) (length pool)) && eqb n (q + 1 - q)) q (q + 1) used e → Writes (text_of (λ v. write v t r) (take_row i t pool r (row kind a b n) ws q o)) k l m x
-  octets-ends h f p g =
-      let inside = eqb c o && leb (c + d) (length pool) in
-      let z : inside ≡ (inside && (eqb kind 4 || utf8 s)) = rw (eq-eqb kind 4 h) (and-true (eqb c o && leb (c + d) (length pool))) in
-      string-ends i t pool r a b n ws q o y (omega arith) (omega arith) fa fb ca db ss f refl us p (flagged n q used e z g)
-
-  pub chars-ends : {u : Bool} → kind ≡ 5 → u ≡ utf8 s → Puts (string_text s) k l m e → x ≡ ended_as (((eqb c o && leb (c + d) (length pool)) && u) && eqb n (q + 1 - q)) q (q + 1) used e → Writes (text_of (λ v. write v t r) (take_row i t pool r (row kind a b n) ws q o)) k l m x
-  unfolding string_text spelled
-  chars-ends {u} h f p g =
-      let inside = eqb c o && leb (c + d) (length pool) in
-      let z : (inside && u) ≡ (inside && (eqb kind 4 || u)) = rw (ne_eqb kind 4 (λ v. omega arith)) in
-      string-ends i t pool r a b n ws q o y (omega arith) (omega arith) fa fb ca db ss (form_text t r y h) f us p (flagged n q used e z g)

@@ -21,8 +21,6 @@ use Rattle.octets.proofs.EscapeLaws.{escapes-few}
 use Rattle.types.proofs.ByteLaws.{ascii-utf8}
 use Rattle.written.specs.Literal.{LiteralByte, IsLiteral, PutsLiteral}
 use Rattle.written.specs.Text.{Puts, PutsWhole, spelled}
-use Rattle.written.specs.declared.put.Form.{Form}
-use Rattle.written.proofs.PutLaws.{spelled-few}
 use Rattle.written.specs.declared.put.Form.TheVariants.{Escaped}
 use Rattle.written.proofs.RowLaws.{never}
 
@@ -68,9 +66,6 @@ unfolding utf8
 literal-utf8 s h = ascii-utf8 s (λ i l. (h i l).1 (omega arith))
 
 -- ---- the loop
-
-pub literal-start : (mark : ℕ) (s : List ℕ) (k : ℕ) (l : List ℕ) → PutsLiteral mark s k l l 0
-literal-start mark s k l = record { few = omega arith; same = λ i h. absurd (omega arith); stands = refl }
 
 pub literal-next : {mark : ℕ} (s : List ℕ) (k : ℕ) (l : List ℕ) {m : List ℕ} (j : ℕ) → PutsLiteral mark s k l m j → j < length s → LiteralByte mark (get_or s j 0) → PutsLiteral mark s k l (set m (k + j) (get_or s j 0)) (j + 1)
 literal-next {mark} s k l {m} j p h b = record { few = omega arith; same = λ i c. go i c (eqb i j) refl; stands = stand }
@@ -118,43 +113,28 @@ over l k (y ∷ ys) (x ∷ xs) h =
     ap (λ (m : List ℕ). sets m (suc k) xs) (set-sets (set l k y) k (suc k) x ys (omega arith) ∙ ap (λ (m : List ℕ). sets m (suc k) ys) (set-set l k y x))
     ∙ over (set l k x) (suc k) ys xs (omega arith)
 
--- some of them, and then the string with its escapes
-pub escaped-over : {mark : ℕ} (s : List ℕ) (k : ℕ) (l : List ℕ) {m o : List ℕ} {n e : ℕ} → PutsLiteral mark s (k + 1) (set l k 0x22) m n → Puts (quotes (spelled Escaped s)) k m o e → Puts (string_text s) k l o e
-unfolding string_text quotes spelled
-escaped-over s k l {m} {o} {n} {e} p f = record { ends = f.ends; stands = λ z. f.stands z ∙ ap (λ (u : List ℕ). sets u k (0x22 ∷ (escapes s ++ (0x22 ∷ [])))) first ∙ over l k (0x22 ∷ take n s) (0x22 ∷ (escapes s ++ (0x22 ∷ []))) few }
-  where
-    first : m ≡ sets l k (0x22 ∷ take n s)
-    first = p.stands ∙ ap (λ (i : ℕ). sets (set l k 0x22) i (take n s)) (add-one k)
-
-    few : length (0x22 ∷ take n s) ≤ length (0x22 ∷ (escapes s ++ (0x22 ∷ [])))
-    few = omega (arith, length-take-le n s p.few, escapes-few s, p.few, length-append (escapes s) (0x22 ∷ []))
-
 pub escaped-all : (s : List ℕ) {k e : ℕ} {l o : List ℕ} → Puts (quotes (spelled Escaped s)) k l o e → Puts (string_text s) k l o e
 unfolding string_text spelled
 escaped-all s f = f
 
 -- ---- whole, or some of it
 
-pub whole-all : {mark : ℕ} (s : List ℕ) (k : ℕ) (l : List ℕ) {m : List ℕ} {n : ℕ} → PutsLiteral mark s (k + 1) (set l k 0x22) m n → length s ≤ n → k + length s + 2 ≤ length l → length l ≤ 18446744073709551615 → PutsWhole Escaped s k l (set m (k + 1 + n) 0x22) true
-unfolding string_text spelled
+pub whole-all : {mark : ℕ} (s : List ℕ) (k : ℕ) (l : List ℕ) {m : List ℕ} {n : ℕ} → PutsLiteral mark s (k + 1) (set l k 0x22) m n → length s ≤ n → k + length s + 2 ≤ length l → length l ≤ 18446744073709551615 → PutsWhole mark s k l (set m (k + 1 + n) 0x22) true
 whole-all s k l {m} {n} p h r f =
     let e : n ≡ length s = omega (arith, p.few) in
-    record { all = λ _. (ap-end (ap (λ (i : ℕ). k + i + 2) e) (quoted s k l p h r f), r); some = λ z. never (sym z) }
+    record { all = λ _. (ap-end (ap (λ (i : ℕ). k + i + 2) e) (quoted s k l p h r f), r, λ i c. p.same i (omega arith)); some = λ z. never (sym z) }
   where
     ap-end : {x : List ℕ} {o : List ℕ} {a b : ℕ} → a ≡ b → Puts x k l o a → Puts x k l o b
     ap-end h f = rw h at f
 
-pub whole-some : {mark : ℕ} (s : List ℕ) (k : ℕ) (l : List ℕ) {m : List ℕ} {n : ℕ} → PutsLiteral mark s (k + 1) (set l k 0x22) m n → PutsWhole Escaped s k l m false
+pub whole-some : {mark : ℕ} (s : List ℕ) (k : ℕ) (l : List ℕ) {m : List ℕ} {n : ℕ} → PutsLiteral mark s (k + 1) (set l k 0x22) m n → PutsWhole mark s k l m false
 whole-some s k l {n = n} p = record { all = λ z. never z; some = λ _. (suc n, omega (arith, p.few), p.stands ∙ ap (λ (i : ℕ). sets (set l k 0x22) i (take n s)) (add-one k)) }
 
-pub whole-none : (form : Form) (s : List ℕ) (k : ℕ) (l : List ℕ) → PutsWhole form s k l l false
-whole-none form s k l = record { all = λ z. never z; some = λ _. (0, omega arith, refl) }
-
 -- the whole string over some of it
-pub whole-over : {form : Form} {s : List ℕ} {k : ℕ} {l m o : List ℕ} {b : Bool} {e : ℕ} → PutsWhole form s k l m b → b ≡ false → Puts (quotes (spelled form s)) k m o e → Puts (quotes (spelled form s)) k l o e
-unfolding quotes
-whole-over {form} {s} {k} {l} {m} {o} p z f =
+pub whole-over : {mark : ℕ} {s : List ℕ} {k : ℕ} {l m o : List ℕ} {b : Bool} {e : ℕ} → PutsWhole mark s k l m b → b ≡ false → Puts (string_text s) k m o e → Puts (string_text s) k l o e
+unfolding string_text quotes
+whole-over {s = s} {k} {l} {m} {o} p z f =
     let g = p.some z in
     let n = g.0 in
-    let few : length (take n (0x22 ∷ s)) ≤ length (0x22 ∷ (spelled form s ++ (0x22 ∷ []))) = omega (arith, length-take-le n (0x22 ∷ s) (omega (arith, g.1)), spelled-few form s, g.1, length-append (spelled form s) (0x22 ∷ [])) in
-    record { ends = f.ends; stands = λ y. f.stands y ∙ ap (λ (u : List ℕ). sets u k (0x22 ∷ (spelled form s ++ (0x22 ∷ [])))) g.2 ∙ over l k (take n (0x22 ∷ s)) (0x22 ∷ (spelled form s ++ (0x22 ∷ []))) few }
+    let few : length (take n (0x22 ∷ s)) ≤ length (0x22 ∷ (escapes s ++ (0x22 ∷ []))) = omega (arith, length-take-le n (0x22 ∷ s) (omega (arith, g.1)), escapes-few s, g.1, length-append (escapes s) (0x22 ∷ [])) in
+    record { ends = f.ends; stands = λ y. f.stands y ∙ ap (λ (u : List ℕ). sets u k (0x22 ∷ (escapes s ++ (0x22 ∷ [])))) g.2 ∙ over l k (take n (0x22 ∷ s)) (0x22 ∷ (escapes s ++ (0x22 ∷ []))) few }

@@ -2,7 +2,7 @@
 use mathlib.Core.Path.{◌≡◌, refl, sym, ap, ◌∙◌}
 use mathlib.Core.List.{List, [], ◌∷◌}
 use mathlib.Core.Bool.{Bool, true, false, ◌&&◌, ◌||◌, not}
-use mathlib.Core.Option.{Option, none, some}
+use Rattle.std.specs.Prelude.{Option, None, Some}
 use Prim.Native.Nat.{ℕ, zero, suc, ◌+◌, ◌-◌, ◌/◌, ◌%◌, ◌^◌, ◌≤◌}
 use native.Mathlib.Omega.{arith}
 use lib.Dec.{eqb, ltb, leb}
@@ -19,7 +19,7 @@ use Rattle.jer.proofs.ValidRows.{both, unwrapped-kind}
 use Rattle.jer.proofs.JudgeTakes.{inner, take-plain, take-unwrapped}
 use Rattle.jer.proofs.JudgeSpent.{After, after_then, after_if}
 use Rattle.written.specs.Rows.{null_next}
-use Rattle.written.specs.Text.{Wrapped}
+use Rattle.written.specs.Tables.{Wrapped}
 
 abbrev pub IsNull : List ℕ → Bool → Type 0
 IsNull s b = same_bytes s null_text ≡ b
@@ -149,8 +149,8 @@ module _ (t : Table) (r : ℕ) (b : Bool) where
 
   bracket-null : (i : Option Taker) (good : Bool) (q : ℕ) (F : Taker → Took Val) → ((f : Taker) → After Null (F f)) → After Null (in_bracket i good q F)
   unfolding in_bracket
-  bracket-null none good q F h = tt
-  bracket-null (some f) good q F h = after_if Null good (F f) q (λ _. h f)
+  bracket-null None good q F h = tt
+  bracket-null (Some f) good q F h = after_if Null good (F f) q (λ _. h f)
 
   module _ (w : ValueRow) (ws : List ValueRow) (q o : ℕ) (f : Taker) where
     seq_null : ((ps : Parts) → IsNull (write (v_seq ps) t r) b) → After Null (take_sequence t r w ws q o f)

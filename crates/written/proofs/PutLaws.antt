@@ -2,14 +2,14 @@
 use mathlib.Core.Path.{◌≡◌, refl, sym, ap, ◌∙◌}
 use mathlib.Core.List.{List, [], ◌∷◌, ◌++◌, append_assoc, append-nil}
 use mathlib.Core.Bool.{Bool, true, false}
-use Prim.Native.Nat.{ℕ, zero, suc, ◌+◌, ◌-◌, ◌*◌, ◌<◌, ◌≤◌}
+use Prim.Native.Nat.{ℕ, min, zero, suc, ◌+◌, ◌-◌, ◌*◌, ◌<◌, ◌≤◌}
 use native.Mathlib.Omega.{arith}
 use native.Mathlib.Numerals.{add-one}
 use native.Mathlib.Nat.{add-zero, add_comm}
 use borrow.Author.Tests.{leb-true, leb-false}
 use lib.Dec.{leb}
-use lib.ListN.{length, length-append, set, get_or, take}
-use lib.Seq.{sets, set_out, take-suc, take_all}
+use lib.ListN.{length, length-append, get_or, take}
+use lib.Seq.{sets, set_out, take-suc}
 use Rattle.jer.specs.Table.{Table, member_row, name_in, name_at}
 use Rattle.jer.specs.Calls.{amount}
 use Rattle.jer.specs.Write.{null_text}
@@ -20,6 +20,15 @@ use Rattle.slices.proofs.PartLaws.{sets_append}
 use Rattle.written.specs.Text.{Puts, spelled, comma, nulls, name_text, lead}
 use Rattle.written.specs.declared.put.Form.{Form}
 use Rattle.written.specs.declared.put.Form.TheVariants.{Escaped, Hexadecimal, Base64}
+
+-- the sum that stays at the greatest is an amount
+pub amount_min : (n : ℕ) → min n 18446744073709551615 ≡ amount n
+unfolding amount
+amount_min n = go (leb n 18446744073709551615) refl
+  where
+    go : (c : Bool) → leb n 18446744073709551615 ≡ c → min n 18446744073709551615 ≡ elim c as (λ x. ℕ) [ true ↦ n | false ↦ 18446744073709551615 ]
+    go true e = omega (arith, leb-true n 18446744073709551615 e)
+    go false e = omega (arith, leb-false n 18446744073709551615 e)
 
 -- ---- pieces
 
@@ -42,24 +51,18 @@ puts_append {x} {y} {k} {p} {e} {l} {m} {n} f g =
 pub puts_as : {x y : List ℕ} {k e : ℕ} {l n : List ℕ} → x ≡ y → Puts x k l n e → Puts y k l n e
 puts_as h f = rw h at f
 
-pub puts_byte : {b k e : ℕ} {l n : List ℕ} → n ≡ set l k b → e ≡ amount (k + 1) → Puts (b ∷ []) k l n e
-puts_byte h f = record { ends = f; stands = λ _. h }
-
 -- one byte more of s
 pub puts-next : (s : List ℕ) (j : ℕ) {k p e : ℕ} {l m n : List ℕ} → j < length s → Puts (take j s) k l m p → Puts (get_or s j 0 ∷ []) p m n e → Puts (take (j + 1) s) k l n e
 puts-next s j h f g = puts_as (sym (ap (λ (i : ℕ). take i s) (add-one j) ∙ take-suc s j 0 h)) (puts_append f g)
 
-pub puts-all : (s : List ℕ) (j : ℕ) {k e : ℕ} {l n : List ℕ} → length s ≤ j → Puts (take j s) k l n e → Puts s k l n e
-puts-all s j h f = puts_as (take_all j s h) f
-
-pub no-comma : {n : ℕ} (k : ℕ) (l : List ℕ) → n ≡ 0 → k ≤ 18446744073709551615 → Puts (comma n) k l l k
+pub no_comma : {n : ℕ} (k : ℕ) (l : List ℕ) → n ≡ 0 → k ≤ 18446744073709551615 → Puts (comma n) k l l k
 unfolding comma
-no-comma k l h m = rw h (puts_none k l m)
+no_comma k l h m = rw h (puts_none k l m)
 
-pub a-comma : {n k e : ℕ} {l m : List ℕ} → (n ≡ 0 → ⊥) → Puts (0x2C ∷ []) k l m e → Puts (comma n) k l m e
+pub a_comma : {n k e : ℕ} {l m : List ℕ} → (n ≡ 0 → ⊥) → Puts (0x2C ∷ []) k l m e → Puts (comma n) k l m e
 unfolding comma
-a-comma {n = zero} h f = absurd (h refl)
-a-comma {n = suc n} h f = f
+a_comma {n = zero} h f = absurd (h refl)
+a_comma {n = suc n} h f = f
 
 nulls-more : (i m : ℕ) → nulls i (suc m) ≡ nulls i m ++ (comma (i + m) ++ null_text)
 unfolding nulls
@@ -124,16 +127,13 @@ sets_out l k (v ∷ vs) h = sets_out l (suc k) vs (omega arith) ∙ ap (λ (u : 
 pub puts_nowhere : {s l : List ℕ} {k e : ℕ} → e ≡ amount (k + length s) → length l ≤ k → Puts s k l l e
 puts_nowhere {s} {l} {k} h m = record { ends = h; stands = λ _. sets_out l k s m }
 
-pub puts-measured : {s : List ℕ} {k e : ℕ} {l m : List ℕ} → e ≡ amount (k + length s) → 65536 < e → Puts s k l m e
-puts-measured {s} {k} f h = record { ends = f; stands = λ z. absurd (omega (arith, amount-within (k + length s) (omega arith))) }
-
 -- past the house size it may stand anywhere
 pub puts-past : {s : List ℕ} {k e : ℕ} {l m : List ℕ} → e ≡ amount (k + length s) → 65536 < k + length s → Puts s k l m e
 puts-past f h = record { ends = f; stands = λ z. absurd (omega arith) }
 
 -- a spelled string is no shorter than its bytes, and at most six times as long
-pub spelled-few : (f : Form) (s : List ℕ) → (length s ≤ length (spelled f s)) × (length (spelled f s) ≤ 6 * length s)
+pub spelled_few : (f : Form) (s : List ℕ) → (length s ≤ length (spelled f s)) × (length (spelled f s) ≤ 6 * length s)
 unfolding spelled
-spelled-few Escaped s = escapes-few s
-spelled-few Hexadecimal s = (omega (arith, hex-length s), omega (arith, hex-length s))
-spelled-few Base64 s = (omega (arith, base64-length s), omega (arith, base64-length s))
+spelled_few Escaped s = escapes-few s
+spelled_few Hexadecimal s = (omega (arith, hex-length s), omega (arith, hex-length s))
+spelled_few Base64 s = (omega (arith, base64-length s), omega (arith, base64-length s))

@@ -2,7 +2,7 @@
 use mathlib.Core.Path.{◌≡◌, refl, ap, ◌∙◌}
 use mathlib.Core.List.{List, [], ◌∷◌}
 use mathlib.Core.Bool.{Bool, true, false, ◌&&◌, ◌||◌, not}
-use mathlib.Core.Option.{Option, none, some}
+use Rattle.std.specs.Prelude.{Option, None, Some}
 use Prim.Native.Nat.{ℕ, zero, suc, ◌+◌, ◌-◌}
 use native.Mathlib.Numerals.{add-one}
 use lib.Dec.{eqb, ltb, leb}
@@ -83,13 +83,13 @@ module _ (rows : List ValueRow) where
     choice-rest = sized-rest w q _ (after_then (Rest Val) (Rest Val) _ _ (s (type_at t r w.a) ws (suc q) o e) (λ v ws' q' o' y. same y))
 
   abbrev Inside : Option Taker → Type 0
-  Inside none = Unit {0}
-  Inside (some f) = Rests f
+  Inside None = Unit {0}
+  Inside (Some f) = Rests f
 
   bracket-rest : (i : Option Taker) → Inside i → (good : Bool) (q : ℕ) (F : Taker → Took Val) → ((f : Taker) → Rests f → After (Rest Val) (F f)) → After (Rest Val) (in_bracket i good q F)
   unfolding in_bracket
-  bracket-rest none n good q F h = tt
-  bracket-rest (some f) n good q F h = after_if (Rest Val) good (F f) q (λ _. h f n)
+  bracket-rest None n good q F h = tt
+  bracket-rest (Some f) n good q F h = after_if (Rest Val) good (F f) q (λ _. h f n)
 
   module _ (i : Option Taker) (n : Inside i) (t : Table) (pool : List ℕ) where
     row-rest : (r : ℕ) (w : ValueRow) (ws : List ValueRow) (q o : ℕ) → ws ≡ drop (suc q) rows → After (Rest Val) (take_row i t pool r w ws q o)

@@ -15,14 +15,14 @@ use Rattle.jer.specs.Rows.{ValueRow, row}
 use Rattle.jer.specs.Judge.{is_absent, rows_in}
 use Rattle.written.specs.Rows.{rows_from, absent_next, null_next}
 
-pub rows-past : (ns : List ℕ) (q : ℕ) → length ns / 4 ≤ q → rows_from ns q ≡ []
+pub rows_past : (ns : List ℕ) (q : ℕ) → length ns / 4 ≤ q → rows_from ns q ≡ []
 unfolding rows_in
-rows-past [] q h = drop-nil q
-rows-past (k ∷ []) q h = drop-nil q
-rows-past (k ∷ a ∷ []) q h = drop-nil q
-rows-past (k ∷ a ∷ b ∷ []) q h = drop-nil q
-rows-past (k ∷ a ∷ b ∷ n ∷ ns) zero h = absurd (omega arith)
-rows-past (k ∷ a ∷ b ∷ n ∷ ns) (suc q) h = rows-past ns q (omega arith)
+rows_past [] q h = drop-nil q
+rows_past (k ∷ []) q h = drop-nil q
+rows_past (k ∷ a ∷ []) q h = drop-nil q
+rows_past (k ∷ a ∷ b ∷ []) q h = drop-nil q
+rows_past (k ∷ a ∷ b ∷ n ∷ ns) zero h = absurd (omega arith)
+rows_past (k ∷ a ∷ b ∷ n ∷ ns) (suc q) h = rows_past ns q (omega arith)
 
 pub rows_at : (ns : List ℕ) (q : ℕ) → q < length ns / 4 → rows_from ns q ≡ row (get_or ns (q * 4) 0) (get_or ns (q * 4 + 1) 0) (get_or ns (q * 4 + 2) 0) (get_or ns (q * 4 + 3) 0) ∷ rows_from ns (suc q)
 unfolding rows_in
@@ -67,13 +67,6 @@ module _ (t : Table) (r : ℕ) {ws : List ValueRow} where
   unfolding null_next
   null-none e = rw e
 
--- of an element, and of a member of an object
-pub null-element : {a b c : Bool} → a ≡ true → b ≡ c → b ≡ (a && c)
-null-element h e = rw h e
-
-pub null-member : {a : Bool} (c : Bool) → a ≡ false → false ≡ (a && c)
-null-member c h = rw h
-
 -- ---- the row of a member
 
 module _ (t : Table) (r i : ℕ) {w : Row} where
@@ -91,9 +84,9 @@ module _ (t : Table) (r i : ℕ) {w : Row} where
     member-name f g h = h ∙ rw (f ∙ ap (λ (v : Row). v.members) e, g ∙ ap (λ (v : Row). v.root) e)
 
 -- past the rows of a table all is 0
-pub row-past : (ts ns : List ℕ) (r : ℕ) → length ts % 8 ≡ 0 → length ts / 8 ≤ r → ◌≡◌ {A = Row} (record { kind = 0; marks = 0; first = 0; members = 0; root = 0 }) (row_of (table ts ns) r)
+pub row_past : (ts ns : List ℕ) (r : ℕ) → length ts % 8 ≡ 0 → length ts / 8 ≤ r → ◌≡◌ {A = Row} (record { kind = 0; marks = 0; first = 0; members = 0; root = 0 }) (row_of (table ts ns) r)
 unfolding tag_of marks_of first_of count_of root_of field
-row-past ts ns r w h = sym (rw (nought 0, nought 1, nought 2, nought 3, nought 4))
+row_past ts ns r w h = sym (rw (nought 0, nought 1, nought 2, nought 3, nought 4))
   where
     nought : (i : ℕ) → get_or ts (r * 8 + i) 0 ≡ 0
     nought i = get_or-eq_default ts 0 {n = r * 8 + i} (omega arith)

@@ -15,7 +15,8 @@ use Rattle.jer.specs.Judge.{Took, took, wrong, and_then, Taker, take_parts, take
 use Rattle.jer.specs.Write.{null_text, joined, drop_nulls, write}
 use Rattle.jer.proofs.ValidRows.{both}
 use Rattle.written.specs.Rows.{absent_next, null_next}
-use Rattle.written.specs.Text.{Puts, text_of, bracket_text, Writes, Wrapped, lead, ended_as, opening, closing, kept_after}
+use Rattle.written.specs.Text.{Puts, text_of, bracket_text, Writes, lead, ended_as, opening, closing, kept_after}
+use Rattle.written.specs.Tables.{Wrapped}
 use Rattle.written.proofs.PutLaws.{puts_none, puts_append, puts_as}
 use Rattle.written.proofs.RowLaws.{never}
 use Rattle.written.proofs.RestLaws.{next-rows}

@@ -1,10 +1,9 @@
 -- What a call answers and stores, against what is taken.
 use mathlib.Core.Path.{◌≡◌, refl, sym, ap, ◌∙◌}
 use mathlib.Core.List.{List, [], ◌∷◌, ◌++◌, append_assoc}
-use mathlib.Core.Bool.{Bool, true, false, ◌&&◌}
+use mathlib.Core.Bool.{Bool, true, false}
 use Prim.Native.Nat.{ℕ, zero, suc, ◌+◌}
 use native.Mathlib.Omega.{arith}
-use lib.Dec.{eqb}
 use lib.ListN.{length, drop}
 use lib.Seq.{sets}
 use Rattle.jer.specs.Table.{Table}
@@ -14,18 +13,19 @@ use Rattle.jer.specs.Judge.{Took, took, wrong, and_then, on_row, take_with, take
 use Rattle.jer.specs.Write.{joined, write}
 use Rattle.jer.specs.Calls.{amount}
 use Rattle.jer.proofs.JudgeSpent.{After}
-use Rattle.written.specs.declared.taken.Taken.{Taken}
-use Rattle.written.specs.declared.taken.Taken.TheVariants as taken
-use Rattle.written.specs.Text.{Puts, text_of, value_text, taken_of, Stored, Writes, comma, ended_as}
+use Rattle.std.specs.Prelude.{Ok, Err}
+use Rattle.written.specs.declared.taken.Took.{Took as Ends}
+use Rattle.written.specs.declared.taken.Wrong.{Wrong}
+use Rattle.written.specs.Text.{Taken, took_to, Puts, text_of, value_text, taken_of, Stored, Writes, comma, ended_as}
 use Rattle.written.proofs.RestLaws.{Rest, value-rest}
 
 -- ---- answers
 
-pub gives : {x : Took (List ℕ)} {s : List ℕ} {ws : List ValueRow} {k q o e : ℕ} {l m : List ℕ} → x ≡ took s ws q o → Puts s k l m e → Writes x k l m (taken.Took q o e)
+pub gives : {x : Took (List ℕ)} {s : List ℕ} {ws : List ValueRow} {k q o e : ℕ} {l m : List ℕ} → x ≡ took s ws q o → Puts s k l m e → Writes x k l m (took_to q o e)
 unfolding taken_of
-gives {q = q} {o = o} h p = rw h record { answer = ap (taken.Took q o) p.ends; stored = p.stands }
+gives {q = q} {o = o} h p = rw h record { answer = ap (took_to q o) p.ends; stored = p.stands }
 
-pub gives-wrong : {x : Took (List ℕ)} {k q : ℕ} {l m : List ℕ} → x ≡ wrong q → Writes x k l m (taken.Wrong q)
+pub gives-wrong : {x : Took (List ℕ)} {k : ℕ} {l m : List ℕ} {e : Wrong} → x ≡ wrong e.slot → Writes x k l m (Err e)
 unfolding taken_of
 gives-wrong h = rw h record { answer = refl; stored = tt }
 
@@ -54,25 +54,23 @@ pub record Got (x : Took (List ℕ)) (k : ℕ) (l m : List ℕ) (q o e : ℕ) : 
   pub is : x ≡ took s ws q o
   pub puts : Puts s k l m e
 
-pub got : {x : Took (List ℕ)} {k q o e : ℕ} {l m : List ℕ} {a : Taken} → Writes x k l m a → a ≡ taken.Took q o e → Got x k l m q o e
+pub got : {x : Took (List ℕ)} {k : ℕ} {l m : List ℕ} {a : Taken} {t : Ends} → Writes x k l m a → a ≡ Ok t → Got x k l m t.next t.used t.end
 unfolding taken_of
-got {x} {k} {q} {o} {e} {l} {m} w h = go x (sym h ∙ w.answer) w.stored
+got {x} {k} {l} {m} {t = t} w h = go x (sym h ∙ w.answer) w.stored
   where
-    go : (x : Took (List ℕ)) → taken.Took q o e ≡ taken_of k x → Stored x k l m → Got x k l m q o e
+    go : (x : Took (List ℕ)) → Ok t ≡ taken_of k x → Stored x k l m → Got x k l m t.next t.used t.end
     go (took s ws p u) f g =
-        let a : p ≡ q = cc in
-        let b : u ≡ o = cc in
-        let c : e ≡ amount (k + length s) = cc in
-        record { s = s; ws = ws; is = rw (a, b); puts = record { ends = c; stands = g } }
+        let y : t ≡ record { next = p; used = u; end = amount (k + length s) } = cc in
+        rw y record { s = s; ws = ws; is = refl; puts = record { ends = refl; stands = g } }
     go (wrong p) f g = absurd (let z : ◌≡◌ {A = ℕ} 0 1 = cc in omega arith)
 
-pub got-wrong : {x : Took (List ℕ)} {k q : ℕ} {l m : List ℕ} {a : Taken} → Writes x k l m a → a ≡ taken.Wrong q → x ≡ wrong q
+pub got-wrong : {x : Took (List ℕ)} {k : ℕ} {l m : List ℕ} {a : Taken} {e : Wrong} → Writes x k l m a → a ≡ Err e → x ≡ wrong e.slot
 unfolding taken_of
-got-wrong {x} {k} {q} w h = go x (sym h ∙ w.answer)
+got-wrong {x} {k} {e = e} w h = go x (sym h ∙ w.answer)
   where
-    go : (x : Took (List ℕ)) → taken.Wrong q ≡ taken_of k x → x ≡ wrong q
+    go : (x : Took (List ℕ)) → Err e ≡ taken_of k x → x ≡ wrong e.slot
     go (took s ws p u) f = absurd (let z : ◌≡◌ {A = ℕ} 0 1 = cc in omega arith)
-    go (wrong p) f = let a : p ≡ q = cc in rw a
+    go (wrong p) f = let y : e ≡ record { slot = p } = cc in rw y
 
 -- ---- texts of what was taken
 
@@ -103,18 +101,18 @@ pub record NoValue (d : ℕ) (t : Table) (pool : List ℕ) (rows : List ValueRow
 
 -- of the type at x, which is r
 module _ {d : ℕ} {t : Table} {pool : List ℕ} (rows : List ValueRow) {x r : ℕ} (same : x ≡ r) (q : ℕ) {o k : ℕ} {l m : List ℕ} {a : Taken} (w : Writes (value_text d t pool (drop q rows) x q o) k l m a) where
-  pub value-got : {q' o' e : ℕ} → a ≡ taken.Took q' o' e → Value d t pool rows r q o k l m q' o' e
+  pub value-got : {v : Ends} → a ≡ Ok v → Value d t pool rows r q o k l m v.next v.used v.end
   unfolding value_text
-  value-got {q'} {o'} {e} h =
-      let g : Got (text_of (λ v. write v t r) (take_value d t pool r (drop q rows) q o)) k l m q' o' e = rw same at (got w h) in
+  value-got {v} h =
+      let g : Got (text_of (λ v. write v t r) (take_value d t pool r (drop q rows) q o)) k l m v.next v.used v.end = rw same at (got w h) in
       let s = source (λ v. write v t r) (take_value d t pool r (drop q rows) q o) g.is in
-      let y : After (Rest rows Val) (took s.what g.ws q' o') = rw s.is at (value-rest rows t pool d r (drop q rows) q o refl) in
-      record { what = s.what; is = s.is ∙ ap (λ (ws : List ValueRow). took s.what ws q' o') y.is; puts = rw s.text g.puts }
+      let y : After (Rest rows Val) (took s.what g.ws v.next v.used) = rw s.is at (value-rest rows t pool d r (drop q rows) q o refl) in
+      record { what = s.what; is = s.is ∙ ap (λ (ws : List ValueRow). took s.what ws v.next v.used) y.is; puts = rw s.text g.puts }
 
-  pub value-wrong : {q' : ℕ} → a ≡ taken.Wrong q' → NoValue d t pool rows r q o q'
+  pub value-wrong : {e : Wrong} → a ≡ Err e → NoValue d t pool rows r q o e.slot
   unfolding value_text
-  value-wrong {q'} h =
-      let g : text_of (λ v. write v t r) (take_value d t pool r (drop q rows) q o) ≡ wrong q' = rw same at (got-wrong w h) in
+  value-wrong {e} h =
+      let g : text_of (λ v. write v t r) (take_value d t pool r (drop q rows) q o) ≡ wrong e.slot = rw same at (got-wrong w h) in
       record { is = source-wrong (λ v. write v t r) _ g }
 
 pub text-of : {d : ℕ} {t : Table} {pool : List ℕ} {rows : List ValueRow} {r q o k q' o' e : ℕ} {l m : List ℕ} (v : Value d t pool rows r q o k l m q' o' e) → value_text d t pool (drop q rows) r q o ≡ took (write v.what t r) (drop q' rows) q' o'
@@ -165,13 +163,3 @@ unfolding joined comma
 joined-more [] x = refl
 joined-more (y ∷ []) x = refl
 joined-more (y ∷ z ∷ xs) x = ap (λ (s : List ℕ). y ++ (0x2C ∷ s)) (joined-more (z ∷ xs) x) ∙ sym (append_assoc y (0x2C ∷ joined (z ∷ xs)) (0x2C ∷ x))
-
--- a row's size a, against the rows b that were taken
-module _ (g : Bool) {a b c d : ℕ} (f : a ≡ c) (h : b ≡ d) (q next used end : ℕ) where
-  pub ended-right : (g && eqb a b) ≡ true → taken.Took next used end ≡ ended_as (g && eqb c d) q next used end
-  unfolding ended_as
-  ended-right e = rw (← f, ← h, e)
-
-  pub ended-wrong : (g && eqb a b) ≡ false → taken.Wrong q ≡ ended_as (g && eqb c d) q next used end
-  unfolding ended_as
-  ended-wrong e = rw (← f, ← h, e)

@@ -2,7 +2,7 @@
 use mathlib.Core.Path.{◌≡◌, refl, sym, ap, ◌∙◌}
 use mathlib.Core.List.{List, [], ◌∷◌, ◌++◌, append_assoc}
 use mathlib.Core.Bool.{Bool, true, false, ◌&&◌}
-use mathlib.Core.Option.{Option, none, some}
+use Rattle.std.specs.Prelude.{Option, None, Some}
 use Prim.Native.Nat.{ℕ, zero, suc, ◌+◌, ◌-◌, ◌≤◌, ◌<◌}
 use native.Mathlib.Omega.{arith}
 use native.Mathlib.Numerals.{add-one}
@@ -11,7 +11,7 @@ use lib.ListN.{drop}
 use borrow.Author.Tests.{eqb-true, eq-eqb, ne_eqb, lt-ltb, le-ltb, ltb-true}
 use Rattle.json_text.specs.Bytes.{pick}
 use Rattle.json_text.proofs.SoundRows.{pick-within, ◌⨾◌, only}
-use Rattle.jer.specs.Table.{Table, CHOICE, tag_of, kind_of, is_unwrapped, count_of, member_row, type_at, name_in, name_at}
+use Rattle.jer.specs.Table.{Table, CHOICE, tag_of, kind_of, is_unwrapped, count_of, type_at, name_at}
 use Rattle.jer.proofs.Forms.{kind_tag}
 use Rattle.jer.specs.Value.{Val, v_choice}
 use Rattle.jer.specs.Rows.{ValueRow, row}
@@ -19,7 +19,8 @@ use Rattle.jer.specs.Judge.{Took, took, wrong, and_then, Taker, sized, in_bracke
 use Rattle.jer.specs.Write.{string_text, joined, braces, member_text, choice_text, write}
 use Rattle.jer.proofs.ValidRows.{both}
 use Rattle.jer.proofs.JudgeTakes.{inner, take-plain, take-unwrapped}
-use Rattle.written.specs.Text.{Puts, text_of, value_text, bracket_text, Writes, Wrapped, name_text, ended_as}
+use Rattle.written.specs.Text.{Puts, text_of, value_text, bracket_text, Writes, name_text, ended_as}
+use Rattle.written.specs.Tables.{Wrapped}
 use Rattle.written.proofs.PutLaws.{puts_append, puts_as}
 use Rattle.written.proofs.NullLaws.{unwrapped-write}
 use Rattle.written.proofs.TextLaws.{Value, NoValue, value_none, closed, ends, text-ended, text-wrong}
@@ -40,10 +41,10 @@ and-false false = refl
 
 bracket-false : (i : Option Taker) (q : ℕ) (F : Taker → Took Val) {c : Bool} → c ≡ false → in_bracket i c q F ≡ wrong q
 unfolding in_bracket
-bracket-false none q F e = refl
-bracket-false (some f) q F e = rw e
+bracket-false None q F e = refl
+bracket-false (Some f) q F e = rw e
 
-bracket-none : (c : Bool) (q : ℕ) (F : Taker → Took Val) → in_bracket none c q F ≡ wrong q
+bracket-none : (c : Bool) (q : ℕ) (F : Taker → Took Val) → in_bracket None c q F ≡ wrong q
 unfolding in_bracket
 bracket-none c q F = refl
 
@@ -72,19 +73,19 @@ module _ (i : Option Taker) (t : Table) (pool : List ℕ) (r : ℕ) (w : ValueRo
 -- ---- a row whose kind has parts, and is right so far
 
 module _ (f : Taker) (t : Table) (pool : List ℕ) (r a n : ℕ) (us : List ValueRow) (q o : ℕ) where
-  row_seq : {k b : ℕ} → k ≡ 6 → k ≡ kind_of t r → b ≡ 0 → take_row (some f) t pool r (row k a b n) us q o ≡ take_sequence t r (row k a b n) us q o f
+  row_seq : {k b : ℕ} → k ≡ 6 → k ≡ kind_of t r → b ≡ 0 → take_row (Some f) t pool r (row k a b n) us q o ≡ take_sequence t r (row k a b n) us q o f
   unfolding take_row pick in_bracket
   row_seq {k} e h z = rw (eq-eqb k (tag_of t r) (h ∙ kind_tag t r), take_row) (rw (sym h ∙ e) (rw z))
 
-  row_list : {k b : ℕ} → k ≡ 7 → k ≡ kind_of t r → b ≡ 0 → take_row (some f) t pool r (row k a b n) us q o ≡ take_list t r (row k a b n) us q o f
+  row_list : {k b : ℕ} → k ≡ 7 → k ≡ kind_of t r → b ≡ 0 → take_row (Some f) t pool r (row k a b n) us q o ≡ take_list t r (row k a b n) us q o f
   unfolding take_row pick in_bracket
   row_list {k} e h z = rw (eq-eqb k (tag_of t r) (h ∙ kind_tag t r), take_row) (rw (sym h ∙ e) (rw z))
 
-  row-choice : {k b : ℕ} → k ≡ 8 → k ≡ kind_of t r → b ≡ 0 → a < count_of t r → take_row (some f) t pool r (row k a b n) us q o ≡ take_choice t r (row k a b n) us q o f
+  row-choice : {k b : ℕ} → k ≡ 8 → k ≡ kind_of t r → b ≡ 0 → a < count_of t r → take_row (Some f) t pool r (row k a b n) us q o ≡ take_choice t r (row k a b n) us q o f
   unfolding take_row pick in_bracket
   row-choice {k} e h z l = rw (eq-eqb k (tag_of t r) (h ∙ kind_tag t r), take_row) (rw (sym h ∙ e) (rw z (rw (lt-ltb a (count_of t r) l, in_bracket))))
 
-inner-is : (d : ℕ) (t : Table) (pool : List ℕ) → (d ≡ 0 → ⊥) → inner d t pool ≡ some (take_value (d - 1) t pool)
+inner-is : (d : ℕ) (t : Table) (pool : List ℕ) → (d ≡ 0 → ⊥) → inner d t pool ≡ Some (take_value (d - 1) t pool)
 unfolding inner
 inner-is zero t pool h = absurd (h refl)
 inner-is (suc d) t pool h = let e : suc d - 1 ≡ d = omega arith in rw e
@@ -105,7 +106,7 @@ module _ (d : ℕ) (t : Table) (pool : List ℕ) (r k a b n q o : ℕ) {ws us : 
   module _ (l : 6 ≤ k) where
     pub plain-deep : d ≡ 0 → value_text d t pool ws r q o ≡ wrong q
     unfolding inner
-    plain-deep h = bad-row (rw h (row-wrong none t pool r (row k a b n) us q o l (λ _. bracket-none _ q _) (λ _. bracket-none _ q _) (λ _. bracket-none _ q _)))
+    plain-deep h = bad-row (rw h (row-wrong None t pool r (row k a b n) us q o l (λ _. bracket-none _ q _) (λ _. bracket-none _ q _) (λ _. bracket-none _ q _)))
 
     pub plain-b : (b ≡ 0 → ⊥) → value_text d t pool ws r q o ≡ wrong q
     plain-b h =
@@ -120,7 +121,7 @@ module _ (d : ℕ) (t : Table) (pool : List ℕ) (r k a b n q o : ℕ) {ws us : 
       plain-position z = bad-row (row-wrong (inner d t pool) t pool r (row k a b n) us q o l (λ e. absurd (x e)) (λ e. absurd (y e)) (λ e. bracket-false _ q _ (ap (λ (c : Bool). c && eqb b 0) (le-ltb a (count_of t r) z))))
 
   module _ (h : d ≡ 0 → ⊥) (m : k ≡ kind_of t r) (z : b ≡ 0) where
-    inside : (F : Taker → Took Val) → take_row (some (take_value (d - 1) t pool)) t pool r (row k a b n) us q o ≡ F (take_value (d - 1) t pool) → bracket_text F (d - 1) t pool r ≡ value_text d t pool ws r q o
+    inside : (F : Taker → Took Val) → take_row (Some (take_value (d - 1) t pool)) t pool r (row k a b n) us q o ≡ F (take_value (d - 1) t pool) → bracket_text F (d - 1) t pool r ≡ value_text d t pool ws r q o
     unfolding bracket_text
     inside F e = ap (text_of (λ v. write v t r)) (sym e ∙ ap (λ (i : Option Taker). take_row i t pool r (row k a b n) us q o) (sym (inner-is d t pool h))) ∙ row-text
 
@@ -150,11 +151,11 @@ module _ (d : ℕ) (t : Table) (pool : List ℕ) (rows : List ValueRow) (r q o :
   one-member i v u = rw (u, choice_text) (ap (λ (s : List ℕ). 0x7B ∷ (s ++ (0x7D ∷ []))) (append_assoc (string_text (name_at t r i)) (0x3A ∷ []) (write v t (type_at t r i))))
 
   -- an object of one member
-  pub choice-ends : is_unwrapped t r ≡ false → {x : ℕ} {s : List ℕ} {k p k₁ e₁ e q' o' : ℕ} {l m m₁ m₂ m₃ : List ℕ} → Puts (0x7B ∷ []) k l m p → x ≡ member_row t r w.a → s ≡ name_in t x → Puts (name_text s) p m m₁ k₁
+  pub choice-ends : is_unwrapped t r ≡ false → {s : List ℕ} {k p k₁ e₁ e q' o' : ℕ} {l m m₁ m₂ m₃ : List ℕ} → Puts (0x7B ∷ []) k l m p → s ≡ name_at t r w.a → Puts (name_text s) p m m₁ k₁
       → Value d t pool rows (type_at t r w.a) (q + 1) o k₁ m₁ m₂ q' o' e₁ → Puts (0x7D ∷ []) e₁ m₂ m₃ e → Writes (bracket_text (take_choice t r w (drop (suc q) rows) q o) d t pool r) k l m₃ (ended_as (true && eqb w.size (q' - q)) q q' o' e)
-  unfolding bracket_text name_at
-  choice-ends u {q' = q'} {o' = o'} f x y g v h =
-      let n = puts_as (ap name_text (y ∙ ap (name_in t) x)) g in
+  unfolding bracket_text
+  choice-ends u {q' = q'} {o' = o'} f y g v h =
+      let n = puts_as (ap name_text y) g in
       ends (true && eqb w.size (q' - q)) (drop q' rows) q q' o' (choice-text t r w (drop (suc q) rows) q o (take_value d t pool) (rw (add-one q) at v.is))
       (puts_as (one-member w.a v.what u) (puts_append (puts_append (puts_append f n) v.puts) h))
 

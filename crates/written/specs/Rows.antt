@@ -4,8 +4,7 @@ use Rattle.jer.specs.Table.{Table, NULL, kind_of, is_unwrapped, type_at, may_be_
 use Rattle.jer.specs.Rows.{ValueRow, row}
 use Rattle.jer.specs.Judge.{is_absent, rows_in}
 use Rattle.written.specs.declared.rows.ValueRow.{ValueRow as Cells}
-use Rattle.written.specs.declared.rows.Found.{Found}
-use Rattle.written.specs.declared.rows.Found.TheVariants.{Row, End}
+use Rattle.std.specs.Prelude.{Option, Some, None}
 
 abbrev pub value_row : Cells → ValueRow
 value_row w = row w.kind w.a w.b w.size
@@ -15,9 +14,9 @@ abbrev pub rows_from : List ℕ → ℕ → List ValueRow
 rows_from ns q = drop q (rows_in ns)
 
 -- what is found at the number q of the table ns
-abbrev pub Finds : List ℕ → ℕ → Found → Type 0
-Finds ns q (Row w) = (rows_from ns q ≡ value_row w ∷ rows_from ns (suc q)) × (q < length ns) × (q < 18446744073709551615)
-Finds ns q End = rows_from ns q ≡ []
+abbrev pub Finds : List ℕ → ℕ → Option Cells → Type 0
+Finds ns q (Some w) = (rows_from ns q ≡ value_row w ∷ rows_from ns (suc q)) × (q < length ns) × (q < 18446744073709551615)
+Finds ns q None = rows_from ns q ≡ []
 
 -- is the member at i absent, by the rows that are left?
 unfoldable pub absent_next : Table → ℕ → ℕ → List ValueRow → Bool

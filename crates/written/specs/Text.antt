@@ -1,24 +1,25 @@
 -- What a call inside answers and stores: the text of what `jer` takes of the value table, from a place of the lent text on.
-use Rattle.std.specs.Prelude.{ℕ, zero, suc, ◌+◌, ◌-◌, ◌%◌, ◌≤◌, ◌<◌, ◌≡◌, List, [], ◌∷◌, ◌++◌, Bool, true, false, eqb, length, take}
-use Rattle.std.proofs.Math.Option.{Option}
+use Rattle.std.specs.Prelude.{ℕ, zero, suc, ◌+◌, ◌-◌, ◌≤◌, ◌<◌, ◌≡◌, List, [], ◌∷◌, ◌++◌, Bool, true, false, eqb, length, get_or, take}
+use Rattle.std.specs.Prelude.{Option, Result, Ok, Err}
 use Rattle.std.proofs.lemmas.List.Edits.{sets}
-use Rattle.slices.specs.Lent.{Shown, Lent, held, before, after, table_in}
-use Rattle.jer.specs.Table.{Table, table, member_row, UTF8String, kind_of, is_base64, is_unwrapped, count_of, type_at, name_at}
+use Rattle.slices.specs.Lent.{Lent, before, after}
+use Rattle.jer.specs.Table.{Table, table, member_row, UTF8String, kind_of, is_base64, is_unwrapped, name_at}
 use Rattle.types.specs.Rows.{row_of}
 use Rattle.types.specs.declared.row.Row.{Row}
 use Rattle.jer.specs.Value.{Val}
 use Rattle.jer.specs.Rows.{ValueRow}
 use Rattle.jer.specs.Judge.{Took, took, wrong, and_then, Taker, take_row, take_value}
 use Rattle.jer.specs.Octets.{hex, base64}
-use Rattle.jer.specs.Write.{null_text, escapes, quotes, string_text, write}
+use Rattle.jer.specs.Write.{null_text, escapes, string_text, write}
 use Rattle.jer.specs.Calls.{amount}
-use Rattle.written.specs.Literal.{IsLiteral}
+use Rattle.written.specs.Literal.{LiteralByte}
 use Rattle.written.specs.Rows.{rows_from, value_row}
 use Rattle.written.specs.declared.rows.ValueRow.{ValueRow as Cells}
 use Rattle.written.specs.declared.put.Form.{Form}
 use Rattle.written.specs.declared.put.Form.TheVariants.{Escaped, Hexadecimal, Base64}
-use Rattle.written.specs.declared.taken.Taken.{Taken}
-use Rattle.written.specs.declared.taken.Taken.TheVariants as taken
+use Rattle.written.specs.declared.tables.Tables.{Tables}
+use Rattle.written.specs.declared.taken.Took.{Took as Ends}
+use Rattle.written.specs.declared.taken.Wrong.{Wrong}
 
 -- the text s is put from k on, and ends at e. Places are amounts; what does not end within the house size may stand anywhere
 pub record Puts (s : List ℕ) (k : ℕ) (before after : List ℕ) (e : ℕ) : Type 0 where
@@ -36,10 +37,20 @@ value_text d t pool ws r q o = text_of (λ v. write v t r) (take_value d t pool 
 unfoldable pub bracket_text : (Taker → Took Val) → ℕ → Table → List ℕ → ℕ → Took (List ℕ)
 bracket_text F d t pool r = text_of (λ v. write v t r) (F (take_value d t pool))
 
+-- what a call answers: how far rows, pool and text have got, or the first bad row
+abbrev pub Taken : Type 0
+Taken = Result Ends Wrong
+
+abbrev pub took_to : ℕ → ℕ → ℕ → Taken
+took_to next used end = Ok (record { next = next; used = used; end = end })
+
+abbrev pub wrong_at : ℕ → Taken
+wrong_at q = Err (record { slot = q })
+
 -- what is answered of a text that is put from k on
 unfoldable pub taken_of : ℕ → Took (List ℕ) → Taken
-taken_of k (took s ws q o) = taken.Took q o (amount (k + length s))
-taken_of k (wrong q) = taken.Wrong q
+taken_of k (took s ws q o) = took_to q o (amount (k + length s))
+taken_of k (wrong q) = wrong_at q
 
 abbrev pub Stored : Took (List ℕ) → ℕ → List ℕ → List ℕ → Type 0
 Stored (took s ws q o) k before after = k + length s ≤ 65536 → after ≡ sets before k s
@@ -49,15 +60,12 @@ pub record Writes (x : Took (List ℕ)) (k : ℕ) (before after : List ℕ) (a :
   pub answer : a ≡ taken_of k x
   pub stored : Stored x k before after
 
--- 01, Type table: "An UNWRAPPED choice has no UNWRAPPED alternative"
-abbrev pub Wrapped : Table → Type 0
-Wrapped t = (r i : ℕ) → is_unwrapped t r ≡ true → i < count_of t r → is_unwrapped t (type_at t r i) ≡ false
+-- of the tables that a writing reads: the type table, and the rows of the value table from a number on
+abbrev pub type_table : Tables → Table
+type_table x = table x.types.now x.names.now
 
--- what the members of the cycle ask for: a type table that was judged good is so, and the table of bytes is
-pub record Ready (types names bytes : List ℕ) : Type 0 where
-  pub wrapped : Wrapped (table types names)
-  pub whole : length types % 8 ≡ 0
-  pub literal : IsLiteral bytes
+abbrev pub value_rows : Tables → ℕ → List ValueRow
+value_rows x = rows_from x.values.now
 
 -- the kind of the type at r, which is not UNWRAPPED
 abbrev pub PlainRow : Table → ℕ → ℕ → Type 0
@@ -74,9 +82,9 @@ spelled Escaped s = escapes s
 spelled Hexadecimal s = hex s
 spelled Base64 s = base64 s
 
--- the string s is put whole, in quotation marks; or else some of it
-pub record PutsWhole (form : Form) (s : List ℕ) (k : ℕ) (before after : List ℕ) (b : Bool) : Type 0 where
-  pub all : b ≡ true → Puts (quotes (spelled form s)) k before after (k + length s + 2) × (k + length s + 2 ≤ length before)
+-- the string s, whose bytes have the mark, is put whole, in quotation marks; or else some of it
+pub record PutsWhole (mark : ℕ) (s : List ℕ) (k : ℕ) (before after : List ℕ) (b : Bool) : Type 0 where
+  pub all : b ≡ true → Puts (string_text s) k before after (k + length s + 2) × (k + length s + 2 ≤ length before) × ((i : ℕ) → i < length s → LiteralByte mark (get_or s i 0))
   pub some : b ≡ false → (n : ℕ) × (n ≤ length s + 1) × (after ≡ sets before k (take n (0x22 ∷ s)))
 
 -- how a string of the type at r is spelled
@@ -104,16 +112,16 @@ lead true t r i n = nulls n (i - n) ++ comma i
 lead false t r i n = comma n ++ name_text (name_at t r i)
 
 -- it is put, for a member whose row is `member`
-abbrev pub Leads : Bool → List ℕ → Shown → Row → ℕ → ℕ → ℕ → ℕ → Lent → ℕ → Type 0
+abbrev pub Leads : Bool → List ℕ → List ℕ → Row → ℕ → ℕ → ℕ → ℕ → Lent → ℕ → Type 0
 Leads array types names member r i n k text e =
-    member ≡ row_of (table types (held names)) (member_row (table types (held names)) r i) → Puts (lead array (table types (held names)) r i n) k (before text) (after text) e
+    member ≡ row_of (table types names) (member_row (table types names) r i) → Puts (lead array (table types names) r i n) k (before text) (after text) e
 
 -- ---- the end of a bracket
 
 -- taken up to the next row, if the row q was right
 unfoldable pub ended_as : Bool → ℕ → ℕ → ℕ → ℕ → Taken
-ended_as true q next used end = taken.Took next used end
-ended_as false q next used end = taken.Wrong q
+ended_as true q next used end = took_to next used end
+ended_as false q next used end = wrong_at q
 
 -- of an ARRAY and of an object
 unfoldable pub opening : Bool → ℕ
@@ -132,21 +140,21 @@ kept_after false i n = suc n
 -- ---- what the members of the cycle write
 
 -- the value from a slot of the value table and an offset of the pool on, of the type at a row, into the text from a place on
-abbrev pub WritesValue : ℕ → Shown → Shown → Shown → Shown → ℕ → ℕ → ℕ → ℕ → Lent → Taken → Type 0
-WritesValue depth types names values pool row slot offset place text a =
-    Writes (value_text depth (table_in types names) (held pool) (rows_from (held values) slot) row slot offset) place (before text) (after text) a
+abbrev pub WritesValue : ℕ → Tables → ℕ → ℕ → ℕ → ℕ → Lent → Taken → Type 0
+WritesValue depth tables row slot offset place text a =
+    Writes (value_text depth (type_table tables) tables.pool.now (value_rows tables slot) row slot offset) place (before text) (after text) a
 
 -- the same with no text to write into: it is measured
-abbrev pub Measures : ℕ → Shown → Shown → Shown → Shown → ℕ → ℕ → ℕ → Taken → Type 0
-Measures depth types names values pool row slot offset a = Writes (value_text depth (table_in types names) (held pool) (rows_from (held values) slot) row slot offset) 0 [] [] a
+abbrev pub Measures : ℕ → Tables → ℕ → ℕ → ℕ → Taken → Type 0
+Measures depth tables row slot offset a = Writes (value_text depth (type_table tables) tables.pool.now (value_rows tables slot) row slot offset) 0 [] [] a
 
 -- a value with a bracket, whose row is w and whose parts are taken so
-abbrev pub WritesParts : (Table → ℕ → ValueRow → List ValueRow → ℕ → ℕ → Taker → Took Val) → ℕ → Shown → Shown → Shown → Shown → ℕ → ValueRow → ℕ → ℕ → ℕ → Lent → Taken → Type 0
-WritesParts parts depth types names values pool row w slot offset place text a =
-    Writes (bracket_text (parts (table_in types names) row w (rows_from (held values) (suc slot)) slot offset) depth (table_in types names) (held pool) row) place (before text) (after text) a
+abbrev pub WritesParts : (Table → ℕ → ValueRow → List ValueRow → ℕ → ℕ → Taker → Took Val) → ℕ → Tables → ℕ → ValueRow → ℕ → ℕ → ℕ → Lent → Taken → Type 0
+WritesParts parts depth tables row w slot offset place text a =
+    Writes (bracket_text (parts (type_table tables) row w (value_rows tables (suc slot)) slot offset) depth (type_table tables) tables.pool.now row) place (before text) (after text) a
 
 -- a leaf, whose row is w
-abbrev pub WritesLeaf : Shown → Shown → Shown → ℕ → ValueRow → ℕ → ℕ → ℕ → Lent → Taken → Type 0
-WritesLeaf types names pool row w slot offset place text a =
+abbrev pub WritesLeaf : Tables → ℕ → ValueRow → ℕ → ℕ → ℕ → Lent → Taken → Type 0
+WritesLeaf tables row w slot offset place text a =
     (i : Option Taker) (ws : List ValueRow)
-    → Writes (text_of (λ v. write v (table_in types names) row) (take_row i (table_in types names) (held pool) row w ws slot offset)) place (before text) (after text) a
+    → Writes (text_of (λ v. write v (type_table tables) row) (take_row i (type_table tables) tables.pool.now row w ws slot offset)) place (before text) (after text) a

@@ -1,19 +1,21 @@
 // A value of one row. Its text is put first; a row that is not right is answered as wrong, and of a wrong row's text nothing is said.
-ghost use Rattle.std.specs.Prelude.{◌≡◌, true, List, ℕ, ◌≤◌, ◌<◌};
+ghost use Rattle.std.specs.Prelude.{◌≡◌, ◌||◌, List, ℕ, ◌≤◌, ◌<◌, eqb};
 ghost use Rattle.jer.specs.Table.{kind_of, table};
 ghost use Rattle.json_text.specs.Utf8.{utf8};
-ghost use Rattle.written.specs.Literal.{IsLiteral};
 ghost use Rattle.written.specs.Rows.{value_row};
-ghost use Rattle.written.specs.Text.{form_of, WritesLeaf};
+ghost use Rattle.jer.specs.Write.{quotes};
+ghost use Rattle.written.specs.Text.{Puts, spelled, form_of, WritesLeaf, type_table};
 
-use crate::put::{Form, add, put_bool, put_chars, put_integer, put_null, put_string};
+use crate::put::{Form, add, put_bool, put_integer, put_null, put_string};
 use crate::rows::ValueRow;
-use crate::taken::{Taken, ended};
+use crate::tables::Tables;
+use crate::taken::{Took, Wrong, ended};
 use slices::part;
 use types::bytes::utf8;
-use types::row::{Row, count_of, member_row, name_in, wide};
+use types::row::{Row, count_of, wide};
 
 // How octets of the type at `row` are spelled.
+#[tactic(auto, unfolding(crate::specs::Text::form_of))]
 fn form_of(types: &[u32], row: usize) -> Form
     ensures { (ns : List ℕ) → kind_of (table types.now ns) row ≡ 4 → result ≡ form_of (table types.now ns) row }
 {
@@ -23,112 +25,95 @@ fn form_of(types: &[u32], row: usize) -> Form
     Form::Hexadecimal
 }
 
-// An OCTET STRING, from where the pool has got to.
-fn octets(
-    literal: &[u8; 256],
-    types: &[u32],
-    names: &[u8],
-    pool: &[u8],
-    text: &mut [u8],
-    w: ValueRow,
-    row: usize,
-    slot: usize,
-    offset: usize,
-    place: usize,
-) -> Taken
-    requires { (w.kind ≡ kind_of (table types.now names.now) row) × (w.kind ≡ 4) × (slot < 18446744073709551615) × IsLiteral literal.now }
-    ensures { WritesLeaf types names pool row (value_row w) slot offset place text result }
-{
-    let start = wide(w.a);
-    let len = wide(w.b);
-    let s = part(pool, offset, len);
-    let end = put_string(literal, text, place, form_of(types, row), s);
-    let inside = (start == offset) & (start + len <= pool.len());
-    ended(inside, w.size, slot, slot + 1, add(offset, len), end)
+// Where a string's text ends, and whether its bytes are such as its type has.
+#[derive(Clone, Copy)]
+struct Content {
+    end: usize,
+    good: bool,
 }
 
-// s is UTF-8. Where it is known to be ASCII, it is not looked at.
-fn is_utf8(ascii: bool, s: &[u8]) -> bool
-    requires { ascii ≡ true → utf8 s.now ≡ true }
-    ensures { result ≡ utf8 s.now }
+// A string of this kind: a UTF8String is UTF-8, and is not looked at where it is known to be ASCII.
+fn put_content(
+    tables: &Tables<'_>,
+    text: &mut [u8],
+    kind: u32,
+    row: usize,
+    place: usize,
+    s: &[u8],
+) -> Content
+    requires { (4 ≤ kind) × (kind ≤ 5) }
+    ensures puts { kind ≡ kind_of (type_table tables.now) row → Puts (quotes (spelled (form_of (type_table tables.now) row) s.now)) place text.old text.new result.end }
+    ensures good_value { result.good ≡ (eqb kind 4 || utf8 s.now) }
 {
-    if ascii {
-        return true;
+    if kind == Row::UTF8_STRING {
+        let chars = tables.literal.put_chars(text, place, s);
+        return Content {
+            end: chars.end,
+            good: chars.ascii || utf8(s),
+        };
     }
-    utf8(s)
+    let end = put_string(text, place, form_of(tables.types, row), s);
+    Content { end, good: true }
 }
 
-// A UTF8String, from where the pool has got to.
+// An OCTET STRING or a UTF8String, from where the pool has got to.
 fn string(
-    literal: &[u8; 256],
-    types: &[u32],
-    names: &[u8],
-    pool: &[u8],
+    tables: &Tables<'_>,
     text: &mut [u8],
     w: ValueRow,
     row: usize,
     slot: usize,
     offset: usize,
     place: usize,
-) -> Taken
-    requires { (w.kind ≡ kind_of (table types.now names.now) row) × (w.kind ≡ 5) × (slot < 18446744073709551615) × IsLiteral literal.now }
-    ensures { WritesLeaf types names pool row (value_row w) slot offset place text result }
+) -> Result<Took, Wrong>
+    requires { (w.kind ≡ kind_of (type_table tables.now) row) × (4 ≤ w.kind) × (w.kind ≤ 5) × (slot < 18446744073709551615) }
+    ensures { WritesLeaf tables.now row (value_row w) slot offset place text result }
 {
     let start = wide(w.a);
     let len = wide(w.b);
-    let s = part(pool, offset, len);
-    let chars = put_chars(literal, text, place, s);
-    let inside = (start == offset) & (start + len <= pool.len());
-    let good = inside & is_utf8(chars.ascii, s);
-    ended(good, w.size, slot, slot + 1, add(offset, len), chars.end)
+    let s = part(tables.pool, offset, len);
+    let content = put_content(tables, text, w.kind, row, place, s);
+    let inside = (start == offset) & (start + len <= tables.pool.len());
+    ended(
+        inside & content.good,
+        w.size,
+        slot,
+        Took {
+            next: slot + 1,
+            used: add(offset, len),
+            end: content.end,
+        },
+    )
 }
 
 pub fn leaf(
-    literal: &[u8; 256],
-    types: &[u32],
-    names: &[u8],
-    pool: &[u8],
+    tables: &Tables<'_>,
     text: &mut [u8],
     w: ValueRow,
     row: usize,
     slot: usize,
     offset: usize,
     place: usize,
-) -> Taken
-    requires { (w.kind ≡ kind_of (table types.now names.now) row) × (w.kind ≤ 5) × (slot < 18446744073709551615) × IsLiteral literal.now }
-    ensures { WritesLeaf types names pool row (value_row w) slot offset place text result }
+) -> Result<Took, Wrong>
+    requires { (w.kind ≡ kind_of (type_table tables.now) row) × (w.kind ≤ 5) × (slot < 18446744073709551615) }
+    ensures { WritesLeaf tables.now row (value_row w) slot offset place text result }
 {
-    let kind = w.kind;
-    match kind {
-        Row::BOOLEAN => {
-            let end = put_bool(text, place, w.a == 1);
-            ended((w.a < 2) & (w.b == 0), w.size, slot, slot + 1, offset, end)
-        }
-        Row::INTEGER => {
-            let end = put_integer(text, place, w.a, w.b);
-            ended(true, w.size, slot, slot + 1, offset, end)
-        }
+    let (good, end) = match w.kind {
+        Row::BOOLEAN => ((w.a < 2) & (w.b == 0), put_bool(text, place, w.a == 1)),
+        Row::INTEGER => (true, put_integer(text, place, w.a, w.b)),
         Row::ENUMERATED => {
-            let name = name_in(types, names, member_row(types, row, w.a));
-            let chars = put_chars(literal, text, place, name);
-            ended(
-                (w.a < count_of(types, row)) & (w.b == 0),
-                w.size,
-                slot,
-                slot + 1,
-                offset,
-                chars.end,
+            let name = tables.name_at(row, w.a);
+            (
+                (w.a < count_of(tables.types, row)) & (w.b == 0),
+                tables.literal.put_chars(text, place, name).end,
             )
         }
-        Row::NULL => {
-            let end = put_null(text, place);
-            ended((w.a == 0) & (w.b == 0), w.size, slot, slot + 1, offset, end)
+        Row::NULL => ((w.a == 0) & (w.b == 0), put_null(text, place)),
+        _ => {
+            return string(tables, text, w, row, slot, offset, place);
         }
-        Row::OCTET_STRING => octets(
-            literal, types, names, pool, text, w, row, slot, offset, place,
-        ),
-        _ => string(
-            literal, types, names, pool, text, w, row, slot, offset, place,
-        ),
-    }
+    };
+    let next = slot + 1;
+    let used = offset;
+    ended(good, w.size, slot, Took { next, used, end })
 }

@@ -7,5 +7,6 @@ pub mod literal; // literal.rt: bytes that stand for themselves in a string
 pub mod put; // put.rt: pieces of text, from a place on
 pub mod rows; // rows.rt: the rows of the value table
 pub mod start; // start.rt: where a value begins, past an UNWRAPPED choice
+pub mod tables; // tables.rt: what a writing reads
 pub mod taken; // taken.rt: what one value answers
 pub mod value; // value.rt: a value of any type

@@ -1,8 +1,9 @@
 // Bytes that stand for themselves in a string.
-ghost use Rattle.written.specs.Literal.{IsLiteral};
+ghost use Rattle.std.specs.Prelude.{◌≡◌, true, ◌≤◌};
+ghost use Rattle.written.specs.Literal.{IsLiteral, LiteralByte};
 
 // A full stop for each byte of ASCII that stands for itself, a hyphen for the bytes of wider characters; 32 bytes a line.
-const LITERAL: [u8; 256] = *b"\
+const MARKS: [u8; 256] = *b"\
     !!!!!!!!!!!!!!!!!!!!!!!!!!!!!!!!\
     ..!.............................\
     ............................!...\
@@ -17,9 +18,23 @@ pub const ASCII: u8 = 0x2E;
 
 pub const ANY: u8 = 0x2D;
 
-// The table, to be lent for a whole value: a constant array is made anew wherever it is read.
-pub fn table() -> [u8; 256]
-    ensures { IsLiteral result }
-{
-    LITERAL
+// The table, made once for a whole value: a constant array is made anew wherever it is read.
+#[derive(Drop)]
+pub struct Literal {
+    marks: [u8; 256],
+    ghost right: { IsLiteral marks },
+}
+
+impl Literal {
+    pub fn new() -> Literal {
+        Literal { marks: MARKS }
+    }
+
+    // The byte has the least mark.
+    pub fn has(&self, least: u8, b: u8) -> bool
+        requires { 0x2D ≤ least }
+        ensures { result ≡ true → LiteralByte least b }
+    {
+        least <= self.marks[usize::from(b)]
+    }
 }

@@ -1,11 +1,12 @@
 // Where a value begins: of an UNWRAPPED choice, with its alternative.
-ghost use Rattle.std.specs.Prelude.{◌≡◌, List, ℕ, ◌%◌, length};
+ghost use Rattle.std.specs.Prelude.{◌≡◌, List, ℕ};
 ghost use Rattle.jer.specs.Judge.{rows_in};
 ghost use Rattle.jer.specs.Table.{table};
 ghost use Rattle.written.specs.Start.{Starts, closed_as};
 
-use crate::rows::{Found, row_at, type_row};
-use crate::taken::{Taken, ended};
+use crate::rows::row_at;
+use crate::tables::Tables;
+use crate::taken::{Took, Wrong, ended};
 use types::row::{Row, kind_of, type_at};
 
 #[derive(Clone, Copy)]
@@ -15,67 +16,49 @@ pub struct Start {
     pub kind: u32,
     pub slot: usize,
     // The size in the row of an UNWRAPPED choice.
-    pub size: u32,
-    // The row of an UNWRAPPED choice is there, and but for its size right.
-    pub right: bool,
+    pub size: Option<u32>,
 }
 
-// Of a value of the type at `row`, whose rows begin at `slot`.
-pub fn start_of(types: &[u32], values: &[u32], row: usize, slot: usize) -> Start
-    requires { length types.now % 8 ≡ 0 }
-    ensures { (ns : List ℕ) → Starts (table types.now ns) (rows_in values.now) row slot result }
-{
-    let own = type_row(types, row);
-    let kind = own.kind;
-    if !own.is_unwrapped() {
-        return Start {
-            row: row,
-            kind: kind,
-            slot: slot,
-            size: 0,
-            right: true,
+impl Tables<'_> {
+    // Of a value of the type at `row`, whose rows begin at `slot`; the row of an UNWRAPPED choice is wrong if it is not there, or not right but for its size.
+    pub fn start_of(&self, row: usize, slot: usize) -> Result<Start, Wrong>
+        ensures { (ns : List ℕ) → Starts (table self.now.types.now ns) (rows_in self.now.values.now) row slot result }
+    {
+        let own = self.type_row(row);
+        let kind = own.kind;
+        if !own.is_unwrapped() {
+            return Ok(Start {
+                row,
+                kind,
+                slot,
+                size: None,
+            });
+        }
+        let Some(w) = row_at(self.values, slot) else {
+            return Err(Wrong { slot });
         };
-    }
-    let Found::Row(w) = row_at(values, slot) else {
-        return Start {
-            row: row,
-            kind: kind,
-            slot: slot,
-            size: 0,
-            right: false,
-        };
-    };
-    let right = (w.kind == Row::CHOICE) & ((w.a < own.members) & (w.b == 0));
-    if !right {
-        return Start {
-            row: row,
-            kind: kind,
-            slot: slot,
-            size: 0,
-            right: false,
-        };
-    }
-    let e = type_at(types, row, w.a);
-    let chosen = kind_of(types, e);
-    Start {
-        row: e,
-        kind: chosen,
-        slot: slot + 1,
-        size: w.size,
-        right: true,
+        let right = (w.kind == Row::CHOICE) & ((w.a < own.members) & (w.b == 0));
+        if !right {
+            return Err(Wrong { slot });
+        }
+        let e = type_at(self.types, row, w.a);
+        let chosen = kind_of(self.types, e);
+        Ok(Start {
+            row: e,
+            kind: chosen,
+            slot: slot + 1,
+            size: Some(w.size),
+        })
     }
 }
 
-// A value is taken whose row is at `slot`, from the slot `first` on: an UNWRAPPED choice, if they differ.
-pub fn closed(first: usize, size: u32, slot: usize, next: usize, used: usize, end: usize) -> Taken
-    ensures { result ≡ closed_as first size slot next used end }
+// A value is taken that begins at `slot`: of an UNWRAPPED choice, whose row has the size, its alternative is.
+#[tactic(auto, unfolding(crate::specs::Start::closed_as))]
+pub fn closed(size: Option<u32>, slot: usize, took: Took) -> Result<Took, Wrong>
+    ensures { result ≡ closed_as size slot took.next took.used took.end }
 {
-    if first == slot {
-        return Taken::Took {
-            next: next,
-            used: used,
-            end: end,
-        };
+    match size {
+        Some(size) => ended(true, size, slot, took),
+        None => Ok(took),
     }
-    ended(true, size, slot, next, used, end)
 }

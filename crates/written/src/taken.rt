@@ -1,37 +1,42 @@
 // What taking one value of the table, and writing it, answers.
 ghost use Rattle.std.specs.Prelude.{◌≡◌, ◌&&◌, ◌-◌, eqb};
+ghost use Rattle.jer.specs.declared.Refusal.TheVariants.{AtRow};
+ghost use Rattle.jer.specs.declared.Which.TheVariants.{ValueTable};
 ghost use Rattle.written.specs.Text.{ended_as};
 
+use jer::{Refusal, Which};
 use types::row::wide;
 
+// The next slot, how far the pool is used, and where the text ends.
 #[derive(Clone, Copy)]
-pub enum Taken {
-    // The next slot, how far the pool is used, and where the text ends.
-    Took {
-        next: usize,
-        used: usize,
-        end: usize,
-    },
-    // The first bad slot.
-    Wrong(usize),
+pub struct Took {
+    pub next: usize,
+    pub used: usize,
+    pub end: usize,
 }
 
-fn rows_between(slot: usize, next: usize) -> usize
-    ensures { result ≡ next - slot }
-{
-    if next < slot { 0 } else { next - slot }
+// A row breaks a rule: the first bad slot.
+#[derive(Clone, Copy)]
+pub struct Wrong {
+    pub slot: usize,
 }
 
-// Taken up to the next slot, if the row at `slot` is right, its size too.
-pub fn ended(good: bool, size: u32, slot: usize, next: usize, used: usize, end: usize) -> Taken
-    ensures { result ≡ ended_as (good && eqb size (next - slot)) slot next used end }
-{
-    if good & (wide(size) == rows_between(slot, next)) {
-        return Taken::Took {
-            next: next,
-            used: used,
-            end: end,
-        };
+// Refusal 12 at the slot.
+impl From<Wrong> for Refusal {
+    ghost from_gives = { λ w e. e ≡ AtRow ValueTable w.slot };
+
+    fn from(w: Wrong) -> Refusal {
+        Refusal::AtRow(Which::ValueTable, w.slot)
     }
-    Taken::Wrong(slot)
+}
+
+// Taken, if the row at `slot` is right, its size too.
+#[tactic(auto, unfolding(crate::specs::Text::ended_as))]
+pub fn ended(good: bool, size: u32, slot: usize, took: Took) -> Result<Took, Wrong>
+    ensures { result ≡ ended_as (good && eqb size (took.next - slot)) slot took.next took.used took.end }
+{
+    if good & (wide(size) == took.next.saturating_sub(slot)) {
+        return Ok(took);
+    }
+    Err(Wrong { slot })
 }

@@ -2,16 +2,16 @@ use mathlib.Core.Path.{refl}
 use Rattle.capi.specs.Answers.{of_reading}
 use Rattle.capi.proofs.attrywind_read.Goals as goal
 
-pub returns-in-Refused : goal.returns-in-Refused
+pub returns-in-Err : goal.returns-in-Err
 unfolding of_reading
-returns-in-Refused c =
+returns-in-Err c =
     let read = c.read.ensures in
-    let is = c.in-Refused.is in
+    let is = c.in-Err.is in
     record { answer = _; call = read; number = rw is c.refused.ensures.value; told = rw is c.refused.ensures.amounts_after }
 
-pub returns-in-Read : goal.returns-in-Read
+pub returns-in-Ok : goal.returns-in-Ok
 unfolding of_reading
-returns-in-Read c =
+returns-in-Ok c =
     let read = c.read.ensures in
-    let is = c.in-Read.is in
+    let is = c.in-Ok.is in
     record { answer = _; call = read; number = rw is refl; told = rw is c.told.ensures }

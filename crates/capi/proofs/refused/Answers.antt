@@ -5,5 +5,5 @@ use Rattle.capi.proofs.refused.Goals as goal
 
 pub returns : goal.returns
 returns c =
-    let report = c.report-t.ensures in
+    let report = c.from-t.ensures in
     record { value = ap (λ (t : Reported). t.number) report; amounts_after = c.told.ensures ∙ ap (λ (t : Reported). amounts_after c.args.amounts.now t.first t.second) report }

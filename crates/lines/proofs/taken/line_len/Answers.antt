@@ -1,12 +1,16 @@
-use native.Mathlib.Omega.{arith}
-use Rattle.lines.proofs.TakenLaws.{line_none, line_here, line_more}
+use mathlib.Core.Path.{ap, ◌∙◌}
+use mathlib.Core.List.{List}
+use Prim.Native.Nat.{ℕ, ◌-◌}
+use lib.ListN.{length, take, drop}
+use Rattle.std.specs.Prelude.{Option}
+use Rattle.std.specs.Option.{unwrap_or}
+use Rattle.jer.specs.Programs.{line_from}
+use Rattle.lines.proofs.TakenLaws.{line_place, rest_is}
 use Rattle.lines.proofs.taken.line_len.Goals as goal
 
-pub returns-then-s-i-eq10 : goal.returns-then-s-i-eq10
-returns-then-s-i-eq10 c = let l = line_here c.args.s.now c.loop-i.i c.loop-i-test.true c.if-s-i-eq10.true in omega (arith, l, c.loop-i.invariant)
-
-pub loop-i-preserved : goal.loop-i-preserved
-loop-i-preserved c = let l = line_more c.args.s.now c.loop-i.i c.loop-i-test.true c.if-s-i-eq10.false in (omega (arith, c.loop-i.invariant), omega (arith, c.loop-i.invariant), omega (arith, l, c.loop-i.invariant))
-
 pub returns : goal.returns
-returns c = omega (arith, line_none c.args.s.now c.loop-i.i c.loop-i-test.false, c.loop-i.invariant)
+returns c =
+    let s = c.args.s.now in
+    let at = c.args.at in
+    let rest = take (length s - at) (drop at s) in
+    c.unwrap_or.ensures ∙ ap (λ (o : Option ℕ). unwrap_or o (length rest)) c.line_feed.ensures ∙ line_place rest ∙ ap (λ (l : List ℕ). length (line_from l).bytes) (rest_is s at)

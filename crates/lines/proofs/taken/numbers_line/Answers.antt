@@ -1,40 +1,11 @@
-use borrow.Author.Tests.{not-true, not-false}
-use mathlib.Core.Path.{sym, ◌∙◌}
-use Rattle.lines.proofs.TakenLaws.{good, line_ends, numbers-missing, numbers-bad, numbers-taken}
-use borrow.Author.Rules.{rules}
+use mathlib.Core.Path.{ap, ◌∙◌}
+use lib.ListN.{drop}
+use Rattle.lines.specs.Taken.{taken_of, after}
+use Rattle.lines.proofs.TakenLaws.{numbers_line-is}
 use Rattle.lines.proofs.taken.numbers_line.Goals as goal
 
-pub returns-then-s-at-clause-value : goal.returns-then-s-at-clause-value
-returns-then-s-at-clause-value c = (numbers-missing c.args.s.now c.args.at c.args.out.now c.if-s-at.true).0
-
-pub returns-then-s-at-clause-out_after : goal.returns-then-s-at-clause-out_after
-returns-then-s-at-clause-out_after c = (numbers-missing c.args.s.now c.args.at c.args.out.now c.if-s-at.true).1
-
-pub returns-then-not-is_good-clause-value : goal.returns-then-not-is_good-clause-value
-returns-then-not-is_good-clause-value c = (numbers-bad c.args.s.now c.args.at c.args.out.now c.if-s-at.false c.line_len-n.ensures c.part-line.ensures (sym (not-true c.is_good.result c.if-not-is_good.true-raw) ∙ c.is_good.ensures)).0
-
-pub returns-then-not-is_good-clause-out_after : goal.returns-then-not-is_good-clause-out_after
-returns-then-not-is_good-clause-out_after c = (numbers-bad c.args.s.now c.args.at c.args.out.now c.if-s-at.false c.line_len-n.ensures c.part-line.ensures (sym (not-true c.is_good.result c.if-not-is_good.true-raw) ∙ c.is_good.ensures)).1
-
-pub store_numbers-requires : goal.store_numbers-requires
-store_numbers-requires c = (good 4 c.part-line.result.now (sym (not-false c.is_good.result c.if-not-is_good.false-raw) ∙ c.is_good.ensures)).digits
-
-pub overflow_add-result : goal.overflow_add-result
-overflow_add-result c =
-    let w = line_ends c.args.s.now c.args.at c.args.out.now c.if-s-at.false c.line_len-n.ensures c.part-line.ensures in
-    search rules
-
-pub overflow_add-result-2 : goal.overflow_add-result-2
-overflow_add-result-2 c =
-    let w = line_ends c.args.s.now c.args.at c.args.out.now c.if-s-at.false c.line_len-n.ensures c.part-line.ensures in
-    search rules
-
-pub returns-clause-value : goal.returns-clause-value
-returns-clause-value c =
-    let is-good = c.is_good in
-    (numbers-taken c.args.s.now c.args.at c.args.out.now c.if-s-at.false c.line_len-n.ensures c.part-line.ensures (sym (not-false is-good.result c.if-not-is_good.false-raw) ∙ is-good.ensures) c.store_numbers.ensures).0
-
-pub returns-clause-out_after : goal.returns-clause-out_after
-returns-clause-out_after c =
-    let is-good = c.is_good in
-    (numbers-taken c.args.s.now c.args.at c.args.out.now c.if-s-at.false c.line_len-n.ensures c.part-line.ensures (sym (not-false is-good.result c.if-not-is_good.false-raw) ∙ is-good.ensures) c.store_numbers.ensures).1
+pub returns : goal.returns
+returns c =
+    let a = c.args in
+    let same = numbers_line-is (drop a.at a.s.now) in
+    record { value = c.line.ensures.value ∙ ap (taken_of a.s.now a.at) same; out_after = c.line.ensures.out_after ∙ ap (after a.out.now) same }

@@ -10,5 +10,5 @@ returns-then-n-lt9223372036854775808 c = c.digit_count.ensures.value ∙ ap leng
 
 pub returns : goal.returns
 returns c =
-    let e = sym (int-minus c.joined-n.result c.if-n-lt9223372036854775808.false (omega arith)) ∙ ap int_text c.joined-n.ensures in
+    let e = sym (int-minus c.joined-n.result c.wrapping_neg.result c.if-n-lt9223372036854775808.false c.joined-n.type_inv c.wrapping_neg.type_inv c.wrapping_neg.ensures) ∙ ap int_text c.joined-n.ensures in
     omega (arith, ap length e, c.digit_count-2.ensures.value)

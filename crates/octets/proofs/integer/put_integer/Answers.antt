@@ -1,4 +1,4 @@
-use Prim.Native.Nat.{ℕ, ◌+◌, ◌-◌}
+use Prim.Native.Nat.{ℕ}
 use mathlib.Core.Path.{sym, ap, ◌∙◌}
 use mathlib.Core.List.{List, [], ◌∷◌}
 use native.Mathlib.Omega.{arith}
@@ -18,5 +18,5 @@ returns-then-n-lt9223372036854775808 c =
 pub returns : goal.returns
 returns c =
     let a = c.args in
-    let e = sym (int-minus c.joined-n.result c.if-n-lt9223372036854775808.false (omega arith)) ∙ ap int_text c.joined-n.ensures in
-    record { value = omega (arith, ap length e, c.put_digits-2.ensures.value); text_after = sets-next a.text.now a.k (0x2D ∷ []) (digits 20 (18446744073709551615 - c.joined-n.result + 1) []) c.put.ensures c.put_digits-2.ensures.text_after ∙ ap (λ (l : List ℕ). sets a.text.now a.k l) e }
+    let e = sym (int-minus c.joined-n.result c.wrapping_neg.result c.if-n-lt9223372036854775808.false c.joined-n.type_inv c.wrapping_neg.type_inv c.wrapping_neg.ensures) ∙ ap int_text c.joined-n.ensures in
+    record { value = omega (arith, ap length e, c.put_digits-2.ensures.value); text_after = sets-next a.text.now a.k (0x2D ∷ []) (digits 20 c.wrapping_neg.result []) c.put.ensures c.put_digits-2.ensures.text_after ∙ ap (λ (l : List ℕ). sets a.text.now a.k l) e }

@@ -5,6 +5,7 @@ use lib.ListN.{get_or}
 use Rattle.quick.proofs.EmitLaws.{noted_two, noted_three, noted_nodes, noted_slot, row-stored, parts-given, items-given, choice-given, list_emitted, parts_emitted, choice_emitted}
 use Rattle.quick.proofs.PourLaws.{pouring-start, items_noted, items-step, items-again, items-end, filling-start, link-inside, parts-some, parts-absent, parts_noted, parts-ahead, parts_again, parts-step, parts-end}
 use Rattle.quick.proofs.emit.+emit_items_parts.Goals as goal
+use Rattle.quick.proofs.emit.+emit_items_parts.Goals.{parts-then-w-eq0, parts-else-w-eq0}
 
 pub emit-offset_bounds-tape-top : goal.emit-offset_bounds-tape-top
 emit-offset_bounds-tape-top t c =
@@ -281,18 +282,6 @@ parts-overflow_add-q t c =
     let pool = c.args.pool.now in
     omega (arith, parts-some types s z rows pool row c.args.from c.args.slot c.args.offset noted c.count_of-count.result c.count_of-count.ensures c.loop-k.rows c.loop-k.pool c.loop-k.k c.loop-k.q c.loop-k.o c.loop-k.invariant c.loop-k-test.true)
 
-pub parts-loop-k-preserved-then-w-eq0 : goal.parts-loop-k-preserved-then-w-eq0
-parts-loop-k-preserved-then-w-eq0 t c =
-    let types = c.args.types.now in
-    let s = c.args.s.now in
-    let z = c.args.tape.now in
-    let row = c.args.row in
-    let noted = c.requires.0 in
-    let rows = c.args.rows.now in
-    let pool = c.args.pool.now in
-    let word = c.wide-w.ensures.0 ∙ ap (λ (x : ℕ). get_or z (c.args.from + x) 0) c.wide.ensures.0 in
-    parts-absent types s z rows pool row c.args.from c.args.slot c.args.offset noted c.count_of-count.result c.count_of-count.ensures c.loop-k.rows c.loop-k.pool c.loop-k.k c.loop-k.q c.loop-k.o c.loop-k.invariant c.loop-k-test.true c.wide-w.result word c.put_row.new.rows c.requires.2 c.if-w-eq0.true c.put_row.auto.rows c.put_row.ensures
-
 pub parts-emit-o-requires : goal.parts-emit-o-requires
 parts-emit-o-requires t c =
     let types = c.args.types.now in
@@ -341,7 +330,10 @@ parts-loop-k-preserved t c =
     let rows = c.args.rows.now in
     let pool = c.args.pool.now in
     let word = c.wide-w.ensures.0 ∙ ap (λ (x : ℕ). get_or z (c.args.from + x) 0) c.wide.ensures.0 in
-    parts_again types s z rows pool row c.args.from c.args.slot c.args.offset noted c.count_of-count.result c.count_of-count.ensures c.loop-k.rows c.loop-k.pool c.loop-k.k c.loop-k.q c.loop-k.o c.loop-k.invariant c.loop-k-test.true c.wide-w.result word c.type_at-m.result c.type_at-m.ensures c.if-w-eq0.false c.emit-o.new.rows c.emit-o.new.pool c.node_at-g.result.end c.node_at-g.result.rows c.emit-o.result c.emit-o.auto.rows c.emit-o.auto.pool c.emit-o.ensures c.node_at-g.ensures
+    elim c.if-w-eq0.branch [
+      | parts-then-w-eq0 w ↦ rw (w.rows-is, w.pool-is, w.q-is, w.o-is) (parts-absent types s z rows pool row c.args.from c.args.slot c.args.offset noted c.count_of-count.result c.count_of-count.ensures c.loop-k.rows c.loop-k.pool c.loop-k.k c.loop-k.q c.loop-k.o c.loop-k.invariant c.loop-k-test.true c.wide-w.result word w.put_row.new.rows c.requires.2 w.if-w-eq0.true w.put_row.auto.rows w.put_row.ensures)
+      | parts-else-w-eq0 w ↦ rw (w.rows-is, w.pool-is, w.q-is, w.o-is) (parts_again types s z rows pool row c.args.from c.args.slot c.args.offset noted c.count_of-count.result c.count_of-count.ensures c.loop-k.rows c.loop-k.pool c.loop-k.k c.loop-k.q c.loop-k.o c.loop-k.invariant c.loop-k-test.true c.wide-w.result word w.type_at-m.result w.type_at-m.ensures w.if-w-eq0.false w.emit-o.new.rows w.emit-o.new.pool w.node_at-g.result.end w.node_at-g.result.rows w.emit-o.result w.emit-o.auto.rows w.emit-o.auto.pool w.emit-o.ensures w.node_at-g.ensures)
+    ]
 
 pub parts-returns : goal.parts-returns
 parts-returns t c =

@@ -19,6 +19,3 @@ decreases-items-loop-at l = l.end - l.at
 
 abbrev pub invariant-parts-loop-k : goal.invariant-parts-loop-k
 invariant-parts-loop-k l = PartsLoop l.types l.s l.tape l.initial.rows l.rows l.initial.pool l.pool l.row l.from l.slot l.offset l.k l.q l.o
-
-abbrev pub decreases-parts-loop-k : goal.decreases-parts-loop-k
-decreases-parts-loop-k l = l.count - l.k

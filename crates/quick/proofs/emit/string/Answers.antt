@@ -54,7 +54,7 @@ put_row-requires-then-b-ge-ESCAPED c =
     omega (arith, here)
 
 pub octets_at-requires : goal.octets_at-requires
-octets_at-requires c = let r = escaped-room c.requires.0 (λ ns. octet-kind (c.requires.2 ns) c.if-kind_of-eq-UTF8_STRING.false (c.kind_of.ensures ns)) c.requires.1.0 c.if-b-ge-ESCAPED.true in (c.requires.1.0, omega (arith, r, c.wide-then-b-ge-ESCAPED.ensures.0), omega (arith, c.requires.0.room.small))
+octets_at-requires c = let r = escaped-room c.requires.0 (λ ns. octet-kind (c.requires.2 ns) c.if-kind_of-eq-UTF8_STRING.false (c.kind_of.ensures ns)) c.requires.1.0 c.if-b-ge-ESCAPED.true in (c.requires.1.0, omega (arith, r, c.wide-then-b-ge-ESCAPED.ensures.0))
 
 pub overflow_add-result-then-b-ge-ESCAPED : goal.overflow_add-result-then-b-ge-ESCAPED
 overflow_add-result-then-b-ge-ESCAPED c = omega (arith, c.wide-then-b-ge-ESCAPED-2.ensures, c.requires.0.room.small)
@@ -64,7 +64,7 @@ returns-then-b-ge-ESCAPED c =
     let types = c.args.types.now in
     let rows = c.args.rows.now in
     let pool = c.args.pool.now in
-    λ ns v k w. escaped_emitted c.args.offset c.args.slot _ rows c.put_row-then-b-ge-ESCAPED.new.rows pool c.octets_at.new.pool (octet-kind (c.requires.2 ns) c.if-kind_of-eq-UTF8_STRING.false (c.kind_of.ensures ns)) c.requires.1.0 c.if-b-ge-ESCAPED.true c.put_row-then-b-ge-ESCAPED.ensures (stored-place c.args.s.now c.octets_at.new.pool pool c.args.offset (table types ns) c.args.row c.wide-then-b-ge-ESCAPED.ensures.0 (c.octets_at.ensures.by_index_2 ns)) (ap (λ (x : ℕ). c.args.offset + x) c.wide-then-b-ge-ESCAPED-2.ensures.0) w
+    λ ns v k w. escaped_emitted c.args.offset c.args.slot _ rows c.put_row-then-b-ge-ESCAPED.new.rows pool c.octets_at.new.pool (octet-kind (c.requires.2 ns) c.if-kind_of-eq-UTF8_STRING.false (c.kind_of.ensures ns)) c.requires.1.0 c.if-b-ge-ESCAPED.true c.put_row-then-b-ge-ESCAPED.ensures (stored-place c.args.s.now c.octets_at.new.pool pool c.args.offset (table types ns) c.args.row c.wide-then-b-ge-ESCAPED.ensures.0 (c.octets_at.ensures.stored ns (omega (arith, c.requires.0.room.small)))) (ap (λ (x : ℕ). c.args.offset + x) c.wide-then-b-ge-ESCAPED-2.ensures.0) w
 
 pub put_row-requires-then-is_base64 : goal.put_row-requires-then-is_base64
 put_row-requires-then-is_base64 c =

@@ -1,4 +1,4 @@
-use Prim.Native.Nat.{ℕ, ◌-◌, ◌<◌, ◌≤◌}
+use Prim.Native.Nat.{ℕ, ◌<◌}
 use mathlib.Core.Path.{◌≡◌}
 use mathlib.Core.Bool.{true, false}
 use mathlib.Core.List.{List}
@@ -7,7 +7,4 @@ use Rattle.places.specs.ByPlaces.{bit_of}
 use Rattle.quick.proofs.member.complete.Given as goal
 
 abbrev pub invariant-loop-k : goal.invariant-loop-k
-invariant-loop-k l = (l.k ≤ l.count) × ((ns : List ℕ) (i : ℕ) → i < l.k → bit_of l.met i ≡ false → may_miss (table l.types ns) l.row i ≡ true)
-
-abbrev pub decreases-loop-k : goal.decreases-loop-k
-decreases-loop-k l = l.count - l.k
+invariant-loop-k l = (ns : List ℕ) (i : ℕ) → i < l.k → bit_of l.met i ≡ false → may_miss (table l.types ns) l.row i ≡ true

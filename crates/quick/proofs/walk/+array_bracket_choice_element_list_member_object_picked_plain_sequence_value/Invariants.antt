@@ -39,19 +39,19 @@ abbrev pub decreases-value : goal.decreases-value
 decreases-value l = l.depth * 8 + 5
 
 abbrev pub invariant-array-loop-g : goal.invariant-array-loop-g
-invariant-array-loop-g l = Arraying (table l.types l.names) l.s l.initial.tape l.tape l.depth l.row l.place l.top l.at l.end l.k l.met l.present l.n l.m
+invariant-array-loop-g l = Arraying (table l.source.types.now l.source.names.now) l.source.s.now l.initial.tape l.tape l.depth l.row l.place l.top l.at l.end l.k l.met l.present l.n l.m
 
 abbrev pub decreases-array-loop-g : goal.decreases-array-loop-g
 decreases-array-loop-g l = 65537 - l.at
 
 abbrev pub invariant-list-loop-at : goal.invariant-list-loop-at
-invariant-list-loop-at l = Listing (table l.types l.names) l.s l.initial.tape l.tape l.depth l.row l.place l.top l.at l.end l.count l.n l.m
+invariant-list-loop-at l = Listing (table l.source.types.now l.source.names.now) l.source.s.now l.initial.tape l.tape l.depth l.row l.place l.top l.at l.end l.count l.n l.m
 
 abbrev pub decreases-list-loop-at : goal.decreases-list-loop-at
 decreases-list-loop-at l = 65537 - l.at
 
 abbrev pub invariant-object-loop-g : goal.invariant-object-loop-g
-invariant-object-loop-g l = Objecting (table l.types l.names) l.s l.initial.tape l.tape l.depth l.row l.place l.top l.at l.end l.met l.present l.n l.m
+invariant-object-loop-g l = Objecting (table l.source.types.now l.source.names.now) l.source.s.now l.initial.tape l.tape l.depth l.row l.place l.top l.at l.end l.met l.present l.n l.m
 
 abbrev pub decreases-object-loop-g : goal.decreases-object-loop-g
 decreases-object-loop-g l = 65537 - l.at

@@ -1,13 +1,13 @@
+use Rattle.jer.specs.Answer.{Reading}
 use mathlib.Core.Path.{sym, ap, ◌∙◌}
-use Rattle.jer.specs.declared.Reading.{Reading}
 use Rattle.jer.specs.Reports.{reported_of}
 use Rattle.jer.specs.Each.{values_in}
 use Rattle.reading.proofs.each.values_in.Goals as goal
 
-pub returns-in-Refused : goal.returns-in-Refused
+pub returns-in-Err : goal.returns-in-Err
 unfolding values_in
-returns-in-Refused c = c.report.ensures ∙ ap (λ (r : Reading). reported_of (values_in r)) (sym c.in-Refused.is)
+returns-in-Err c = c.from.ensures ∙ ap (λ (r : Reading). reported_of (values_in r)) (sym c.in-Err.is)
 
-pub returns-in-Read : goal.returns-in-Read
+pub returns-in-Ok : goal.returns-in-Ok
 unfolding values_in
-returns-in-Read c = ap (λ (r : Reading). reported_of (values_in r)) (sym c.in-Read.is)
+returns-in-Ok c = ap (λ (r : Reading). reported_of (values_in r)) (sym c.in-Ok.is)

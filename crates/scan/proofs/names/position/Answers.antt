@@ -1,9 +1,7 @@
-use mathlib.Core.Path.{◌≡◌, ap}
+use mathlib.Core.Path.{◌≡◌}
 use Prim.Native.Nat.{◌+◌}
-use native.Mathlib.Omega.{arith}
 use Rattle.jer.specs.Table.{table}
 use Rattle.tokens.specs.Strings.{denoted}
-use Rattle.types.specs.Rows.{found_of}
 use Rattle.types.proofs.RowLaws.{member-row}
 use Rattle.types.proofs.LoopLaws.{first_next, first_found, first_ends}
 use Rattle.scan.proofs.NameLaws.{named-is, position-starts}
@@ -24,18 +22,11 @@ loop-i-init c =
     let a = c.args in
     position-starts (table a.types.now a.names.now) a.row (denoted a.s.now (a.q + 1)) (c.count_of-count.ensures a.names.now)
 
-pub has_name-requires : goal.has_name-requires
-has_name-requires c = (c.requires.0, c.plain_first-b.ensures)
-
 pub returns-then-has_name : goal.returns-then-has_name
-unfolding found_of
 returns-then-has_name c =
     let a = c.args in
     let l = c.loop-i in
-    ap found_of (first_found (test a.types.now a.names.now a.s.now a.row a.q) l.i c.count_of-count.result c.loop-i-test.true (compared (goal.at.returns-then-has_name c).After-has_name) c.if-has_name.true l.invariant)
-
-pub loop-i-smaller : goal.loop-i-smaller
-loop-i-smaller c = omega arith
+    first_found (test a.types.now a.names.now a.s.now a.row a.q) l.i c.count_of-count.result c.loop-i-test.true (compared (goal.at.returns-then-has_name c).After-has_name) c.if-has_name.true l.invariant
 
 pub loop-i-preserved : goal.loop-i-preserved
 loop-i-preserved c =
@@ -44,8 +35,7 @@ loop-i-preserved c =
     first_next (test a.types.now a.names.now a.s.now a.row a.q) l.i c.count_of-count.result c.loop-i-test.true (compared (goal.at.loop-i-preserved c).After-has_name) c.if-has_name.false l.invariant
 
 pub returns : goal.returns
-unfolding found_of
 returns c =
     let a = c.args in
     let l = c.loop-i in
-    ap found_of (first_ends (test a.types.now a.names.now a.s.now a.row a.q) l.i c.count_of-count.result c.loop-i-test.false l.invariant)
+    first_ends (test a.types.now a.names.now a.s.now a.row a.q) l.i c.count_of-count.result c.loop-i-test.false l.invariant

@@ -13,6 +13,3 @@ test types names s row q = named (table types names) row (denoted s (q + 1))
 
 abbrev pub invariant-loop-i : goal.invariant-loop-i
 invariant-loop-i l = first_where (test l.types l.names l.s l.row l.q) l.i (l.count - l.i) ≡ position (table l.types l.names) l.row (denoted l.s (l.q + 1))
-
-abbrev pub decreases-loop-i : goal.decreases-loop-i
-decreases-loop-i l = l.count - l.i

@@ -20,5 +20,5 @@ returns c =
     let a = c.args in
     let f : List ℕ → List ℕ → List ℕ = λ pool rest. write_shown a.types.now a.names.now a.values.now pool in
     shown_as a.out.now 0
-    (ap (λ (x : List ℕ). f x (drop c.in-Line.field-1 a.s.now)) c.part.ensures ∙ octets-given 4 a.s.now a.p f _ (omega arith) (sym c.in-Line.is ∙ c.octets_line.ensures.value) c.octets_line.ensures.out_after)
+    (ap (λ (x : List ℕ). f x (drop c.in-Some.field-0.next a.s.now)) c.part.ensures ∙ octets-given 4 a.s.now a.p f _ (omega arith) (sym c.in-Some.is ∙ c.octets_line.ensures.value) c.octets_line.ensures.out_after)
     c.show.ensures

@@ -20,5 +20,5 @@ returns c =
     let a = c.args in
     let f : List ℕ → List ℕ → List ℕ = λ values rest. write_fourth a.types.now a.names.now values rest in
     shown_as a.out.now 0
-    (ap (λ (x : List ℕ). f x (drop c.in-Line.q a.s.now)) c.first_numbers.ensures ∙ numbers-given 3 a.s.now a.p f _ (omega arith) (sym c.in-Line.is ∙ c.numbers_line.ensures.value) c.numbers_line.ensures.out_after)
+    (ap (λ (x : List ℕ). f x (drop c.in-Some.field-0.next a.s.now)) c.part.ensures ∙ numbers-given 3 a.s.now a.p f _ (omega arith) (sym c.in-Some.is ∙ c.numbers_line.ensures.value) c.numbers_line.ensures.out_after)
     c.fourth.ensures

@@ -1,45 +1,13 @@
+use mathlib.Core.Path.{sym}
 use native.Mathlib.Omega.{arith}
 use Rattle.spelled.proofs.OctetLaws.{group_one, group_two, group_three}
 use Rattle.spelled.proofs.coded.last_group.Goals as goal
 
-pub returns-then-digit-gt63 : goal.returns-then-digit-gt63
-returns-then-digit-gt63 c = (λ h. absurd (omega arith), omega arith)
-
-pub returns-then-y-gt63 : goal.returns-then-y-gt63
-returns-then-y-gt63 c = (λ h. absurd (omega arith), omega arith)
+pub returns-then-d-ne61 : goal.returns-then-d-ne61
+returns-then-d-ne61 c = (group_three c.args.a c.args.b c.args.c c.args.d _ _ _ _ (sym c.in_ok-base64_value.ensures.value) (sym c.in_ok-y.ensures.value) (sym c.in_ok-base64_value-2.ensures.value) (sym c.in_ok-base64_value-3.ensures.value) c.if-d-ne61.true, omega arith)
 
 pub returns-then-y-eq0 : goal.returns-then-y-eq0
-returns-then-y-eq0 c =
-    let a = c.args in
-    let x = c.digit.ensures.is (omega (arith, c.if-digit-gt63.false)) in
-    let y = c.digit-y.ensures.is (omega (arith, c.if-y-gt63.false)) in
-    (λ h. group_one a.a a.b a.c a.d _ _ x y c.if-c-eq61.true c.if-d-eq61.true c.if-y-eq0.true, omega arith)
-
-pub returns-then-c-eq61 : goal.returns-then-c-eq61
-returns-then-c-eq61 c = (λ h. absurd (omega arith), omega arith)
-
-pub returns-then-z-gt63 : goal.returns-then-z-gt63
-returns-then-z-gt63 c = (λ h. absurd (omega arith), omega arith)
+returns-then-y-eq0 c = (group_one c.args.a c.args.b c.args.c c.args.d _ _ (sym c.in_ok-base64_value.ensures.value) (sym c.in_ok-y.ensures.value) c.if-c-eq61.true c.if-d-ne61.false c.if-y-eq0.true, omega arith)
 
 pub returns-then-z-eq0 : goal.returns-then-z-eq0
-returns-then-z-eq0 c =
-    let a = c.args in
-    let x = c.digit.ensures.is (omega (arith, c.if-digit-gt63.false)) in
-    let y = c.digit-y.ensures.is (omega (arith, c.if-y-gt63.false)) in
-    (λ h. group_two a.a a.b a.c a.d _ _ _ x y (c.digit-z.ensures.is (omega (arith, c.if-z-gt63.false))) c.if-c-eq61.false c.if-d-eq61.true c.if-z-eq0.true, omega arith)
-
-pub returns-then-d-eq61 : goal.returns-then-d-eq61
-returns-then-d-eq61 c = (λ h. absurd (omega arith), omega arith)
-
-pub returns-then-z-gt63-2 : goal.returns-then-z-gt63-2
-returns-then-z-gt63-2 c = (λ h. absurd (omega arith), omega arith)
-
-pub returns-then-digit-gt63-2 : goal.returns-then-digit-gt63-2
-returns-then-digit-gt63-2 c = (λ h. absurd (omega arith), omega arith)
-
-pub returns : goal.returns
-returns c =
-    let a = c.args in
-    let x = c.digit.ensures.is (omega (arith, c.if-digit-gt63.false)) in
-    let y = c.digit-y.ensures.is (omega (arith, c.if-y-gt63.false)) in
-    (λ h. group_three a.a a.b a.c a.d _ _ _ _ x y (c.digit-z.ensures.is (omega (arith, c.if-z-gt63-2.false))) (c.digit-2.ensures.is (omega (arith, c.if-digit-gt63-2.false))) c.if-d-eq61.false, omega arith)
+returns-then-z-eq0 c = (group_two c.args.a c.args.b c.args.c c.args.d _ _ _ (sym c.in_ok-base64_value.ensures.value) (sym c.in_ok-y.ensures.value) (sym c.in_ok-z.ensures.value) c.if-c-eq61.false c.if-d-ne61.false c.if-z-eq0.true, omega arith)

@@ -1,4 +1,4 @@
-use Prim.Native.Nat.{ℕ, ◌+◌, ◌-◌, ◌<◌, ◌≤◌}
+use Prim.Native.Nat.{ℕ, ◌+◌, ◌<◌}
 use mathlib.Core.Path.{◌≡◌}
 use mathlib.Core.Bool.{false}
 use lib.ListN.{take, drop}
@@ -6,7 +6,4 @@ use Rattle.jer.specs.Table.{table, name_in, same_bytes}
 use Rattle.spelled.proofs.names.search.Given as goal
 
 abbrev pub invariant-loop-k : goal.invariant-loop-k
-invariant-loop-k l = ((i : ℕ) → i < l.k → same_bytes (name_in (table l.types l.names) (l.first + i)) (take l.n (drop l.p l.s)) ≡ false) × (l.k ≤ l.count)
-
-abbrev pub decreases-loop-k : goal.decreases-loop-k
-decreases-loop-k l = l.count - l.k
+invariant-loop-k l = (i : ℕ) → i < l.k → same_bytes (name_in (table l.types l.names) (l.first + i)) (take l.n (drop l.p l.s)) ≡ false

@@ -1,44 +1,15 @@
 use native.Mathlib.Omega.{arith}
+use Rattle.spelled.proofs.StretchLaws.{at-end}
+use Rattle.spelled.specs.Stretch.{Stretch}
+use Rattle.spelled.specs.Number.{SomeOnward}
 use Rattle.spelled.proofs.AnyNumber.{digits-none, digits_more}
 use Rattle.spelled.proofs.number.digits.Goals as goal
 
 pub loop-q-init : goal.loop-q-init
-loop-q-init c =
-    let s = c.args.s.now in
-    (λ m. digits-none s c.args.p m, omega arith)
-
-pub returns-then-b-lt48-clause-by_index : goal.returns-then-b-lt48-clause-by_index
-returns-then-b-lt48-clause-by_index c =
-    let l = c.loop-q in
-    (l.invariant).0
-
-pub returns-then-b-lt48-clause-within : goal.returns-then-b-lt48-clause-within
-returns-then-b-lt48-clause-within c =
-    let l = c.loop-q in
-    (l.invariant).1
-
-pub returns-then-b-gt57-clause-by_index : goal.returns-then-b-gt57-clause-by_index
-returns-then-b-gt57-clause-by_index c =
-    let l = c.loop-q in
-    (l.invariant).0
-
-pub returns-then-b-gt57-clause-within : goal.returns-then-b-gt57-clause-within
-returns-then-b-gt57-clause-within c =
-    let l = c.loop-q in
-    (l.invariant).1
+loop-q-init c = λ m. digits-none c.args.s.now c.args.p m
 
 pub loop-q-preserved : goal.loop-q-preserved
-loop-q-preserved c =
-    let s = c.args.s.now in
-    let l = c.loop-q in
-    (λ m. digits_more s c.args.p l.q m (l.invariant.0 m) c.loop-q-test.true (omega (arith, c.if-b-lt48.false)) (omega (arith, c.if-b-gt57.false)), omega arith)
+loop-q-preserved c = λ m. digits_more c.args.s.now c.args.p c.loop-q.q m (c.loop-q.invariant m) (omega arith) (omega arith) (omega arith)
 
 pub returns-clause-by_index : goal.returns-clause-by_index
-returns-clause-by_index c =
-    let l = c.loop-q in
-    (l.invariant).0
-
-pub returns-clause-within : goal.returns-clause-within
-returns-clause-within c =
-    let l = c.loop-q in
-    (l.invariant).1
+returns-clause-by_index c = λ m. at-end (Stretch (SomeOnward m) c.args.s.now c.args.p) (digits-none c.args.s.now c.args.p m) (c.loop-q.invariant m) (omega arith) (omega arith) (omega arith) c.max.ensures

@@ -1,34 +1,12 @@
-use native.Mathlib.Omega.{arith}
-use Rattle.tokens.proofs.PlaceLaws.{inside}
+use Rattle.std.proofs.lemmas.Option.{IfSome_then}
 use Rattle.spelled.proofs.AnyNumber.{raised-bare, raised-plus, raised-minus}
 use Rattle.spelled.proofs.number.raised.Goals as goal
 
-pub overflow_add-p : goal.overflow_add-p
-overflow_add-p c =
-    let s = c.args.s.now in
-    let p = c.args.p in
-    omega (arith, inside s p (λ e. omega (arith, c.byte_at-b.ensures.value)))
+pub returns-in-43 : goal.returns-in-43
+returns-in-43 c = IfSome_then c.some_digits.result c.some_digits.ensures (λ q k. raised-plus c.args.s.now c.args.p q _ c.byte_at.ensures.value c.in-43.is k)
 
-pub returns-then-b-eq43 : goal.returns-then-b-eq43
-returns-then-b-eq43 c =
-    let s = c.args.s.now in
-    let p = c.args.p in
-    λ h. raised-plus s p _ _ c.byte_at-b.ensures.value c.if-b-eq43.true (c.some_digits.ensures h)
+pub returns-in-45 : goal.returns-in-45
+returns-in-45 c = IfSome_then c.some_digits-in-45.result c.some_digits-in-45.ensures (λ q k. raised-minus c.args.s.now c.args.p q _ c.byte_at.ensures.value c.in-45.is k)
 
-pub overflow_add-p-then-b-eq45 : goal.overflow_add-p-then-b-eq45
-overflow_add-p-then-b-eq45 c =
-    let s = c.args.s.now in
-    let p = c.args.p in
-    omega (arith, inside s p (λ e. omega (arith, c.byte_at-b.ensures.value)))
-
-pub returns-then-b-eq45 : goal.returns-then-b-eq45
-returns-then-b-eq45 c =
-    let s = c.args.s.now in
-    let p = c.args.p in
-    λ h. raised-minus s p _ _ c.byte_at-b.ensures.value c.if-b-eq45.true (c.some_digits-then-b-eq45.ensures h)
-
-pub returns : goal.returns
-returns c =
-    let s = c.args.s.now in
-    let p = c.args.p in
-    λ h. raised-bare s p _ (c.some_digits-2.ensures h)
+pub returns-in_default : goal.returns-in_default
+returns-in_default c = IfSome_then c.some_digits-in_default.result c.some_digits-in_default.ensures (λ q k. raised-bare c.args.s.now c.args.p q k)

@@ -1,4 +1,4 @@
-use Prim.Native.Nat.{◌-◌, ◌*◌, ◌≤◌}
+use Prim.Native.Nat.{◌*◌}
 use mathlib.Core.Path.{◌≡◌}
 use lib.ListN.{length, take, drop}
 use Rattle.jer.specs.Octets.{unhex}
@@ -6,7 +6,4 @@ use Rattle.spelled.proofs.PutLaws.{Storing}
 use Rattle.spelled.proofs.put.put_hex.Given as goal
 
 abbrev pub invariant-loop-k : goal.invariant-loop-k
-invariant-loop-k l = Storing unhex (take (l.count * 2) (drop l.p l.s)) l.pool l.initial.pool l.o (l.k * 2) l.k × (length l.pool ≡ length l.initial.pool) × (l.k ≤ l.count)
-
-abbrev pub decreases-loop-k : goal.decreases-loop-k
-decreases-loop-k l = l.count - l.k
+invariant-loop-k l = Storing unhex (take (l.count * 2) (drop l.p l.s)) l.pool l.initial.pool l.o (l.k * 2) l.k × (length l.pool ≡ length l.initial.pool)

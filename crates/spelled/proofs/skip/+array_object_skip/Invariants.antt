@@ -12,14 +12,14 @@ decreases-object l = l.depth + l.depth
 abbrev pub decreases-skip : goal.decreases-skip
 decreases-skip l = l.depth + l.depth + 1
 
-abbrev pub invariant-array-loop-p : goal.invariant-array-loop-p
-invariant-array-loop-p l = Listing l.s (l.depth - 1) (l.p + 1) l.at × (l.p < l.at) × (l.at ≤ length l.s)
+abbrev pub invariant-array-loop-q : goal.invariant-array-loop-q
+invariant-array-loop-q l = Listing l.s (l.depth - 1) (l.p + 1) l.at × (l.p < l.at) × (l.at ≤ length l.s)
 
-abbrev pub decreases-array-loop-p : goal.decreases-array-loop-p
-decreases-array-loop-p l = length l.s - l.at
+abbrev pub decreases-array-loop-q : goal.decreases-array-loop-q
+decreases-array-loop-q l = length l.s - l.at
 
-abbrev pub invariant-object-loop-p : goal.invariant-object-loop-p
-invariant-object-loop-p l = Naming l.s (l.depth - 1) (l.p + 1) l.at × (l.p < l.at) × (l.at ≤ length l.s)
+abbrev pub invariant-object-loop-v : goal.invariant-object-loop-v
+invariant-object-loop-v l = Naming l.s (l.depth - 1) (l.p + 1) l.at × (l.p < l.at) × (l.at ≤ length l.s)
 
-abbrev pub decreases-object-loop-p : goal.decreases-object-loop-p
-decreases-object-loop-p l = length l.s - l.at
+abbrev pub decreases-object-loop-v : goal.decreases-object-loop-v
+decreases-object-loop-v l = length l.s - l.at

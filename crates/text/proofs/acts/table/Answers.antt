@@ -9,7 +9,7 @@ use lib.ListN.{get_or}
 use Rattle.json_text.specs.Bytes.{In, pick}
 use Rattle.text.specs.Class.{class_of}
 use Rattle.text.specs.Outline.{act_of}
-use Rattle.text.proofs.Tables.{all, below, table, table_at}
+use Rattle.text.proofs.Computed.{all, below, table, table_at}
 use Rattle.text.proofs.ClassLaws.{class_range}
 use Rattle.text.proofs.acts.table.Goals as goal
 

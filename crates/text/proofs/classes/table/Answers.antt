@@ -1,7 +1,7 @@
 use mathlib.Core.Path.{◌∙◌, ap}
 use native.Mathlib.Nat.{zero-add}
 use Rattle.text.specs.Class.{class_of}
-use Rattle.text.proofs.Tables.{table_at}
+use Rattle.text.proofs.Computed.{table_at}
 use Rattle.text.proofs.classes.table.Goals as goal
 
 pub returns : goal.returns

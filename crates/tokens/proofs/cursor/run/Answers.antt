@@ -1,26 +1,20 @@
 use mathlib.Core.Path.{sym, ◌∙◌}
-use borrow.Author.Tests.{not-true, not-false}
+use native.Mathlib.Omega.{arith}
 use Rattle.tokens.specs.Enums.{passes}
 use Rattle.tokens.proofs.PlaceLaws.{run_more, run-stop, run_end}
 use Rattle.tokens.proofs.cursor.run.Goals as goal
 
 pub returns-then-not-is_in : goal.returns-then-not-is_in
 returns-then-not-is_in c =
-    let s = c.args.s.now in
     let l = c.loop-i in
-    let f = passes c.args.class in
-    sym (l.invariant ∙ run-stop f s l.i c.loop-i-test.true (sym c.is_in.ensures ∙ not-true _ c.if-not-is_in.true-raw))
+    sym (l.invariant ∙ run-stop (passes c.args.class) c.args.s.now l.i c.loop-i-test.true (sym c.if-not-is_in.ensures))
 
 pub loop-i-preserved : goal.loop-i-preserved
 loop-i-preserved c =
-    let s = c.args.s.now in
     let l = c.loop-i in
-    let f = passes c.args.class in
-    l.invariant ∙ run_more f s l.i c.loop-i-test.true (sym c.is_in.ensures ∙ not-false _ c.if-not-is_in.false-raw)
+    l.invariant ∙ run_more (passes c.args.class) c.args.s.now l.i c.loop-i-test.true (sym c.if-not-is_in.ensures)
 
 pub returns : goal.returns
 returns c =
-    let s = c.args.s.now in
-    let l = c.loop-i in
-    let f = passes c.args.class in
-    sym (l.invariant ∙ run_end f s l.i c.loop-i-test.false)
+    let end = run_end (passes c.args.class) c.args.s.now in
+    grind (arith, end c.args.p, end c.loop-i.i, c.loop-i.invariant)

@@ -21,9 +21,6 @@ overflow_mul-m c = omega arith
 pub overflow_add-m : goal.overflow_add-m
 overflow_add-m c = omega arith
 
-pub loop-i-smaller : goal.loop-i-smaller
-loop-i-smaller c = omega arith
-
 pub loop-i-preserved : goal.loop-i-preserved
 loop-i-preserved c =
     let l = c.loop-i in

@@ -5,6 +5,3 @@ use Rattle.tokens.proofs.numbers.magnitude_at.Given as goal
 
 abbrev pub invariant-loop-i : goal.invariant-loop-i
 invariant-loop-i l = (digits_at l.s l.i (l.end - l.i) l.m ≡ digits_at l.s l.p (l.end - l.p) 0) × (l.m ≤ 2 ^ 63)
-
-abbrev pub decreases-loop-i : goal.decreases-loop-i
-decreases-loop-i l = l.end - l.i

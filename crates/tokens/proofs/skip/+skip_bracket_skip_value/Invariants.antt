@@ -9,8 +9,8 @@ decreases-skip_bracket l = l.depth + l.depth
 abbrev pub decreases-skip_value : goal.decreases-skip_value
 decreases-skip_value l = l.depth + l.depth + 1
 
-abbrev pub invariant-skip_bracket-loop-p : goal.invariant-skip_bracket-loop-p
-invariant-skip_bracket-loop-p l = Passing l.depth l.s l.p l.i
+abbrev pub invariant-skip_bracket-loop-b : goal.invariant-skip_bracket-loop-b
+invariant-skip_bracket-loop-b l = Passing l.depth l.s l.p l.i
 
-abbrev pub decreases-skip_bracket-loop-p : goal.decreases-skip_bracket-loop-p
-decreases-skip_bracket-loop-p l = length l.s - l.i
+abbrev pub decreases-skip_bracket-loop-b : goal.decreases-skip_bracket-loop-b
+decreases-skip_bracket-loop-b l = length l.s - l.i

@@ -1,6 +1,7 @@
-use mathlib.Core.Path.{sym, ◌∙◌}
+use mathlib.Core.Path.{ap, ◌∙◌}
 use native.Mathlib.Omega.{arith}
-use Rattle.tokens.proofs.StringLaws.{piece_past, piece_quote, piece_escape, piece_bare, escaped-inside, encodes_length, counting-close, copying_start, copying_close, copying_bare, copying_escaped}
+use lib.ListN.{length}
+use Rattle.tokens.proofs.StringLaws.{piece_past, piece_quote, piece_escape, piece_bare, escaped-inside, encode-few, counting-close, copying_start, copying_close, copying_bare, copying_escaped}
 use Rattle.tokens.proofs.strings.copy_rest.Goals as goal
 
 pub loop-i-init : goal.loop-i-init
@@ -14,25 +15,14 @@ returns-then-b-eq34 c =
     let here = piece_quote c.args.s.now l.i c.loop-i-test.true c.if-b-eq34.true in
     record { value = counting-close l.invariant.counting here; pool_after = copying_close l.invariant here }
 
-pub encoded-u-requires : goal.encoded-u-requires
-encoded-u-requires c = c.escape-e.ensures.code_bound
-
 pub overflow_add-j : goal.overflow_add-j
 overflow_add-j c = omega (arith, c.loop-i.invariant.counting)
 
-pub slice_bounds-bytes-end : goal.slice_bounds-bytes-end
-slice_bounds-bytes-end c = c.encoded-u.ensures.room
-
-pub slice_bounds-put_all-end : goal.slice_bounds-put_all-end
-slice_bounds-put_all-end c = sym (encodes_length c.encoded-u.ensures)
-
 pub put_all-requires : goal.put_all-requires
-put_all-requires c =
-    let f = c.encoded-u.ensures in
-    omega (arith, encodes_length f, f.few, c.loop-i.invariant.counting, c.requires)
+put_all-requires c = omega (arith, ap length c.encoded-bytes.ensures, encode-few c.escape-e.result.code, c.loop-i.invariant.counting)
 
 pub overflow_add-n : goal.overflow_add-n
-overflow_add-n c = omega (arith, c.encoded-u.ensures.few, c.loop-i.invariant.counting, c.requires)
+overflow_add-n c = omega (arith, ap length c.encoded-bytes.ensures, encode-few c.escape-e.result.code, c.loop-i.invariant.counting)
 
 pub loop-i-smaller-then-b-eq92 : goal.loop-i-smaller-then-b-eq92
 loop-i-smaller-then-b-eq92 c =
@@ -43,7 +33,7 @@ pub loop-i-preserved-then-b-eq92 : goal.loop-i-preserved-then-b-eq92
 loop-i-preserved-then-b-eq92 c =
     let l = c.loop-i in
     let here = c.escape-e.ensures.next_value ∙ piece_escape c.args.s.now l.i c.loop-i-test.true c.if-b-eq92.true in
-    copying_escaped l.invariant here c.encoded-u.ensures c.put_all.ensures c.put_all.auto.s
+    copying_escaped l.invariant here c.encoded-bytes.ensures c.put_all.ensures c.put_all.auto.s
 
 pub overflow_add-j-else-b-eq92 : goal.overflow_add-j-else-b-eq92
 overflow_add-j-else-b-eq92 c = omega (arith, c.loop-i.invariant.counting)

@@ -2,13 +2,7 @@ use native.Mathlib.Omega.{arith}
 use Rattle.tokens.proofs.StringLaws.{piece_plain}
 use Rattle.tokens.proofs.strings.plain_first.Goals as goal
 
-pub returns-then-b-eq34 : goal.returns-then-b-eq34
-returns-then-b-eq34 c h = absurd (omega arith)
-
-pub returns-then-b-eq92 : goal.returns-then-b-eq92
-returns-then-b-eq92 c h = absurd (omega arith)
-
 pub returns : goal.returns
-returns c h =
-    let a = c.args in
-    piece_plain a.s.now a.p c.byte_at-b.ensures.value h c.if-b-eq34.false c.if-b-eq92.false
+returns c =
+    let here = c.in_ok-b.ensures.lookup.3.1 in
+    piece_plain c.args.s.now c.args.p (here 256) (omega (arith, here 0, (c.type_inv.s c.args.p).fits)) (λ e. omega arith) (λ e. omega arith)

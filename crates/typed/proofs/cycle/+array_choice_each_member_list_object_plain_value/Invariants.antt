@@ -29,16 +29,10 @@ abbrev pub decreases-value : goal.decreases-value
 decreases-value l = l.depth * 4 + 3
 
 abbrev pub invariant-array-loop-k : goal.invariant-array-loop-k
-invariant-array-loop-k l = (l.count ≡ count_of (table l.types l.names) l.row) × (l.count ≤ 64) × Near (65539 + l.depth) l.next × Elements (λ q u. read_at (l.depth - 1) (table l.types l.names) l.s q u) (l.depth - 1) (table l.types l.names) l.s l.row l.place (elements_at (λ q u. read_at (l.depth - 1) (table l.types l.names) l.s q u) (l.depth - 1) (table l.types l.names) l.s l.row l.place 0 (count_of (table l.types l.names) l.row) (first_part l.s 0x5D l.place)) l.next l.slot l.offset l.n l.m l.k l.present l.rows l.initial.rows l.pool l.initial.pool × (l.k ≤ l.count)
-
-abbrev pub decreases-array-loop-k : goal.decreases-array-loop-k
-decreases-array-loop-k l = l.count - l.k
+invariant-array-loop-k l = (l.count ≡ count_of (table l.types l.names) l.row) × (l.count ≤ 64) × Near (65539 + l.depth) l.next × Elements (λ q u. read_at (l.depth - 1) (table l.types l.names) l.s q u) (l.depth - 1) (table l.types l.names) l.s l.row l.place (elements_at (λ q u. read_at (l.depth - 1) (table l.types l.names) l.s q u) (l.depth - 1) (table l.types l.names) l.s l.row l.place 0 (count_of (table l.types l.names) l.row) (first_part l.s 0x5D l.place)) l.next l.slot l.offset l.n l.m l.k l.present l.rows l.initial.rows l.pool l.initial.pool
 
 abbrev pub invariant-each_member-loop-k : goal.invariant-each_member-loop-k
-invariant-each_member-loop-k l = (l.count ≡ count_of (table l.types l.names) l.row) × (l.count ≤ 64) × InOrder (λ q u. read_at (l.depth - 1) (table l.types l.names) l.s q u) (table l.types l.names) l.s l.row l.place l.met l.places (members_at (λ q u. read_at (l.depth - 1) (table l.types l.names) l.s q u) (table l.types l.names) l.s l.row l.place l.met l.places 0 (count_of (table l.types l.names) l.row)) l.slot l.offset l.n l.m l.k l.present l.rows l.initial.rows l.pool l.initial.pool × (l.k ≤ l.count)
-
-abbrev pub decreases-each_member-loop-k : goal.decreases-each_member-loop-k
-decreases-each_member-loop-k l = l.count - l.k
+invariant-each_member-loop-k l = (l.count ≡ count_of (table l.types l.names) l.row) × (l.count ≤ 64) × InOrder (λ q u. read_at (l.depth - 1) (table l.types l.names) l.s q u) (table l.types l.names) l.s l.row l.place l.found.met l.found.places (members_at (λ q u. read_at (l.depth - 1) (table l.types l.names) l.s q u) (table l.types l.names) l.s l.row l.place l.found.met l.found.places 0 (count_of (table l.types l.names) l.row)) l.slot l.offset l.n l.m l.k l.present l.rows l.initial.rows l.pool l.initial.pool
 
 abbrev pub invariant-list-loop-next : goal.invariant-list-loop-next
 invariant-list-loop-next l = (l.t ≡ element_of (table l.types l.names) l.row) × Near (65539 + l.depth) l.next × Loop (λ q. read_at (l.depth - 1) (table l.types l.names) l.s (element_of (table l.types l.names) l.row) q) l.s (table l.types l.names) (element_of (table l.types l.names) l.row) (items_at (λ q. read_at (l.depth - 1) (table l.types l.names) l.s (element_of (table l.types l.names) l.row) q) l.s (length l.s) (first_part l.s 0x5D l.place)) l.next l.slot l.offset l.n l.m l.count l.rows l.initial.rows l.pool l.initial.pool

@@ -8,6 +8,3 @@ use Rattle.types.proofs.alone.unused.Given as goal
 
 abbrev pub invariant-loop-i : goal.invariant-loop-i
 invariant-loop-i l = (ns : List ℕ) → every (zero-at (table l.rows ns) l.r) l.i (8 - l.i) ≡ unused (table l.rows ns) l.r l.from (8 - l.from)
-
-abbrev pub decreases-loop-i : goal.decreases-loop-i
-decreases-loop-i l = 8 - l.i

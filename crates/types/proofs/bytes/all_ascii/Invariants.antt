@@ -1,11 +1,8 @@
-use Prim.Native.Nat.{◌<◌, ◌≤◌, ◌-◌, ℕ}
+use Prim.Native.Nat.{◌<◌, ◌≤◌, ℕ}
 use mathlib.Core.Path.{◌≡◌}
 use mathlib.Core.Bool.{true}
-use lib.ListN.{length, get_or}
+use lib.ListN.{get_or}
 use Rattle.types.proofs.bytes.all_ascii.Given as goal
 
-abbrev pub invariant-loop-i : goal.invariant-loop-i
-invariant-loop-i l = l.all ≡ true → (k : ℕ) → k < l.i → get_or l.s k 0 ≤ 0x7F
-
-abbrev pub decreases-loop-i : goal.decreases-loop-i
-decreases-loop-i l = length l.s - l.i
+abbrev pub invariant-loop-b : goal.invariant-loop-b
+invariant-loop-b l = l.all ≡ true → (k : ℕ) → k < l.b-index → get_or l.s k 0 ≤ 0x7F

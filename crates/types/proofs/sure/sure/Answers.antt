@@ -12,13 +12,10 @@ loop-r-init c = λ i l. absurd (omega arith)
 pub sure_links-requires : goal.sure_links-requires
 sure_links-requires c =
     let a = c.args in
-    (omega (arith, count-is a.rows.now a.names.now (c.row_count-count.ensures a.names.now), c.loop-r-test.true), c.requires)
+    (omega (arith, count-is a.rows.now a.names.now (c.row_count-r-end.ensures a.names.now), c.loop-r-test.true), c.requires)
 
 pub returns-then-not-sure_links : goal.returns-then-not-sure_links
 returns-then-not-sure_links c = λ q. no_true q
-
-pub loop-r-smaller : goal.loop-r-smaller
-loop-r-smaller c = omega (arith, c.loop-r-test.true)
 
 pub loop-r-preserved : goal.loop-r-preserved
 loop-r-preserved c =
@@ -29,4 +26,4 @@ loop-r-preserved c =
 pub returns : goal.returns
 returns c =
     let a = c.args in
-    λ q i l. c.loop-r.invariant i (omega (arith, count-is a.rows.now a.names.now (c.row_count-count.ensures a.names.now), c.loop-r-test.false))
+    λ q i l. c.loop-r.invariant i (omega (arith, count-is a.rows.now a.names.now (c.row_count-r-end.ensures a.names.now), c.loop-r-test.false))

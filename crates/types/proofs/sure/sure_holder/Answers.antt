@@ -27,7 +27,7 @@ returns-then-is_array c =
     let a = c.args in
     let ns = a.names.now in
     let t = table a.rows.now ns in
-    λ q. links-array t a.r (c.row_in-row.ensures ns) c.in-6.is (c.sure_members-in-6.ensures (not-false _ c.if-not-sure_members.false-raw)) (c.is_array.ensures _ _ (c.row_in-row.ensures ns)) c.if-is_array.true c.good_array.ensures q
+    λ q. links-array t a.r (c.row_in-row.ensures ns) c.in-6.is (c.sure_members-in-6.ensures (not-false _ c.if-not-sure_members.false-raw)) (c.is_array.ensures _ _ (c.row_in-row.ensures ns)) c.if-is_array.true (c.good_array.ensures a.names.now) q
 
 pub sure_members-requires-in-8 : goal.sure_members-requires-in-8
 sure_members-requires-in-8 c =
@@ -44,7 +44,7 @@ returns-then-is_unwrapped c =
     let a = c.args in
     let ns = a.names.now in
     let t = table a.rows.now ns in
-    λ q. links-unwrapped t a.r (c.row_in-row.ensures ns) c.in-8.is (c.sure_members-in-8.ensures (not-false _ c.if-not-sure_members-2.false-raw)) (c.is_unwrapped.ensures _ _ (c.row_in-row.ensures ns)) c.if-is_unwrapped.true c.good_unwrapped.ensures q
+    λ q. links-unwrapped t a.r (c.row_in-row.ensures ns) c.in-8.is (c.sure_members-in-8.ensures (not-false _ c.if-not-sure_members-2.false-raw)) (c.is_unwrapped.ensures _ _ (c.row_in-row.ensures ns)) c.if-is_unwrapped.true (c.good_unwrapped.ensures a.names.now) q
 
 pub returns-in-2 : goal.returns-in-2
 returns-in-2 c =

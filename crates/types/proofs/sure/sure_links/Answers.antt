@@ -10,7 +10,7 @@ holds_type-requires c =
     let ns = a.names.now in
     let t = table a.rows.now ns in
     let e = c.row_in-row.ensures ns in
-    let l = layout-told t a.r e c.carries-carried.ensures in
+    let l = layout-told t a.r e c.carries.ensures in
     lists_room t a.r e (c.requires.1 a.r c.requires.0) l c.in-Lists.is c.wide.ensures.0
 
 pub holds_type-requires-in-Names : goal.holds_type-requires-in-Names
@@ -19,7 +19,7 @@ holds_type-requires-in-Names c =
     let ns = a.names.now in
     let t = table a.rows.now ns in
     let e = c.row_in-row.ensures ns in
-    let l = layout-told t a.r e c.carries-carried.ensures in
+    let l = layout-told t a.r e c.carries.ensures in
     names-room t a.r e (c.requires.1 a.r c.requires.0) l c.in-Names.is c.wide-in-Names.ensures.0
 
 pub returns-in-Bare : goal.returns-in-Bare
@@ -28,7 +28,7 @@ returns-in-Bare c =
     let ns = a.names.now in
     let t = table a.rows.now ns in
     let e = c.row_in-row.ensures ns in
-    let l = layout-told t a.r e c.carries-carried.ensures in
+    let l = layout-told t a.r e c.carries.ensures in
     λ q. links-bare t a.r e l c.in-Bare.is
 
 pub returns-in-Holds : goal.returns-in-Holds
@@ -40,7 +40,7 @@ returns-in-Lists c =
     let ns = a.names.now in
     let t = table a.rows.now ns in
     let e = c.row_in-row.ensures ns in
-    let l = layout-told t a.r e c.carries-carried.ensures in
+    let l = layout-told t a.r e c.carries.ensures in
     λ q. links-element t a.r e l c.wide.ensures.0 (c.holds_type.ensures ns) c.in-Lists.is q
 
 pub returns-in-Names : goal.returns-in-Names
@@ -49,7 +49,7 @@ returns-in-Names c =
     let ns = a.names.now in
     let t = table a.rows.now ns in
     let e = c.row_in-row.ensures ns in
-    let l = layout-told t a.r e c.carries-carried.ensures in
+    let l = layout-told t a.r e c.carries.ensures in
     λ q. links-member t a.r e l c.wide-in-Names.ensures.0 (c.holds_type-in-Names.ensures ns) c.in-Names.is q
 
 pub returns-in-Unknown : goal.returns-in-Unknown
@@ -58,5 +58,5 @@ returns-in-Unknown c =
     let ns = a.names.now in
     let t = table a.rows.now ns in
     let e = c.row_in-row.ensures ns in
-    let l = layout-told t a.r e c.carries-carried.ensures in
+    let l = layout-told t a.r e c.carries.ensures in
     λ q. links-unknown t a.r e l c.in-Unknown.is

@@ -57,9 +57,6 @@ returns-then-not-fresh c = λ q. no_true q
 pub bounds-seen-s-in-loop-j : goal.bounds-seen-s-in-loop-j
 bounds-seen-s-in-loop-j c = omega (arith, c.sign-s.ensures.1)
 
-pub overflow_add-j : goal.overflow_add-j
-overflow_add-j c = omega (arith, c.wide-count.ensures.0, c.wide-count.ensures.1, c.loop-j-test.true)
-
 pub loop-j-smaller : goal.loop-j-smaller
 loop-j-smaller c = omega (arith, c.loop-j-test.true)
 

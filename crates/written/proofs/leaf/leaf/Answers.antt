@@ -1,33 +1,16 @@
-use Rattle.jer.specs.Table.{table}
+use Rattle.written.specs.Text.{type_table}
 use Rattle.written.proofs.LeafLaws.{bool_ends, int-ends, enum_ends, null-ends}
 use Rattle.written.proofs.leaf.leaf.Goals as goal
+use Rattle.written.proofs.leaf.leaf.Goals.{in-0, in-1, in-2, in-3}
 
-pub returns-in-0 : goal.returns-in-0
-returns-in-0 c =
+pub returns : goal.returns
+returns c =
     let a = c.args in
     let w = a.w in
-    λ i ws. bool_ends i (table a.types.now a.names.now) a.pool.now a.row w.a w.b w.size ws a.slot a.offset c.requires.0 c.in-0.is c.put_bool-end.ensures c.ended.ensures
-
-pub returns-in-1 : goal.returns-in-1
-returns-in-1 c =
-    let a = c.args in
-    let w = a.w in
-    λ i ws. int-ends i (table a.types.now a.names.now) a.pool.now a.row w.a w.b w.size ws a.slot a.offset c.requires.0 c.in-1.is c.put_integer-end.ensures c.ended-in-1.ensures
-
-pub returns-in-2 : goal.returns-in-2
-returns-in-2 c =
-    let a = c.args in
-    let w = a.w in
-    λ i ws. enum_ends i (table a.types.now a.names.now) a.pool.now a.row w.a w.b w.size ws a.slot a.offset c.requires.0 c.in-2.is (c.count_of.ensures a.names.now) (c.member_row.ensures a.names.now) c.name_in-name.ensures c.put_chars-chars.ensures.puts c.ended-in-2.ensures
-
-pub returns-in-3 : goal.returns-in-3
-returns-in-3 c =
-    let a = c.args in
-    let w = a.w in
-    λ i ws. null-ends i (table a.types.now a.names.now) a.pool.now a.row w.a w.b w.size ws a.slot a.offset c.requires.0 c.in-3.is c.put_null-end.ensures c.ended-in-3.ensures
-
-pub returns-in-4 : goal.returns-in-4
-returns-in-4 c = c.octets.ensures
-
-pub returns-in_default : goal.returns-in_default
-returns-in_default c = c.string.ensures
+    let t = type_table a.tables.now in
+    λ i ws. elim c.match-w.branch [
+      | in-0 v ↦ rw v.text-is (bool_ends i t a.tables.now.pool.now a.row w.a w.b w.size ws a.slot a.offset c.requires.0 v.in-0.is v.put_bool.ensures (rw v.good-is at c.ended.ensures))
+      | in-1 v ↦ rw v.text-is (int-ends i t a.tables.now.pool.now a.row w.a w.b w.size ws a.slot a.offset c.requires.0 v.in-1.is v.put_integer.ensures (rw v.good-is at c.ended.ensures))
+      | in-2 v ↦ rw v.text-is (enum_ends i t a.tables.now.pool.now a.row w.a w.b w.size ws a.slot a.offset c.requires.0 v.in-2.is (v.count_of.ensures a.tables.now.names.now) v.name_at-name.ensures v.put_chars.ensures.puts (rw v.good-is at c.ended.ensures))
+      | in-3 v ↦ rw v.text-is (null-ends i t a.tables.now.pool.now a.row w.a w.b w.size ws a.slot a.offset c.requires.0 v.in-3.is v.put_null.ensures (rw v.good-is at c.ended.ensures))
+    ]

@@ -5,7 +5,4 @@ use Rattle.written.specs.Text.{Puts, nulls}
 use Rattle.written.proofs.put.put_nulls.Given as goal
 
 abbrev pub invariant-loop-j : goal.invariant-loop-j
-invariant-loop-j l = (length l.text ≡ length l.initial.text) × (l.n ≤ l.j) × (l.j - l.n ≤ l.i - l.n) × Puts (nulls l.n (l.j - l.n)) l.k l.initial.text l.text l.p
-
-abbrev pub decreases-loop-j : goal.decreases-loop-j
-decreases-loop-j l = l.i - l.j
+invariant-loop-j l = (length l.text ≡ length l.initial.text) × (l.j - l.n ≤ l.i - l.n) × Puts (nulls l.n (l.j - l.n)) l.k l.initial.text l.text l.p

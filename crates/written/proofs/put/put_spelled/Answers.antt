@@ -1,6 +1,6 @@
 use native.Mathlib.Omega.{arith}
 use Rattle.written.specs.Text.{spelled}
-use Rattle.written.proofs.PutLaws.{counted, puts-stored, puts_nowhere, puts-past, spelled-few}
+use Rattle.written.proofs.PutLaws.{counted, puts-stored, puts_nowhere, puts-past, spelled_few}
 use Rattle.written.proofs.put.put_spelled.Goals as goal
 
 pub returns-then-text-k : goal.returns-then-text-k
@@ -12,7 +12,7 @@ returns-then-k-gt-TEXT c = puts-past c.end_of-then-k-gt-TEXT.ensures (omega arit
 pub returns-then-s-gt-TEXT : goal.returns-then-s-gt-TEXT
 returns-then-s-gt-TEXT c =
     let a = c.args in
-    puts-past c.end_of-then-s-gt-TEXT.ensures (omega (arith, spelled-few a.form a.s.now))
+    puts-past c.end_of-then-s-gt-TEXT.ensures (omega (arith, spelled_few a.form a.s.now))
 
 pub returns : goal.returns
 returns c =

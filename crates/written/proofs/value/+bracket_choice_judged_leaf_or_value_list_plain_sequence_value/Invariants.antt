@@ -1,4 +1,4 @@
-use Prim.Native.Nat.{◌<◌, ◌+◌, ◌-◌, ◌*◌}
+use Prim.Native.Nat.{◌+◌, ◌*◌}
 use mathlib.Core.Path.{◌≡◌}
 use lib.ListN.{length}
 use Rattle.jer.specs.Table.{element_of, count_of, first_of, table}
@@ -33,13 +33,7 @@ abbrev pub decreases-value : goal.decreases-value
 decreases-value l = l.depth * 5 + 2
 
 abbrev pub invariant-list-loop-i : goal.invariant-list-loop-i
-invariant-list-loop-i l = (l.e ≡ element_of (table l.types l.names) l.row) × (length l.text ≡ length l.initial.text) × Items l.depth (table l.types l.names) l.pool (rows_in l.values) (value_row l.w) l.row l.slot l.offset l.initial.p l.initial.text l.text l.i l.next l.used l.p
-
-abbrev pub decreases-list-loop-i : goal.decreases-list-loop-i
-decreases-list-loop-i l = l.w.a - l.i
+invariant-list-loop-i l = (l.e ≡ element_of (table l.tables.types.now l.tables.names.now) l.row) × (length l.text ≡ length l.initial.text) × Items l.depth (table l.tables.types.now l.tables.names.now) l.tables.pool.now (rows_in l.tables.values.now) (value_row l.w) l.row l.slot l.offset l.initial.took.end l.initial.text l.text l.i l.took.next l.took.used l.took.end
 
 abbrev pub invariant-sequence-loop-i : goal.invariant-sequence-loop-i
-invariant-sequence-loop-i l = (l.first ≡ first_of (table l.types l.names) l.row) × (l.count ≡ count_of (table l.types l.names) l.row) × (l.count < 4294967296) × (length l.text ≡ length l.initial.text) × Members l.depth (table l.types l.names) l.pool (rows_in l.values) (value_row l.w) l.row l.slot l.offset l.initial.p l.array l.initial.text l.text l.i l.present l.kept l.next l.used l.p
-
-abbrev pub decreases-sequence-loop-i : goal.decreases-sequence-loop-i
-decreases-sequence-loop-i l = l.count - l.i
+invariant-sequence-loop-i l = (l.first ≡ first_of (table l.tables.types.now l.tables.names.now) l.row) × (l.count ≡ count_of (table l.tables.types.now l.tables.names.now) l.row) × (length l.text ≡ length l.initial.text) × Members l.depth (table l.tables.types.now l.tables.names.now) l.tables.pool.now (rows_in l.tables.values.now) (value_row l.w) l.row l.slot l.offset l.initial.took.end l.array l.initial.text l.text l.i l.present l.kept l.took.next l.took.used l.took.end

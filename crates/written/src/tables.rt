@@ -1,0 +1,14 @@
+// What a writing reads: a type table with its names, a value table with its pool, and the table of literal bytes.
+ghost use Rattle.written.specs.Tables.{GoodTable};
+
+use crate::literal::Literal;
+
+#[derive(Drop)]
+pub struct Tables<'a> {
+    pub types: &'a [u32],
+    pub names: &'a [u8],
+    pub values: &'a [u32],
+    pub pool: &'a [u8],
+    pub literal: Literal,
+    ghost good: { GoodTable types.now names.now },
+}
