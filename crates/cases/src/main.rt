@@ -1,5 +1,6 @@
 // Runs the stored cases through the calls and the programs. The input comes in parts: a line with the part's kind and its number of cases,
 // then the cases, each some lines of hexadecimal; second/README.md says which, and how each is answered.
+// Lines stand in arrays, counted: the program has no heap.
 #![tactic(auto)]
 
 use jer::{Counts, Refusal};
@@ -82,10 +83,7 @@ fn read_in(
     n: usize,
     m: usize,
 ) -> Result<Counts, Refusal> {
-    if rows.len() < n {
-        return reading::read(types, names, text, rows, pool);
-    }
-    if pool.len() < m {
+    if rows.len() < n || pool.len() < m {
         return reading::read(types, names, text, rows, pool);
     }
     reading::read(types, names, text, &mut rows[..n], &mut pool[..m])
@@ -165,7 +163,7 @@ fn write_values(
     Ok(n)
 }
 
-// A type table and its names, and then a text to be read or a value table to be written.
+// A type table and its names, and then a text to be read or a value table to be written: `one` gives it these two parts alone.
 fn call_case(rt: HostRuntime, buf: &mut [u8], input: Input, kind: Part) -> io::Result<Line> {
     let mut types = [0u32; 33000];
     let a = numbers(&mut rt.stdin(), buf, input, &mut types);
@@ -191,7 +189,7 @@ fn jerread_case(rt: HostRuntime, buf: &mut [u8], input: Input) -> io::Result<Lin
     Ok(a)
 }
 
-// The same of `jerwrite`.
+// The same of `jerwrite`, which has other room for what it prints.
 fn jerwrite_case(rt: HostRuntime, buf: &mut [u8], input: Input) -> io::Result<Line> {
     let mut given = [0u8; 65600];
     let a = octets(&mut rt.stdin(), buf, input, &mut given);

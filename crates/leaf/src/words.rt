@@ -46,7 +46,7 @@ pub fn boolean(
         return refused(Cause::OtherKind, place);
     }
     let b = byte_at(s, place) == 0x74;
-    put_row(rows, slot, kind, b as u32, 0, 1);
+    put_row(rows, slot, kind, u32::from(b), 0, 1);
     read(run(s, place, Class::Word), 1, 0)
 }
 

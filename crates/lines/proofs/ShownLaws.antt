@@ -169,9 +169,9 @@ module _ (n p : ℕ) where
   no-stored l ec ed ee ef eg = (refl, rw (eg, ef, ee, ed, ec) refl)
 
 -- what is printed for each answer of judging
-pub judged-good : {j : Judged} (l : List ℕ) {a b c : List ℕ} → j ≡ Ok tt → a ≡ set l 0 0x4F → b ≡ set a 1 0x4B → c ≡ set b 2 0x0A → (3 ≡ length (judged_line j)) × (c ≡ sets l 0 (judged_line j))
+pub judged-good : {j : Judged} (l : List ℕ) {a : List ℕ} → j ≡ Ok tt → a ≡ sets l 0 (0x4F ∷ 0x4B ∷ 0x0A ∷ []) → (3 ≡ length (judged_line j)) × (a ≡ sets l 0 (judged_line j))
 unfolding judged_line end_line
-judged-good l h ea eb ec = rw h (refl, rw (ec, eb, ea) refl)
+judged-good l h e = rw h (refl, e)
 
 pub judged-refused : {j : Judged} {e : Refusal} {r : Reported} → j ≡ Err e → r ≡ reported_of (values_of e) → no_line r.number r.first ≡ judged_line j
 unfolding judged_line

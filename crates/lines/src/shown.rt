@@ -10,6 +10,12 @@ use jer::{Counts, Refusal, Reported};
 use octets::encode::put_hex;
 use slices::{part, put, put_all};
 
+// Document 01's FFFFFFFF, which begins the line of a refusal.
+const REFUSED: u64 = 0xFFFFFFFF;
+
+// Document 01's number of a bad input line.
+const BAD_LINE: u64 = 15;
+
 // The four octets of a number.
 fn octets_of(x: u64) -> [u8; 4]
     ensures { result ≡ x / 2 ^ 24 % 256 ∷ x / 2 ^ 16 % 256 ∷ x / 2 ^ 8 % 256 ∷ x % 256 ∷ [] }
@@ -46,14 +52,14 @@ pub fn put_refusal(text: &mut [u8], k: usize, e: Refusal) -> usize
     ensures { Shows (refusal_line (values_of e)) k text.old result text.new }
 {
     let r = Reported::from(e);
-    put_four(text, k, 4294967295, r.number as u64, r.first, r.second)
+    put_four(text, k, REFUSED, u64::from(r.number), r.first, r.second)
 }
 
 // The line of refusal 15 at an input line.
 pub fn put_bad_line(text: &mut [u8], line: u32) -> usize
     ensures { Shows (refusal_line (values 15 line 0)) 0 text.old result text.new }
 {
-    put_four(text, 0, 4294967295, 15, u64::from(line), 0)
+    put_four(text, 0, REFUSED, BAD_LINE, u64::from(line), 0)
 }
 
 // Octets as one line.
@@ -133,14 +139,12 @@ pub fn put_judged(text: &mut [u8], j: Result<(), Refusal>) -> usize
 {
     match j {
         Ok(()) => {
-            put(text, 0, 0x4F);
-            put(text, 1, 0x4B);
-            put(text, 2, 0x0A);
+            put_all(text, 0, b"OK\n");
             3
         }
         Err(e) => {
             let r = Reported::from(e);
-            put_no(text, r.number as u64, r.first)
+            put_no(text, u64::from(r.number), r.first)
         }
     }
 }

@@ -72,11 +72,12 @@ fn number(line: &[u8], i: usize) -> u32
     requires { i + 7 < length line.now }
     ensures { result ≡ number_at line.now i }
 {
-    let a = u32::from(octet(line, i));
-    let b = u32::from(octet(line, i + 2));
-    let c = u32::from(octet(line, i + 4));
-    let d = u32::from(octet(line, i + 6));
-    ((a * 256 + b) * 256 + c) * 256 + d
+    u32::from_be_bytes([
+        octet(line, i),
+        octet(line, i + 2),
+        octet(line, i + 4),
+        octet(line, i + 6),
+    ])
 }
 
 // What a line is made of: octets, or numbers of four octets.
@@ -161,7 +162,7 @@ fn line<U: Unit>(s: &[u8], at: usize, out: &mut [U]) -> Option<Taken>
 }
 
 // The octets of the line at a place, stored as far as there is room. None if the line is missing, over-long, odd or
-// not hexadecimal: it stores nothing.
+// not hexadecimal: it stores nothing. This and the next say by name what `Unit`, which is private, does.
 pub fn octets_line(s: &[u8], at: usize, out: &mut [u8]) -> Option<Taken>
     ensures value { result ≡ taken_of s.now at (line_at 1 (drop at s.now)) }
     ensures out_after { out.new ≡ after out.old (line_at 1 (drop at s.now)) }

@@ -8,7 +8,7 @@ ghost use Rattle.octets.specs.Decode.{Stored, ascii_value, Reads, Groups, Tail};
 use slices::{hex_value, put_all};
 use tokens::strings::{Piece, piece_at, same_as};
 
-// The next character of a string, or the next digit.
+// The next character of a string, or the next digit. Three cases: that a string ends is no error.
 #[derive(Clone, Copy)]
 pub enum Next {
     // The string's end.
@@ -19,7 +19,7 @@ pub enum Next {
     Other,
 }
 
-// The next group of digits.
+// The next group of digits, in the same three cases.
 #[derive(Clone, Copy)]
 pub enum Group {
     // The string's end.
@@ -85,7 +85,7 @@ fn hex_digit(s: &[u8], i: usize) -> Next
     }
 }
 
-// The Base64 digit at i.
+// The Base64 digit at i. It differs from `hex_digit` in the value alone: a trait with the value as its method would be longer than both.
 fn base64_digit(s: &[u8], i: usize) -> Next
     requires { length s.now ≤ 65536 }
     ensures { Reads base64_value s.now i result }
@@ -205,7 +205,7 @@ fn octets<C: Coding>(s: &[u8], p: usize, pool: &mut [u8], j: usize) -> Option<us
     }
 }
 
-// The octets of the string at p in hexadecimal, from j on.
+// The octets of the string at p in hexadecimal, from j on. This and the next say by name what `Coding`, which is private, does.
 pub fn hex_octets(s: &[u8], p: usize, pool: &mut [u8], j: usize) -> Option<usize>
     requires { (length s.now ≤ 65536) × (j ≤ 4294967296) }
     ensures value { result ≡ option_map length (unhex (denoted s.now p)) }

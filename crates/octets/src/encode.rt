@@ -30,10 +30,10 @@ pub fn put_hex(text: &mut [u8], k: usize, octets: &[u8]) -> usize
 }
 
 // How many bytes it makes.
-pub fn hex_len(octets: &[u8]) -> u64
+pub fn hex_len(octets: &[u8]) -> usize
     ensures { result ≡ amount (length (hex octets.now)) }
 {
-    octets.len() as u64 * 2
+    octets.len() * 2
 }
 
 // A Base64 digit.
@@ -96,8 +96,8 @@ pub fn put_base64(text: &mut [u8], k: usize, octets: &[u8]) -> usize
 }
 
 // How many bytes it makes.
-pub fn base64_len(octets: &[u8]) -> u64
+pub fn base64_len(octets: &[u8]) -> usize
     ensures { result ≡ amount (length (base64 octets.now)) }
 {
-    (octets.len() as u64 + 2) / 3 * 4
+    (octets.len() + 2) / 3 * 4
 }

@@ -49,7 +49,7 @@ fn put_escaped(text: &mut [u8], k: usize, b: u8) -> usize
 }
 
 // How many bytes a byte makes.
-fn escaped_len(b: u8) -> u64
+fn escaped_len(b: u8) -> usize
     ensures { result ≡ length (escaped b) }
 {
     match letter_for(b) {
@@ -72,10 +72,10 @@ pub fn put_escapes(text: &mut [u8], k: usize, octets: &[u8]) -> usize
 }
 
 // How many bytes a string makes.
-pub fn escapes_len(octets: &[u8]) -> u64
+pub fn escapes_len(octets: &[u8]) -> usize
     ensures { result ≡ amount (length (escapes octets.now)) }
 {
-    let mut n: u64 = 0;
+    let mut n = 0;
     for b in octets {
         n = add(n, escaped_len(*b));
     }

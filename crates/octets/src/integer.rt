@@ -59,12 +59,12 @@ pub fn put_integer(text: &mut [u8], k: usize, low: u32, high: u32) -> usize
 }
 
 // How many bytes it makes.
-pub fn integer_len(low: u32, high: u32) -> u64
+pub fn integer_len(low: u32, high: u32) -> usize
     ensures { result ≡ length (int_text (high * 2 ^ 32 + low)) }
 {
     let n = joined(low, high);
     if n < 9223372036854775808 {
-        return digit_count(n) as u64;
+        return digit_count(n);
     }
-    1 + digit_count(n.wrapping_neg()) as u64
+    1 + digit_count(n.wrapping_neg())
 }

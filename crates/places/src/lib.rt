@@ -3,7 +3,7 @@
 // What the code and the definitions answer alike is declared here, once.
 #![tactic(auto)]
 
-// What follows the opening bracket, or a part of a bracket.
+// What follows the opening bracket, or a part of a bracket. No Result: neither is a failure.
 #[derive(Clone, Copy)]
 pub enum Follows {
     // The next part begins at this place.
@@ -13,6 +13,7 @@ pub enum Follows {
 }
 
 // An object's names: the place after its closing bracket, the members met and, of each, where its value stands.
+// `met` is document 01's one number of 64 bits, and no list of pairs: there is no heap, and a member's place is asked for by its position.
 #[derive(Clone, Copy)]
 pub struct Scanned {
     pub next: usize,
@@ -20,7 +21,7 @@ pub struct Scanned {
     pub places: [u32; 64],
 }
 
-// A member of an object.
+// A member of an object. No Option: null and no name are both no value, and are taken otherwise where the member must be there.
 #[derive(Clone, Copy)]
 pub enum Member {
     Absent,

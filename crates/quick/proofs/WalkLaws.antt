@@ -5,10 +5,8 @@ use mathlib.Core.List.{List}
 use native.Mathlib.Numerals.{add-one}
 use Rattle.std.specs.Prelude.{Option, None, Some}
 use native.Mathlib.Omega.{arith}
-use mathlib.Core.Bool.{Bool, true, false}
-use borrow.Author.Tests.{eqb-true, eqb-false}
+use mathlib.Core.Bool.{true, false}
 use lib.Count.{ones}
-use lib.Dec.{eqb}
 use lib.ListN.{length, get_or, set, length-set}
 use lib.Seq.{get_or-set_same, get_or-set_other}
 use Rattle.jer.specs.Table.{Table, is_type, count_of, may_miss}
@@ -158,26 +156,6 @@ headed-kept z x j a b c e = rw e (headed-before z j a b c)
 pub shut-here : {t : Table} {r : ℕ} {z x : List ℕ} {j met has n pool end next : ℕ} {g : Got} (a w c : ℕ) → ((i : ℕ) → i < count_of t r → bit_of met i ≡ false → may_miss t r i ≡ true) → a ≡ ones has → c ≡ count_of t r → w ≡ c - a
     → x ≡ headed z j a (n + w + 1) end → Headed (n + w) pool end next g → Shut t r z x j met has n pool end next g
 shut-here a w c f e h i k l = record { complete = f; tape = rw (← e, ← h, ← i) k; answer = rw (← e, ← h, ← i) l }
-
--- ---- links that are 0
-
-pub record Cleared (z y : List ℕ) (from k : ℕ) : Type 0 where
-  pub kept : Alike z y 0 from
-  pub none : (i : ℕ) → i < k → get_or y (from + i) 0 ≡ 0
-
-pub cleared_none : (z : List ℕ) (from : ℕ) → Cleared z z from 0
-cleared_none z from = record { kept = alike_same z 0 from; none = λ i l. absurd (omega arith) }
-
-pub cleared_more : (z y : List ℕ) (from k : ℕ) → Cleared z y from k → from + k < length y → Cleared z (set y (from + k) 0) from (k + 1)
-cleared_more z y from k c l =
-    record {
-      kept = alike_then z y _ 0 from c.kept (alike_set y (from + k) 0 0 from (λ n h m e. omega arith));
-      none = λ i m. go i (eqb i k) refl m;
-    }
-  where
-    go : (i : ℕ) (b : Bool) → eqb i k ≡ b → i < k + 1 → get_or (set y (from + k) 0) (from + i) 0 ≡ 0
-    go i true e m = rw (eqb-true i k e) (get_or-set_same y (from + k) 0 0 l)
-    go i false e m = let f = eqb-false i k e in get_or-set_other y (from + k) (from + i) 0 0 (λ w. f (omega arith)) ∙ c.none i (omega (arith, f))
 
 -- ---- what a part is given
 

@@ -14,7 +14,7 @@ use spelled::string::string;
 use spelled::word::literal;
 use types::row::{Row, kind_of};
 
-// The place after it; the two words of it; how many pool bytes.
+// The place after it; the two words of it, as they are noted on the tape; how many pool bytes.
 #[derive(Clone, Copy)]
 pub struct Words {
     pub next: usize,
@@ -74,7 +74,7 @@ fn number(s: &[u8], place: usize) -> Option<Words>
     })
 }
 
-// What is added to the length of a string in which something is escaped.
+// What is added to the length of a string in which something is escaped: a leaf has two words on the tape, and the place takes the other.
 pub const ESCAPED: u32 = 2147483648;
 
 // A UTF8String: where it stands, and its length.
@@ -119,6 +119,7 @@ fn octets(source: &Source, row: usize, place: usize) -> Option<Words>
     if 32767 < w.count {
         return None;
     }
+    // The characters and the octets share the second word.
     if Row::at(source.types, row).is_base64() {
         let n = base64_count(source.s, place + 1, w.count)?;
         return Some(Words {

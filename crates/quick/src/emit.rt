@@ -162,9 +162,6 @@ fn items(
     o
 }
 
-// The row of an absent member.
-const ABSENT: u32 = 15;
-
 // The members of a SEQUENCE in table order, by the links from `from` on.
 #[cycle(emit_items_parts)]
 fn parts(
@@ -187,7 +184,7 @@ fn parts(
     for k in 0..count {
         let w = wide(tape[from + wide(k)]);
         if w == 0 {
-            put_row(rows, q, ABSENT, 0, 0, 1);
+            put_row(rows, q, Row::ABSENT, 0, 0, 1);
             q += 1;
         } else {
             let m = type_at(types, row, k);

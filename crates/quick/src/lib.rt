@@ -1,4 +1,5 @@
 // A reading that only succeeds: one walk over the text notes the value on a tape, a second walk over the tape stores rows and pool.
+// The tape is an array of words on the stack: there is no heap for a tree.
 // What it does not take it answers by nothing; the general calls read that. So its contracts say only what a success means.
 #![tactic(auto)]
 

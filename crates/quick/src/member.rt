@@ -8,22 +8,23 @@ ghost use Rattle.quick.specs.Taken.{Complete};
 
 use crate::source::Source;
 use scan::met::bit;
-use scan::parts::null_absent;
-use slices::byte_at;
+use scan::parts::{null_absent, null_at};
 use types::row::{count_of, may_miss};
 
 // The value at the place is null, for the absence of the member at k of an object.
+#[tactic(auto, unfolding(places::specs::ByPlaces::is_null_at))]
 pub fn absent_at(source: &Source, row: usize, k: u32, place: usize) -> bool
     ensures { (ns : List ℕ) → result ≡ (eqb (byte_at source.now.s.now place) 0x6E && null_absent (table source.now.types.now ns) row k) }
 {
-    byte_at(source.s, place) == 0x6E && null_absent(source.types, row, k)
+    null_at(source.s, place) && null_absent(source.types, row, k)
 }
 
-// The element at the place is null, for the absence of the member at k of an ARRAY.
+// The element at the place is null, for the absence of the member at k of an ARRAY: of one that may be missing, whatever its type makes of null.
+#[tactic(auto, unfolding(places::specs::ByPlaces::is_null_at))]
 pub fn missing_at(source: &Source, row: usize, k: u32, place: usize) -> bool
     ensures { (ns : List ℕ) → result ≡ (eqb (byte_at source.now.s.now place) 0x6E && may_miss (table source.now.types.now ns) row k) }
 {
-    byte_at(source.s, place) == 0x6E && may_miss(source.types, row, k)
+    null_at(source.s, place) && may_miss(source.types, row, k)
 }
 
 // The member at k was met, or may be missing.
@@ -37,7 +38,7 @@ fn lacks(types: &[u32], row: usize, met: u64, k: u32) -> bool
     !may_miss(types, row, k)
 }
 
-// Every member that was not met may be missing.
+// Every member that was not met may be missing. A loop: `lacks` asks k < 64, which a chain would have to show at each turn.
 pub fn complete(types: &[u32], row: usize, met: u64) -> bool
     requires { (ns : List ℕ) → count_of (table types.now ns) row ≤ 64 }
     ensures { result ≡ true → (ns : List ℕ) → Complete (table types.now ns) row met }

@@ -63,15 +63,13 @@ pub fn head(
     }
 }
 
-// No member is met yet: the links from `from` on are 0.
+// No member is met yet: the links from `from` on are 0. No value of a member stands at 0, where the header of the whole one is.
 pub fn clear(tape: &mut [u32], from: usize, count: u32)
     requires { from + count ≤ length tape.old }
     ensures alike { Alike tape.old tape.new 0 from }
     ensures by_index { (i : ℕ) → i < count → get_or tape.new (from + i) 0 ≡ 0 }
 {
-    for k in 0..wide(count) {
-        tape[from + k] = 0;
-    }
+    tape[from..from + wide(count)].fill(0);
 }
 
 // The header at `top` of a SEQUENCE, if every member that was not met may be missing; n rows are those of the members present.

@@ -8,6 +8,7 @@ use crate::emit::emit;
 use crate::source::Source;
 use crate::take::take;
 use jer::{Counts, Refusal};
+use json_text::TEXT;
 use spelled::plain::Flags;
 
 // Reads the text by the type table, which is good, into the lent rows and pool. With no answer the general way is to read the text, and
@@ -22,7 +23,7 @@ pub fn read(
     requires { TableCall (table types.now names.now) (Ok tt) }
     ensures { Replied (table types.now names.now) s.now rows.old pool.old result rows.new pool.new }
 {
-    if 65536 < s.len() {
+    if TEXT < s.len() {
         return None;
     }
     let source = &Source {

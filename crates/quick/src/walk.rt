@@ -73,7 +73,7 @@ fn picked(
     Some(head(tape, top, k, g.rows, g.pool, g.tape, g.next))
 }
 
-// A value of a type that is not UNWRAPPED.
+// A value of a type that is not UNWRAPPED. Not within `value`: an UNWRAPPED choice picks such a value, and opens no bracket.
 #[cycle(array_bracket_choice_element_list_member_object_picked_plain_sequence_value)]
 fn plain(
     source: &Source,
@@ -359,7 +359,8 @@ fn choice(
     Some(head(tape, top, k, g.rows, g.pool, g.tape, c + 1))
 }
 
-// SEQUENCE as an array; `depth` brackets may be open in an element. Not one with `object`: an element has a position, no name, no memo and no member that is due.
+// SEQUENCE as an array; `depth` brackets may be open in an element. A loop: an element ends where its walk ended.
+// Not one with `object`: an element has a position, no name, no memo and no member that is due.
 #[cycle(array_bracket_choice_element_list_member_object_picked_plain_sequence_value)]
 fn array(
     source: &Source,

@@ -3,12 +3,12 @@ use Rattle.std.specs.Prelude.{Err, Ok}
 use Rattle.jer.specs.Answer.{Reading}
 use Prim.Native.Nat.{ℕ, suc, ◌+◌, ◌-◌, ◌*◌, ◌/◌, ◌^◌, ◌<◌, ◌≤◌}
 use mathlib.Core.Path.{◌≡◌, refl, sym, ap, ◌∙◌}
-use mathlib.Core.List.{List, [], ◌∷◌, ◌++◌, append_assoc, append-nil}
+use mathlib.Core.List.{List, ◌∷◌, ◌++◌, append_assoc, append-nil}
 use mathlib.Core.Bool.{Bool, true, false, ◌&&◌, false≢true}
 use native.Mathlib.Nat.{add-zero}
 use native.Mathlib.Omega.{arith}
 use lib.Dec.{eqb, leb}
-use lib.ListN.{length, get_or, set, take, drop, length-append, length-drop, take-append-drop, drop_of_length-le}
+use lib.ListN.{length, get_or, take, drop, length-append, length-drop, take-append-drop, drop_of_length-le}
 use borrow.Rule.Slice.PartMut.{put_mid}
 use lib.Seq.{take_all, sets, length-sets, sets-eq, drop-cons, drop-drop, length-take-le, take_at, drop_at, take-append-add, drop-append-add}
 use borrow.Author.Tests.{le-leb, lt-leb, leb-true, eq-eqb, ne_eqb}
@@ -253,16 +253,6 @@ module _ (t : Table) (texts ends : List ℕ) where
             }
 
 -- ---- one text
-
--- five stores
-pub five : (l : List ℕ) (i a b c d e : ℕ) {l₁ l₂ l₃ l₄ l₅ : List ℕ} → l₁ ≡ set l i a → l₂ ≡ set l₁ (i + 1) b → l₃ ≡ set l₂ (i + 2) c → l₄ ≡ set l₃ (i + 3) d → l₅ ≡ set l₄ (i + 4) e
-    → l₅ ≡ sets l i (a ∷ b ∷ c ∷ d ∷ e ∷ [])
-five l i a b c d e e₁ e₂ e₃ e₄ e₅ =
-    let f₁ : i + 1 ≡ suc i = omega arith in
-    let f₂ : i + 2 ≡ suc (suc i) = omega arith in
-    let f₃ : i + 3 ≡ suc (suc (suc i)) = omega arith in
-    let f₄ : i + 4 ≡ suc (suc (suc (suc i))) = omega arith in
-    rw (e₅, e₄, e₃, e₂, e₁, f₄, f₃, f₂, f₁)
 
 pub text-none : (texts : List ℕ) (from end : ℕ) → end < from → take 0 (drop from texts) ≡ text_from texts from end
 unfolding text_from

@@ -1,5 +1,6 @@
 // Many texts under one type table, which is judged once. The texts stand one after another, and so do, in the lent room, their rows and their
 // pool bytes; of each text five numbers are told.
+// A C caller lends texts and ends, as `capi` has them: bytes and places, no slice of slices.
 ghost use Rattle.std.specs.Prelude.{◌≡◌, ◌*◌, ◌^◌, ◌≤◌, length, Ok};
 ghost use Rattle.std.proofs.lemmas.List.Edits.{sets};
 ghost use Rattle.jer.specs.Reports.{reported_of};
@@ -11,7 +12,7 @@ ghost use Rattle.reading.specs.Run.{Ran, ReadFrom, told_of};
 
 use crate::read_good;
 use jer::{Counts, Refusal, Reported};
-use slices::{part, put};
+use slices::{part, put_all};
 
 // The numbers told of a text: its answer's number and amounts, and where its rows and its pool bytes end.
 const TOLD: usize = 5;
@@ -55,12 +56,17 @@ fn tell(tells: &mut [u64], k: usize, v: Reported, rows: usize, pool: usize)
     requires { k ≤ 2 ^ 60 }
     ensures { (tells.new ≡ sets tells.old (k * 5) (told_of v rows pool)) × (k ≤ 2 ^ 60) }
 {
-    let at = k * TOLD;
-    put(tells, at, v.number as u64);
-    put(tells, at + 1, v.first);
-    put(tells, at + 2, v.second);
-    put(tells, at + 3, rows as u64);
-    put(tells, at + 4, pool as u64);
+    put_all(
+        tells,
+        k * TOLD,
+        &[
+            u64::from(v.number),
+            v.first,
+            v.second,
+            rows as u64,
+            pool as u64,
+        ],
+    );
 }
 
 // The text s into the room that n rows and m pool bytes leave.

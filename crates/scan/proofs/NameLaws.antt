@@ -2,10 +2,10 @@
 use mathlib.Core.Path.{◌≡◌, refl, ap, ◌∙◌}
 use mathlib.Core.List.{List}
 use mathlib.Core.Bool.{Bool}
-use Prim.Native.Nat.{ℕ, ◌+◌, ◌-◌, ◌<◌, ◌≤◌}
+use Prim.Native.Nat.{ℕ, ◌+◌, ◌<◌, ◌≤◌}
 use native.Mathlib.Omega.{arith}
 use lib.ListN.{length, take, drop}
-use Rattle.jer.specs.Table.{Table, count_of, member_row, name_in, name_at, same_bytes, first_where, position, name_start, name_length, table}
+use Rattle.jer.specs.Table.{Table, name_in, name_at, same_bytes, name_start, name_length, table}
 use Rattle.types.proofs.RowLaws.{name_in_lem}
 use Rattle.tokens.specs.Places.{past_space}
 use Rattle.tokens.specs.Strings.{string_end}
@@ -41,11 +41,3 @@ in-row rows names m x p q e = e ∙ ap (λ (l : List ℕ). same_bytes l x) (name
 -- the member at i has the name
 abbrev pub named : Table → ℕ → List ℕ → ℕ → Bool
 named t r x i = same_bytes (name_at t r i) x
-
-pub named-is : (t : Table) (r i : ℕ) (x : List ℕ) {m : ℕ} {b : Bool} → m ≡ member_row t r i → b ≡ same_bytes (name_in t m) x → b ≡ named t r x i
-unfolding name_at
-named-is t r i x e h = h ∙ rw e
-
-pub position-starts : (t : Table) (r : ℕ) (x : List ℕ) {n : ℕ} → n ≡ count_of t r → first_where (named t r x) 0 (n - 0) ≡ position t r x
-unfolding position
-position-starts t r x {n = n} e = let g : n - 0 ≡ count_of t r = omega arith in rw g

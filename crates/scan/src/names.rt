@@ -42,10 +42,5 @@ pub fn position(types: &[u32], names: &[u8], s: &[u8], row: usize, q: usize) -> 
     let count = count_of(types, row);
     let p = q + 1;
     let b = plain_first(s, p);
-    for i in 0..count {
-        if has_name(types, names, s, first + wide(i), p, b) {
-            return Some(i);
-        }
-    }
-    None
+    (0..count).find(|i| has_name(types, names, s, first + wide(*i), p, b))
 }

@@ -33,7 +33,7 @@ pub fn put<T: Copy>(s: &mut [T], at: usize, x: T)
     }
 }
 
-// Stores the items of x, as far as there is room.
+// Stores the items of x, as far as there is room. One by one: `copy_from_slice` would want both parts cut to the room first.
 pub fn put_all<T: Copy>(s: &mut [T], at: usize, x: &[T])
     requires { at + length x.now < 2 ^ 64 }
     ensures { s.new ≡ sets s.old at x.now }

@@ -2,8 +2,11 @@
 use Prim.Native.Nat.{ℕ, ◌+◌, ◌-◌, ◌*◌, ◌<◌, ◌≤◌}
 use mathlib.Core.Path.{◌≡◌, refl, sym, ◌∙◌}
 use mathlib.Core.List.{List, [], ◌∷◌, ◌++◌, append-nil, append_assoc}
-use mathlib.Core.Bool.{true, false}
+use mathlib.Core.Logic.{◌⊎◌, inl, inr}
+use mathlib.Core.Bool.{Bool, true, false, not, ◌&&◌}
 use native.Mathlib.Omega.{arith}
+use borrow.Author.Tests.{leb-true}
+use lib.Dec.{leb}
 use lib.ListN.{length, get_or}
 use Rattle.json_text.specs.Tree.{Json, jint, jreal}
 use Rattle.json_text.specs.Bytes.{In}
@@ -25,6 +28,14 @@ digits-none s p m = stretch-none (SomeOnward m) s p (record { number = m; onward
 pub digits_more : (s : List ℕ) (p q m : ℕ) → Stretch (SomeOnward m) s p q → q < length s → 0x30 ≤ get_or s q 0 → get_or s q 0 ≤ 0x39 → Stretch (SomeOnward m) s p (q + 1)
 digits_more s p q m k l g h =
     stretch-more (SomeOnward m) (SomeOnward m) s p q (get_or s q 0) (λ xs o. record { number = o.number * 10 + (get_or s q 0 - 0x30); onward = onward_snoc o.onward (g, h) }) k l refl (omega arith)
+
+pub digit-tells : (b : ℕ) → not (leb 0x30 b && leb b 0x39) ≡ false → (0x30 ≤ b) × (b ≤ 0x39)
+digit-tells b e = go (leb 0x30 b) (leb b 0x39) refl refl e
+  where
+    go : (t u : Bool) → leb 0x30 b ≡ t → leb b 0x39 ≡ u → not (t && u) ≡ false → (0x30 ≤ b) × (b ≤ 0x39)
+    go true true f g e = (leb-true 0x30 b f, leb-true b 0x39 g)
+    go true false f g e = absurd (let z : ◌≡◌ {A = ℕ} 0 1 = cc in omega arith)
+    go false u f g e = absurd (let z : ◌≡◌ {A = ℕ} 0 1 = cc in omega arith)
 
 first_digit : {b : ℕ} (bs : List ℕ) → In 0x30 0x39 b → (0 < length bs → Digits bs) → Digits (b ∷ bs)
 first_digit [] h f = last_digit h
@@ -86,6 +97,10 @@ raised-minus s p q b e g k = byte_before Digits Raised s p q b 0x2D (λ xs d. mi
 pub raised-bare : (s : List ℕ) (p q : ℕ) → Passed Digits s p q → Passed Raised s p q
 raised-bare s p q k = passed Raised s p q (stretch_as Digits Raised s p q (λ xs d. bare d) k.stretch) k.ahead
 
+pub raised-signed : (s : List ℕ) (p q b : ℕ) → b ≡ byte_at s p → (b ≡ 0x2B) ⊎ (b ≡ 0x2D) → Passed Digits s (p + 1) q → Passed Raised s p q
+raised-signed s p q b e (inl f) k = raised-plus s p q b e f k
+raised-signed s p q b e (inr f) k = raised-minus s p q b e f k
+
 pub power-none : (s : List ℕ) (p : ℕ) → Stretch Powered s p p
 power-none s p = stretch-none Powered s p no_power
 
@@ -104,6 +119,10 @@ power_small s p q b e g k = (byte_before Raised Powered s p q b 0x65 (λ xs d. s
 
 pub power-large : (s : List ℕ) (p q b : ℕ) → b ≡ byte_at s p → b ≡ 0x45 → Passed Raised s (p + 1) q → Stretch Powered s p q
 power-large s p q b e g k = (byte_before Raised Powered s p q b 0x45 (λ xs d. some_power (large d)) e g (omega arith) k).stretch
+
+pub power-some : (s : List ℕ) (p q b : ℕ) → b ≡ byte_at s p → (b ≡ 0x45) ⊎ (b ≡ 0x65) → Passed Raised s (p + 1) q → Stretch Powered s p q
+power-some s p q b e (inl f) k = power-large s p q b e f k
+power-some s p q b e (inr f) k = power_small s p q b e f k
 
 -- ---- the number
 

@@ -1,8 +1,9 @@
 -- The member that has a name, tried in whatever order.
-use Prim.Native.Nat.{ℕ, ◌+◌, ◌*◌, ◌<◌, ◌≤◌}
+use Prim.Native.Nat.{ℕ, zero, suc, ◌+◌, ◌*◌, ◌<◌, ◌≤◌}
 use mathlib.Core.Path.{◌≡◌, refl, sym, ap, ◌∙◌}
 use mathlib.Core.List.{List}
-use mathlib.Core.Bool.{Bool, true, false}
+use mathlib.Core.Bool.{Bool, true, false, cond}
+use Rattle.std.specs.List.{find, range_with_len}
 use Rattle.std.specs.Prelude.{Option, None, Some}
 use native.Mathlib.Omega.{arith}
 use borrow.Author.Tests.{leb-true, leb-false}
@@ -42,6 +43,22 @@ name-unlike types names m n {start} {len} a b h d s p l =
     sym (name-other s p n (take len (drop start names)) l (λ g. d (sym e ∙ g)) ∙ ap (λ (y : List ℕ). same_bytes y (take n (drop p s))) f)
 
 -- ---- one member after another
+
+-- the first of the members from the i-th on that has the name, if none before them has it
+pub among-found : (t : Table) (first : ℕ) (x : List ℕ) (i n : ℕ) → ((j : ℕ) → j < i → same_bytes (name_in t (first + j)) x ≡ false) → Among t first (i + n) x (find (λ k. same_bytes (name_in t (first + k)) x) (range_with_len i n))
+among-found t first x i zero h = λ j l. h j (omega arith)
+among-found t first x i (suc n) h = go (same_bytes (name_in t (first + i)) x) refl (among-found t first x (i + 1) n)
+  where
+    more : same_bytes (name_in t (first + i)) x ≡ false → (j : ℕ) → j < i + 1 → same_bytes (name_in t (first + j)) x ≡ false
+    more e j l = here (leb i j) refl
+      where
+        here : (b : Bool) → leb i j ≡ b → same_bytes (name_in t (first + j)) x ≡ false
+        here true f = let g : i ≡ j = omega (arith, leb-true i j f) in rw g at e
+        here false f = h j (leb-false i j f)
+
+    go : (b : Bool) → same_bytes (name_in t (first + i)) x ≡ b → (((j : ℕ) → j < i + 1 → same_bytes (name_in t (first + j)) x ≡ false) → Among t first (i + 1 + n) x (find (λ k. same_bytes (name_in t (first + k)) x) (range_with_len (i + 1) n))) → Among t first (i + suc n) x (cond b (Some i) (find (λ k. same_bytes (name_in t (first + k)) x) (range_with_len (i + 1) n)))
+    go true e k = (omega arith, h, e)
+    go false e k = let g : i + 1 + n ≡ i + suc n = omega arith in rw g at (k (more e))
 
 -- ---- the position
 

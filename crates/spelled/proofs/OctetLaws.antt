@@ -7,7 +7,12 @@ use native.Mathlib.Omega.{arith}
 use borrow.Author.Tests.{ne_eqb}
 use lib.ListN.{length, get_or, take, drop, length-drop}
 use lib.Seq.{get_or-take, get_or-drop, length-take-le}
-use Rattle.jer.specs.Octets.{also, only_if, unhex, base64_value, last_group, full_group, unbase64}
+use mathlib.Core.Bool.{true}
+use Rattle.std.specs.Prelude.{Option, None}
+use Rattle.std.specs.Option.{is_some}
+use Rattle.std.specs.List.{list_all}
+use Rattle.std.proofs.lemmas.List.Sums.{AllPass-from_list_all}
+use Rattle.jer.specs.Octets.{also, only_if, hex_value, unhex, base64_value, last_group, full_group, unbase64}
 use Rattle.spelled.specs.Octets.{OctetsAre, HexByte, Base64Byte, Group}
 
 -- ---- one more
@@ -18,6 +23,23 @@ module _ (s : List ℕ) (p n : ℕ) (l : p + n ≤ length s) where
 
   pub part_at : (i : ℕ) → i < n → get_or (take n (drop p s)) i 0 ≡ get_or s (p + i) 0
   part_at i h = get_or-take n (drop p s) i 0 h ∙ get_or-drop p s i 0
+
+-- what all n bytes at p have
+each-some : (value : ℕ → Option ℕ) (s : List ℕ) (p n : ℕ) → p + n ≤ length s → list_all (λ b. is_some (value b)) (take (p + n - p) (drop p s)) ≡ true → (i : ℕ) → i < n → (x : ℕ) × (value (get_or s (p + i) 0) ≡ Some x)
+each-some value s p n l e i h =
+    let f : p + n - p ≡ n = omega arith in
+    let k = AllPass-from_list_all (λ b. is_some (value b)) (take n (drop p s)) (rw f at e) i 0 (omega (arith, part_length s p n l)) in
+    some (value (get_or s (p + i) 0)) refl (rw (part_at s p n l i h) at k)
+  where
+    some : (o : Option ℕ) → value (get_or s (p + i) 0) ≡ o → is_some (value (get_or s (p + i) 0)) ≡ true → (x : ℕ) × (value (get_or s (p + i) 0) ≡ Some x)
+    some (Some x) e g = (x, e)
+    some None e g = absurd (let z = rw e at g in let w : ◌≡◌ {A = ℕ} 0 1 = cc in omega arith)
+
+pub each-hex : (s : List ℕ) (p n : ℕ) → p + n ≤ length s → list_all (λ b. is_some (hex_value b)) (take (p + n - p) (drop p s)) ≡ true → (i : ℕ) → i < n → HexByte (get_or s (p + i) 0)
+each-hex s p n l e i h = let k = each-some hex_value s p n l e i h in record { value = k.0; is = k.1 }
+
+pub each-base64 : (s : List ℕ) (p n : ℕ) → p + n ≤ length s → list_all (λ b. is_some (base64_value b)) (take (p + n - p) (drop p s)) ≡ true → (i : ℕ) → i < n → Base64Byte (get_or s (p + i) 0)
+each-base64 s p n l e i h = let k = each-some base64_value s p n l e i h in record { value = k.0; is = k.1 }
 
 -- ---- hexadecimal
 

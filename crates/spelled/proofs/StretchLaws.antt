@@ -1,5 +1,5 @@
 -- Stretches of a text: none, the bytes that stand there, and one after another.
-use Prim.Native.Nat.{ℕ, suc, ◌+◌, ◌<◌, ◌≤◌}
+use Prim.Native.Nat.{ℕ, zero, suc, ◌+◌, ◌<◌, ◌≤◌}
 use mathlib.Core.Path.{◌≡◌, refl, sym, ap, ◌∙◌}
 use mathlib.Core.List.{List, [], ◌∷◌, ◌++◌, append_assoc}
 use native.Mathlib.Nat.{add-zero}
@@ -11,6 +11,10 @@ use Prim.Native.Nat.{max}
 use mathlib.Core.Bool.{Bool, true, false}
 use borrow.Author.Tests.{leb-true, leb-false}
 use lib.Dec.{leb}
+use Rattle.std.specs.Prelude.{Some}
+use Rattle.std.specs.Option.{unwrap_or}
+use Rattle.std.specs.List.{find, range_with_len}
+use mathlib.Core.Bool.{cond}
 use Rattle.json_text.specs.Bytes.{past}
 use Rattle.tokens.specs.Places.{byte_at}
 use Rattle.tokens.proofs.PlaceLaws.{byte_inside, inside}
@@ -80,6 +84,15 @@ at-end P {p} {q} {n} {e} a b h k l f = go (leb p n) refl
     go : (t : Bool) → leb p n ≡ t → P e
     go true u = let w = leb-true p n u in let v : q ≡ e = omega (arith, k w) in rw v at b
     go false u = let w = leb-false p n u in let v : p ≡ e = omega arith in rw v at a
+
+-- so does what holds at each place that a search from i on comes to: at the place found, or at the end
+pub found-end : (P : ℕ → Type 0) (test : ℕ → Bool) (i n : ℕ) → P i → ((q : ℕ) → i ≤ q → q < i + n → test q ≡ false → P q → P (q + 1)) → P (unwrap_or (find test (range_with_len i n)) (i + n))
+found-end P test i zero a f = let e : i + 0 ≡ i = omega arith in rw e a
+found-end P test i (suc n) a f = go (test i) refl (λ b. found-end P test (i + 1) n b (λ q h m t k. f q (omega arith) (omega arith) t k))
+  where
+    go : (b : Bool) → test i ≡ b → (P (i + 1) → P (unwrap_or (find test (range_with_len (i + 1) n)) (i + 1 + n))) → P (unwrap_or (cond b (Some i) (find test (range_with_len (i + 1) n))) (i + suc n))
+    go true e k = a
+    go false e k = let g : i + 1 + n ≡ i + suc n = omega arith in rw g at (k (f i (omega arith) (omega arith) e a))
 
 -- what stands somewhere ends inside the text
 pub stretch-inside : (R : List ℕ → Type 0) (s : List ℕ) (p q : ℕ) → Stretch R s p q → p < q → q ≤ length s

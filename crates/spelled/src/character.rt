@@ -15,7 +15,7 @@ pub struct Escaped {
     pub count: usize,
 }
 
-// The unit that is escaped at p by four digits.
+// The unit that is escaped at p by four digits, if it is: that of `tokens` takes them for granted.
 fn unit(s: &[u8], p: usize) -> Option<u32>
     requires { p ≤ length s.now }
     ensures { IfSome result (λ x. Passed (Coded x) s.now p (p + 6) × (x < 0x10000)) }
@@ -37,7 +37,7 @@ fn letter(b: u32) -> bool
     matches!(b, 0x22 | 0x5C | 0x2F | 0x62 | 0x66 | 0x6E | 0x72 | 0x74)
 }
 
-// How many bytes the character x has.
+// How many bytes the character x has. No `char`: a lone surrogate is a number here like any other.
 fn size(x: u32) -> usize
     requires { x < 0x10000 }
     ensures { (result ≡ length (encode x)) × (0 < result) × (result ≤ 3) }

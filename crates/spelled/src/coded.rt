@@ -1,4 +1,4 @@
-// Octets of a string without escapes: how many they are.
+// Octets of a string without escapes: how many they are. Crate octets reads any string, a character at a time.
 ghost use Rattle.std.specs.Prelude.{◌≡◌, ◌+◌, ◌*◌, ◌≤◌, ◌<◌, length, take, drop, IfSome};
 ghost use Rattle.jer.specs.Octets.{unhex, unbase64};
 ghost use Rattle.spelled.specs.Octets.{Group, OctetsAre};
@@ -11,11 +11,8 @@ pub fn hex_count(s: &[u8], p: usize, n: usize) -> Option<usize>
     requires { p + n ≤ length s.now }
     ensures { IfSome result (λ m. OctetsAre unhex (take n (drop p s.now)) m × (n ≡ m * 2)) }
 {
-    if n % 2 == 1 {
+    if n % 2 == 1 || !s[p..p + n].iter().all(|b| hex_value(*b).is_some()) {
         return None;
-    }
-    for k in p..p + n {
-        hex_value(s[k])?;
     }
     Some(n / 2)
 }
@@ -50,8 +47,8 @@ pub fn base64_count(s: &[u8], p: usize, n: usize) -> Option<usize>
         return None;
     }
     let q = p + (n - 4);
-    for k in p..q {
-        base64_value(s[k])?;
+    if !s[p..q].iter().all(|b| base64_value(*b).is_some()) {
+        return None;
     }
     let e = last_group(s[q], s[q + 1], s[q + 2], s[q + 3])?;
     Some((n - 4) / 4 * 3 + e)

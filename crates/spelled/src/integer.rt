@@ -13,7 +13,7 @@ pub struct Number {
     pub value: u64,
 }
 
-// The place after the number, and the halves of its two's complement.
+// The place after the number, and the halves of its two's complement. Those of `tokens` have no place.
 #[derive(Clone, Copy)]
 pub struct Halves {
     pub next: usize,
@@ -25,16 +25,10 @@ pub struct Halves {
 fn until(s: &[u8], p: usize) -> usize
     ensures { Within s.now p result × (result ≤ p + 17) }
 {
-    if s.len() <= p {
-        return p;
-    }
-    if s.len() - p < 17 {
-        return s.len();
-    }
-    p + 17
+    s.len().min(p.saturating_add(17)).max(p)
 }
 
-// The digits after a first one.
+// The digits after a first one, with their value; `number::digits` asks for none, and goes past 18 digits.
 fn digits(s: &[u8], p: usize, first: u64) -> Number
     requires { first ≤ 9 }
     ensures stretch { Stretch (Onward first result.value) s.now p result.next }

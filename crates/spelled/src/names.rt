@@ -34,6 +34,14 @@ fn other_length(types: &[u32], names: &[u8], m: usize, n: usize) -> bool
     len != n
 }
 
+// The same as `has_name`; where the length alone tells, by that.
+fn is_named(types: &[u32], names: &[u8], s: &[u8], m: usize, p: usize, n: usize) -> bool
+    requires { p + n ≤ length s.now }
+    ensures { result ≡ same_bytes (name_in (table types.now names.now) m) (take n (drop p s.now)) }
+{
+    !other_length(types, names, m, n) && has_name(types, names, s, m, p, n)
+}
+
 // A number below 1024 for the name at p, of the members from row `first` on.
 fn hash(s: &[u8], p: usize, n: usize, first: usize) -> usize
     requires { (p + n ≤ length s.now) × (first ≤ 4294967295) }
@@ -66,13 +74,7 @@ fn search(
     requires { (p + n ≤ length s.now) × (first ≤ 4294967295) }
     ensures { Among (table types.now names.now) first count (take n (drop p s.now)) result }
 {
-    for k in 0..count {
-        let m = first + wide(k);
-        if !other_length(types, names, m, n) && has_name(types, names, s, m, p, n) {
-            return Some(k);
-        }
-    }
-    None
+    (0..count).find(|k| is_named(types, names, s, first + wide(*k), p, n))
 }
 
 // The same where the names differ: the member that is due is tried first, then the one that the memo has for the name.

@@ -11,12 +11,9 @@ fn digits(s: &[u8], p: usize) -> usize
     ensures by_index { (m : ℕ) → Stretch (SomeOnward m) s.now p result }
     ensures within { Within s.now p result }
 {
-    for q in p..s.len() {
-        if !matches!(s[q], 0x30..=0x39) {
-            return q;
-        }
-    }
-    s.len().max(p)
+    (p..s.len())
+        .find(|q| !matches!(s[*q], 0x30..=0x39))
+        .unwrap_or(s.len().max(p))
 }
 
 // The same for one digit or more.
@@ -63,8 +60,7 @@ fn raised(s: &[u8], p: usize) -> Option<usize>
     ensures { IfSome result (λ q. Passed Raised s.now p q) }
 {
     match byte_at(s, p) {
-        0x2B => some_digits(s, p + 1),
-        0x2D => some_digits(s, p + 1),
+        0x2B | 0x2D => some_digits(s, p + 1),
         _ => some_digits(s, p),
     }
 }
@@ -74,8 +70,7 @@ fn power(s: &[u8], p: usize) -> Option<usize>
     ensures { IfSome result (λ q. Stretch Powered s.now p q) }
 {
     match byte_at(s, p) {
-        0x65 => raised(s, p + 1),
-        0x45 => raised(s, p + 1),
+        0x45 | 0x65 => raised(s, p + 1),
         _ => Some(p),
     }
 }

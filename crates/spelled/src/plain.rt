@@ -3,7 +3,7 @@ ghost use Rattle.std.specs.Prelude.{◌≡◌, true, ◌<◌, length, get_or};
 ghost use Rattle.spelled.specs.Stretch.{Stretch, Selves, Within};
 ghost use Rattle.spelled.specs.Leaves.{SelfByte, IsFlags};
 
-// 0 for such a byte, 1 for any other.
+// 0 for such a byte, 1 for any other: as a byte string the table can be read. Crate written has one of its own, which tells three classes.
 const FLAGS: [u8; 256] = *b"\
     \x01\x01\x01\x01\x01\x01\x01\x01\x01\x01\x01\x01\x01\x01\x01\x01\x01\x01\x01\x01\x01\x01\x01\x01\x01\x01\x01\x01\x01\x01\x01\x01\
     \x00\x00\x01\x00\x00\x00\x00\x00\x00\x00\x00\x00\x00\x00\x00\x00\x00\x00\x00\x00\x00\x00\x00\x00\x00\x00\x00\x00\x00\x00\x00\x00\
@@ -34,7 +34,7 @@ impl Flags {
         self.entries[usize::from(s[i])] == 0
     }
 
-    // The first place from p on whose byte is not such a character, or the end.
+    // The first place from p on whose byte is not such a character, or the end. A loop: `plain` says only what a yes means.
     fn run_short(&self, s: &[u8], p: usize) -> usize
         ensures stretch { Stretch Selves s.now p result }
         ensures within { Within s.now p result }

@@ -1,11 +1,11 @@
-// Octets of a plain string, stored in the pool.
+// Octets of a plain string, stored in the pool. It has no escapes: a digit is a byte, where `octets::decode` looks for an escape at each.
 ghost use Rattle.std.specs.Prelude.{◌≡◌, ℕ, ◌+◌, ◌*◌, ◌≤◌, ◌<◌, length, get_or, take, drop};
 ghost use Rattle.std.proofs.lemmas.List.Edits.{sets};
 ghost use Rattle.jer.specs.Octets.{unhex, base64_value, unbase64};
 ghost use Rattle.spelled.specs.Octets.{OctetsStored, GroupStored, LastStored};
 
 use octets::decode::base64_value;
-use slices::{hex_value, put};
+use slices::{hex_value, put, put_all};
 
 // Stores the octets that twice as many characters at p are in hexadecimal, from o on.
 pub fn put_hex(s: &[u8], p: usize, count: usize, pool: &mut [u8], o: usize)
@@ -37,9 +37,11 @@ fn put_group(s: &[u8], q: usize, pool: &mut [u8], o: usize)
     let y = value_at(s, q + 1);
     let z = value_at(s, q + 2);
     let w = value_at(s, q + 3);
-    put(pool, o, x * 4 + y / 16);
-    put(pool, o + 1, y % 16 * 16 + z / 4);
-    put(pool, o + 2, z % 4 * 64 + w);
+    put_all(
+        pool,
+        o,
+        &[x * 4 + y / 16, y % 16 * 16 + z / 4, z % 4 * 64 + w],
+    );
 }
 
 // The same for the last four characters, of which one or two may be pads.

@@ -4,7 +4,7 @@ ghost use Rattle.jer.specs.Table.{same_bytes};
 
 use crate::bytes::{eight, four};
 
-// Eight bytes or more: the last eight may overlap those before them.
+// Eight bytes or more: the last eight may overlap those before them. A loop: `eight` asks that there are eight bytes, which a chain would have to show at each turn.
 fn same_long(s: &[u8], p: usize, x: &[u8]) -> bool
     requires { (p + length x.now ≤ length s.now) × (8 ≤ length x.now) }
     ensures { result ≡ same_bytes x.now (take (length x.now) (drop p s.now)) }

@@ -67,7 +67,7 @@ fn name(s: &[u8], p: usize, flags: &Flags) -> Option<usize>
     Some(c + 1)
 }
 
-// The place after the object whose brace stands at p.
+// The place after the object whose brace stands at p. Not one with `array`: a name stands before each value.
 #[cycle(array_object_skip)]
 fn object(s: &[u8], p: usize, flags: &Flags, depth: u32) -> Option<usize>
     requires { byte_at s.now p ≡ 0x7B }

@@ -10,7 +10,7 @@ fn is_space(b: u8) -> bool
     b <= 0x20 && matches!(b, 0x20 | 0x0A | 0x0D | 0x09)
 }
 
-// The place after the white space at p.
+// The place after the white space at p. A loop: the law of `find` asks what a test answers, and `is_space` says only what a yes means.
 pub fn space(s: &[u8], p: usize) -> usize
     ensures stretch { Stretch Space s.now p result }
     ensures within { Within s.now p result }

@@ -10,7 +10,7 @@ use lines::taken::DIGITS;
 use slices::hex_value;
 use std::io::Read;
 
-// Where in its buffer the input stands.
+// Where in its buffer the input stands: places and no slice, since the buffer is lent beside it and filled anew.
 #[derive(Clone, Copy)]
 pub struct Input {
     pub at: usize,

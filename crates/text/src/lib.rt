@@ -2,8 +2,6 @@
 // `specs/Class.antt` and `specs/Outline.antt` say which bytes may begin or continue what.
 #![tactic(auto)]
 
-ghost use Rattle.std.specs.Prelude.{◌≡◌};
-ghost use Rattle.jer.specs.declared.Refusal.TheVariants.{AtByte};
 ghost use Rattle.jer.specs.CallClauses.{TextCall};
 
 mod acts;
@@ -15,31 +13,24 @@ use jer::{Cause, Refusal};
 use outline::Outline;
 use tables::Tables;
 
-// A refusal at a byte.
-fn refused(cause: Cause, at: usize) -> Result<(), Refusal>
-    ensures { result ≡ Err (AtByte cause at) }
-{
-    Err(Refusal::AtByte(cause, at))
-}
-
 // JSON, or refusal 2, 3 or 4 at its byte.
 #[tactic(auto, using(crate::proofs::Texts::too_long, crate::proofs::Texts::begun, crate::proofs::Texts::goes_on, crate::proofs::Texts::refuses))]
 pub fn check(s: &[u8]) -> Result<(), Refusal>
     ensures { TextCall s.now result }
 {
     if json_text::TEXT < s.len() {
-        return refused(Cause::TooLong, json_text::TEXT);
+        return Err(Refusal::AtByte(Cause::TooLong, json_text::TEXT));
     }
     let tables = Tables::new();
     let mut state = Outline::begin();
     for (at, b) in s.iter().enumerate() {
         match state.step(&tables, *b) {
             Ok(next) => state = next,
-            Err(cause) => return refused(cause, at),
+            Err(cause) => return Err(Refusal::AtByte(cause, at)),
         }
     }
     if state.whole(&tables) {
         return Ok(());
     }
-    refused(Cause::NotJson, s.len())
+    Err(Refusal::AtByte(Cause::NotJson, s.len()))
 }

@@ -30,10 +30,6 @@ high-range x h = go (leb 0xD800 x) refl (leb x 0xDBFF) refl h
     go true e false f k = absurd (let z : ◌≡◌ {A = ℕ} 0 1 = cc in omega arith)
     go false e u f k = absurd (let z : ◌≡◌ {A = ℕ} 0 1 = cc in omega arith)
 
-pub pair-plain : (h l : ℕ) → l < 0xDC00 → 0x10000 + (h - 0xD800) * 0x400 ≡ paired h l
-unfolding paired
-pair-plain h l k = omega arith
-
 pub pair-sum : (h l : ℕ) → 0x10000 + (h - 0xD800) * 0x400 + (l - 0xDC00) ≡ paired h l
 unfolding paired
 pair-sum h l = refl

@@ -40,7 +40,7 @@ fn is_end(b: u8) -> bool
 fn is_digit(b: u8) -> bool
     ensures { result ≡ is_digit b }
 {
-    matches!(b, 0x30..=0x39)
+    b.is_ascii_digit()
 }
 
 fn is_in(class: Class, b: u8) -> bool
@@ -54,7 +54,7 @@ fn is_in(class: Class, b: u8) -> bool
     }
 }
 
-// The first place from p on whose byte is not of the class, or the end.
+// The first place from p on whose byte is not of the class, or the end. A loop: p may be past the end, where `s[p..]` would fail.
 pub fn run(s: &[u8], p: usize, class: Class) -> usize
     ensures { result ≡ run_from (passes class) s.now p }
 {

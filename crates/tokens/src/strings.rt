@@ -46,10 +46,7 @@ pub fn string_end(s: &[u8], p: usize) -> usize
 fn digit(s: &[u8], p: usize) -> u32
     ensures { (result ≡ digit_at s.now p) × (result ≤ 15) }
 {
-    match s.get(p) {
-        Some(b) => u32::from(hex_value(*b).unwrap_or(0)),
-        None => 0,
-    }
+    s.get(p).copied().and_then(hex_value).map_or(0, u32::from)
 }
 
 // Four hexadecimal digits.
@@ -89,12 +86,7 @@ fn pair(high: u32, low: u32) -> u32
     requires { (is_high high ≡ true) × (low ≤ 65535) }
     ensures { (result ≡ paired high low) × (result < 2097152) }
 {
-    let top = 0x10000 + (high - 0xD800) * 0x400;
-    if low < 0xDC00 {
-        top
-    } else {
-        top + (low - 0xDC00)
-    }
+    0x10000 + (high - 0xD800) * 0x400 + low.saturating_sub(0xDC00)
 }
 
 // An escaped character, and the place after it.
@@ -150,7 +142,7 @@ pub fn piece_at(s: &[u8], p: usize) -> Piece
     Piece::Bare(b)
 }
 
-// The UTF-8 of a character, in the bytes that are lent for it.
+// The UTF-8 of a character, in the bytes that are lent for it. No `char`: the definition encodes every number below 2^21.
 fn encoded(x: u32, bytes: &mut [u8; 4]) -> &[u8]
     requires { x < 2097152 }
     ensures { result.now ≡ encode x }
@@ -218,7 +210,8 @@ pub fn plain_first(s: &[u8], p: usize) -> Option<u8>
     Some(b)
 }
 
-// Whether no name at `from` can be a string whose plain first byte is b. Where there is no such byte, any can.
+// Whether no name at `from` can be a string whose plain first byte is b. Where there is no such byte, any can. With `is_some_and` in place of
+// the match the proof did not close: the clause takes b apart, and the closure's relation does not.
 pub fn first_differs(names: &[u8], from: usize, b: Option<u8>) -> bool
     ensures { result ≡ true → (s : List ℕ) (p n : ℕ) → IfSome b (λ b. Bare b ≡ piece_at s p) → same_bytes (take n (drop from names.now)) (denoted s p) ≡ false }
 {

@@ -16,7 +16,7 @@ pub fn bounded(x: Taken) -> Result<Taken, Refusal>
     ensures { result ≡ bounded x }
 {
     if (COUNT <= x.rows) | (COUNT <= x.pool) {
-        return Err(Refusal::Amounts(Limit::LentRoom, 4294967296, 4294967296));
+        return Err(Refusal::Amounts(Limit::LentRoom, COUNT as u64, COUNT as u64));
     }
     Ok(x)
 }

@@ -20,9 +20,6 @@ use tokens::cursor::Cursor;
 use types::row::{Row, count_of, element_of, type_at, wide};
 use types::token::alternative;
 
-// The row of an absent member.
-const ABSENT: u32 = 15;
-
 #[cycle(array_choice_each_member_list_object_plain_value)]
 pub fn value(
     types: &[u32],
@@ -196,7 +193,7 @@ fn array(
     for k in 0..count {
         match element_found(types, s, row, k, next) {
             Element::Absent(f) => {
-                put_row(rows, slot + 1 + n, ABSENT, 0, 0, 1);
+                put_row(rows, slot + 1 + n, Row::ABSENT, 0, 0, 1);
                 next = f;
                 n += 1;
             }
@@ -283,7 +280,7 @@ fn each_member(
         match member_found(types, s, row, k, bit(found.met, k), there) {
             Member::Missing => return refused(Cause::Missing(k), place),
             Member::Absent => {
-                put_row(rows, slot + 1 + n, ABSENT, 0, 0, 1);
+                put_row(rows, slot + 1 + n, Row::ABSENT, 0, 0, 1);
                 n += 1;
             }
             Member::There(q) => {

@@ -14,7 +14,7 @@ use Rattle.json_text.specs.Bytes.{pick}
 use Rattle.json_text.specs.Utf8.{Due, start, due, never, wide_rows, due_next, due_step, due_end, utf8_from}
 use Rattle.jer.specs.Table.{same_bytes}
 use Rattle.types.specs.declared.bytes.Due.{Due as State}
-use Rattle.types.specs.declared.bytes.Due.TheVariants.{Next}
+use Rattle.types.specs.declared.bytes.Due.TheVariants.{Start, Next, Never}
 use Rattle.types.specs.Bytes.{due_of, Ascii}
 
 -- ---- equal bytes
@@ -57,37 +57,6 @@ module _ (b : ℕ) where
   unfolding due_step wide_rows pick
   first-ascii h = rw (inside b 0x00 0x7F (omega arith) h, pick)
 
-  module _ (l₁ : 0x80 ≤ b) where
-    pub first_tail : b ≤ 0xC1 → never ≡ due_step start b
-    unfolding due_step wide_rows pick
-    first_tail h =
-        rw (above b 0x00 0x7F l₁, below b 0xC2 0xDF (omega arith), below b 0xE0 0xE0 (omega arith), below b 0xE1 0xEC (omega arith), below b 0xED 0xED (omega arith), below b 0xEE 0xEF (omega arith), below b 0xF0 0xF0 (omega arith), below b 0xF1 0xF3 (omega arith), below b 0xF4 0xF4 (omega arith), pick)
-
-    module _ (l₂ : 0xC2 ≤ b) where
-      pub first_two : b ≤ 0xDF → due 0x80 0xBF 0 ≡ due_step start b
-      unfolding due_step wide_rows pick
-      first_two h = rw (above b 0x00 0x7F l₁, inside b 0xC2 0xDF l₂ h, pick)
-
-      module _ (l₃ : 0xE1 ≤ b) where
-        pub first_three : b ≤ 0xEC → due 0x80 0xBF 1 ≡ due_step start b
-        unfolding due_step wide_rows pick
-        first_three h = rw (above b 0x00 0x7F l₁, above b 0xC2 0xDF (omega arith), above b 0xE0 0xE0 l₃, inside b 0xE1 0xEC l₃ h, pick)
-
-        module _ (l₄ : 0xEE ≤ b) where
-          pub first-three_too : b ≤ 0xEF → due 0x80 0xBF 1 ≡ due_step start b
-          unfolding due_step wide_rows pick
-          first-three_too h = rw (above b 0x00 0x7F l₁, above b 0xC2 0xDF (omega arith), above b 0xE0 0xE0 l₃, above b 0xE1 0xEC (omega arith), above b 0xED 0xED l₄, inside b 0xEE 0xEF l₄ h, pick)
-
-          module _ (l₅ : 0xF1 ≤ b) where
-            pub first-four : b ≤ 0xF3 → due 0x80 0xBF 2 ≡ due_step start b
-            unfolding due_step wide_rows pick
-            first-four h = rw (above b 0x00 0x7F l₁, above b 0xC2 0xDF (omega arith), above b 0xE0 0xE0 l₃, above b 0xE1 0xEC (omega arith), above b 0xED 0xED l₄, above b 0xEE 0xEF (omega arith), above b 0xF0 0xF0 l₅, inside b 0xF1 0xF3 l₅ h, pick)
-
-  pub first-none : 0xF5 ≤ b → never ≡ due_step start b
-  unfolding due_step wide_rows pick
-  first-none h =
-      rw (above b 0x00 0x7F (omega arith), above b 0xC2 0xDF (omega arith), above b 0xE0 0xE0 (omega arith), above b 0xE1 0xEC (omega arith), above b 0xED 0xED (omega arith), above b 0xEE 0xEF (omega arith), above b 0xF0 0xF0 (omega arith), above b 0xF1 0xF3 (omega arith), above b 0xF4 0xF4 h, pick)
-
 pub tail_none : (n : ℕ) → n ≡ 0 → start ≡ due_next n
 unfolding due_next
 tail_none n e = rw e
@@ -110,6 +79,13 @@ module _ (s : State) (b low high more : ℕ) (e : s ≡ Next low high more) wher
   pub step_in : (d : Due) → low ≤ b → b ≤ high → d ≡ due_next more → d ≡ due_step (due_of s) b
   unfolding due_of due_step pick
   step_in d l h q = rw (e, inside b low high l h, pick) q
+
+-- only between characters may a text end
+pub end-none : (s : State) → (s ≡ Start → ⊥) → false ≡ due_end (due_of s)
+unfolding due_of due_end
+end-none Start h = absurd (h refl)
+end-none (Next low high more) h = refl
+end-none Never h = refl
 
 pub utf8-next : (s : List ℕ) (i : ℕ) (d u : Due) → i < length s → u ≡ due_step d (get_or s i 0) → utf8_from u (drop (i + 1) s) ≡ utf8_from d (drop i s)
 unfolding utf8_from

@@ -4,7 +4,7 @@ use Rattle.jer.specs.Answer.{Judged}
 use mathlib.Core.Path.{◌≡◌, refl, sym, ap, ◌∙◌}
 use mathlib.Core.Bool.{Bool, true, false, not}
 use Rattle.std.specs.Prelude.{Option, None, Some}
-use Prim.Native.Nat.{ℕ, zero, suc, ◌+◌, ◌-◌, ◌/◌, ◌<◌}
+use Prim.Native.Nat.{ℕ, zero, suc, ◌+◌, ◌/◌, ◌<◌}
 use native.Mathlib.Omega.{arith}
 use borrow.Author.Tests.{not-true, not-false}
 use lib.ListN.{length}
@@ -21,11 +21,6 @@ use Rattle.types.specs.Sure.{SureLinks}
 -- a row that is bad by itself
 abbrev pub bad_alone : Table → ℕ → Bool
 bad_alone t r = not (good_alone t r)
-
--- the first pass: each row by itself
-pub alone-starts : (t : Table) {n : ℕ} → n ≡ row_count t → first_where (bad_alone t) 0 (n - 0) ≡ pass t (good_alone t)
-unfolding pass
-alone-starts t {n = n} e = let g : n - 0 ≡ row_count t = omega arith in rw g
 
 -- a pass that finds no bad row
 good_none : (o : Option ℕ) → row_judged o ≡ Ok tt → o ≡ None

@@ -28,7 +28,7 @@ pub type-told : (rows ns : List ℕ) (r : ℕ) → type_kind (get_or rows (r * 8
 unfolding is_type tag_of
 type-told rows ns r = rw (field-zero rows ns r)
 
--- ---- ASCII
+-- ---- counts
 
 -- below the next number: below this one, or this one
 pub split-next : (P : ℕ → Type 0) (i : ℕ) → ((k : ℕ) → k < i → P k) → P i → (k : ℕ) → k < i + 1 → P k
@@ -42,12 +42,6 @@ and_both : (a b : Bool) → (a && b) ≡ true → (a ≡ true) × (b ≡ true)
 and_both true true h = (refl, refl)
 and_both true false h = no_true h
 and_both false b h = no_true h
-
-pub ascii-next : (s : List ℕ) (i : ℕ) (all : Bool) → (all ≡ true → (k : ℕ) → k < i → get_or s k 0 ≤ 0x7F)
-    → (all && leb (get_or s i 0) 0x7F) ≡ true → (k : ℕ) → k < i + 1 → get_or s k 0 ≤ 0x7F
-ascii-next s i all f h =
-    let g = and_both all (leb (get_or s i 0) 0x7F) h in
-    split-next (λ k. get_or s k 0 ≤ 0x7F) i (f g.0) (leb-true (get_or s i 0) 0x7F g.1)
 
 -- ---- members
 

@@ -20,7 +20,7 @@ use Rattle.types.specs.Check as check
 use Rattle.types.specs.Sure.{NameInside, BlockInside, sign_of, Apart, Fits, SureMember, SureMembers, SureLinks}
 use Rattle.types.proofs.RuleLaws.{holder, pointers-bare, pointers-members, pointers-element, pointers-member, pointers-unknown, rules-plain, rules-enumerated, rules-array, rules-sequence, rules-unwrapped, rules-choice}
 use Rattle.types.proofs.RowLaws.{tag_is}
-use Rattle.types.proofs.SureLaws.{split-next}
+use Rattle.types.proofs.SureLaws.{no_true, split-next}
 
 pub count-is : (rows ns : List ℕ) {n : ℕ} → n ≡ row_count (table rows ns) → n ≡ length rows / 8
 unfolding row_count
@@ -48,59 +48,53 @@ pub sign-told : (s : List ℕ) {a b c d : ℕ} → a ≡ get_or s 0 0 → b ≡ 
 unfolding sign_of
 sign-told s p q u v = rw (p, q, u, v)
 
-pub apart_next : (t : Table) (first i : ℕ) (name : List ℕ) {x : List ℕ} {b : Bool} → Apart t first i name → x ≡ name_in t (first + i) → b ≡ same_bytes x name → b ≡ false
-    → Apart t first (i + 1) name
-apart_next t first i name f p q h =
-    split-next (λ k. same_bytes (name_in t (first + k)) name ≡ false) i f (ap (λ (y : List ℕ). same_bytes y name) (sym p) ∙ sym q ∙ h)
-
 -- j members from the row first on are sure, and their signs are marked
-pub record SoFar (t : Table) (first marks types : ℕ) (seen : List ℕ) (j : ℕ) : Type 0 where
+pub record SoFar (t : Table) (first marks types : ℕ) (seen : List Bool) (j : ℕ) : Type 0 where
   pub sure : (i : ℕ) → i < j → SureMember t first marks types i
-  pub marked : (i : ℕ) → i < j → get_or seen (sign_of (name_in t (first + i))) 0 ≡ 1
+  pub marked : (i : ℕ) → i < j → get_or seen (sign_of (name_in t (first + i))) false ≡ true
   pub size : length seen ≡ 256
 
-pub so_far_starts : (t : Table) (first marks types : ℕ) → SoFar t first marks types (replicate 256 0) 0
+pub so_far_starts : (t : Table) (first marks types : ℕ) → SoFar t first marks types (replicate 256 false) 0
 so_far_starts t first marks types = record {
   sure = λ i l. absurd (omega arith);
   marked = λ i l. absurd (omega arith);
-  size = length-replicate {A = ℕ} 256 0;
+  size = length-replicate {A = Bool} 256 false;
 }
 
-module _ (t : Table) (first marks types : ℕ) (seen : List ℕ) (j s : ℕ) (name : List ℕ) (f : SoFar t first marks types seen j)
+module _ (t : Table) (first marks types : ℕ) (seen : List Bool) (j s : ℕ) (name : List ℕ) (f : SoFar t first marks types seen j)
     (p : name ≡ name_in t (first + j)) (q : s ≡ sign_of name) where
-  apart-all : ((get_or seen s 0 ≡ 0 → ⊥) → Apart t first j name) → Apart t first j (name_in t (first + j))
-  apart-all g i l = rw (sym p) (go (eqb (get_or seen s 0) 0) refl)
+  apart-all : (get_or seen s false ≡ true → Apart t first j name) → Apart t first j (name_in t (first + j))
+  apart-all g i l = rw (sym p) (go (get_or seen s false) refl)
     where
-      go : (b : Bool) → eqb (get_or seen s 0) 0 ≡ b → same_bytes (name_in t (first + i)) name ≡ false
-      go true e =
+      go : (b : Bool) → get_or seen s false ≡ b → same_bytes (name_in t (first + i)) name ≡ false
+      go true e = g e i l
+      go false e =
           signs_differ (name_in t (first + i)) name
-          (λ z. let m : get_or seen (sign_of (name_in t (first + i))) 0 ≡ 1 = f.marked i l in
-          let y : sign_of (name_in t (first + i)) ≡ s = z ∙ sym q in
-          let x : get_or seen s 0 ≡ 1 = ap (λ (k : ℕ). get_or seen k 0) (sym y) ∙ m in
-          absurd (omega (arith, eqb-true (get_or seen s 0) 0 e)))
-      go false e = g (eqb-false (get_or seen s 0) 0 e) i l
+          (λ z. let y : sign_of (name_in t (first + i)) ≡ s = z ∙ sym q in
+          let x : get_or seen s false ≡ true = ap (λ (k : ℕ). get_or seen k false) (sym y) ∙ f.marked i l in
+          no_true (sym e ∙ x))
 
-  marked_all : s < 256 → (i : ℕ) → i < j + 1 → get_or (set seen s 1) (sign_of (name_in t (first + i))) 0 ≡ 1
-  marked_all h = split-next (λ i. get_or (set seen s 1) (sign_of (name_in t (first + i))) 0 ≡ 1) j old new
+  marked_all : s < 256 → (i : ℕ) → i < j + 1 → get_or (set seen s true) (sign_of (name_in t (first + i))) false ≡ true
+  marked_all h = split-next (λ i. get_or (set seen s true) (sign_of (name_in t (first + i))) false ≡ true) j old new
     where
-      here : (k : ℕ) → k ≡ s → get_or (set seen s 1) k 0 ≡ 1
-      here k e = rw e (get_or-set_same seen s 1 0 (omega (arith, f.size)))
+      here : (k : ℕ) → k ≡ s → get_or (set seen s true) k false ≡ true
+      here k e = rw e (get_or-set_same seen s true false (omega (arith, f.size)))
 
-      new : get_or (set seen s 1) (sign_of (name_in t (first + j))) 0 ≡ 1
+      new : get_or (set seen s true) (sign_of (name_in t (first + j))) false ≡ true
       new = here (sign_of (name_in t (first + j))) (ap sign_of (sym p) ∙ sym q)
 
-      old : (i : ℕ) → i < j → get_or (set seen s 1) (sign_of (name_in t (first + i))) 0 ≡ 1
+      old : (i : ℕ) → i < j → get_or (set seen s true) (sign_of (name_in t (first + i))) false ≡ true
       old i l = go (eqb (sign_of (name_in t (first + i))) s) refl
         where
-          go : (b : Bool) → eqb (sign_of (name_in t (first + i))) s ≡ b → get_or (set seen s 1) (sign_of (name_in t (first + i))) 0 ≡ 1
+          go : (b : Bool) → eqb (sign_of (name_in t (first + i))) s ≡ b → get_or (set seen s true) (sign_of (name_in t (first + i))) false ≡ true
           go true e = here (sign_of (name_in t (first + i))) (eqb-true (sign_of (name_in t (first + i))) s e)
-          go false e = get_or-set_other seen s (sign_of (name_in t (first + i))) 1 0 (eqb-false (sign_of (name_in t (first + i))) s e) ∙ f.marked i l
+          go false e = get_or-set_other seen s (sign_of (name_in t (first + i))) true false (eqb-false (sign_of (name_in t (first + i))) s e) ∙ f.marked i l
 
-  pub so_far_next : Fits t (first + j) marks types → s < 256 → ((get_or seen s 0 ≡ 0 → ⊥) → Apart t first j name) → SoFar t first marks types (set seen s 1) (j + 1)
+  pub so_far_next : Fits t (first + j) marks types → s < 256 → (get_or seen s false ≡ true → Apart t first j name) → SoFar t first marks types (set seen s true) (j + 1)
   so_far_next u h g = record {
     sure = split-next (λ i. SureMember t first marks types i) j f.sure (record { fit = u; own = apart-all g });
     marked = marked_all h;
-    size = length-set seen s 1 ∙ f.size;
+    size = length-set seen s true ∙ f.size;
   }
 
 pub members-room : (t : Table) (r : ℕ) {w : Row} {first count : ℕ} → w ≡ row_of t r → first ≡ w.first → count ≡ w.members → BlockInside t r
@@ -110,7 +104,7 @@ members-room t r {w = w} {first = first} {count = count} e p q h =
     let b : count ≡ count_of t r = q ∙ ap (λ (x : Row). x.members) e in
     omega arith
 
-pub members-told : (t : Table) (r marks types : ℕ) {w : Row} {first count j : ℕ} {seen : List ℕ} → w ≡ row_of t r → first ≡ w.first → count ≡ w.members
+pub members-told : (t : Table) (r marks types : ℕ) {w : Row} {first count j : ℕ} {seen : List Bool} → w ≡ row_of t r → first ≡ w.first → count ≡ w.members
     → count ≤ j → SoFar t first marks types seen j → SureMembers t r marks types
 members-told t r marks types {w = w} {first = first} {count = count} e p q h f i l =
     let a : first ≡ first_of t r = p ∙ ap (λ (x : Row). x.first) e in

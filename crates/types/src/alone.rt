@@ -15,12 +15,7 @@ fn unused(rows: &[u32], r: usize, from: usize) -> bool
     ensures { (ns : List ℕ) → result ≡ unused (table rows.now ns) r from (8 - from) }
 {
     let k = r * 8;
-    for i in from..8 {
-        if rows[k + i] != 0 {
-            return false;
-        }
-    }
-    true
+    (from..8).all(|i| rows[k + i] == 0)
 }
 
 // A type's block of members, by its row and the table's count of rows.
@@ -33,7 +28,7 @@ fn block(row: Row, count: usize, least: u32) -> bool
     many & inside & root & (row.extensible() | (row.root == row.members))
 }
 
-// The name in the member's row m.
+// The name in the member's row m; of ASCII alone the UTF-8 need not be looked at.
 fn good_name(rows: &[u32], names: &[u8], ascii: bool, m: usize) -> bool
     requires { (m < length rows.now / 8) × (ascii ≡ true → Ascii names.now) }
     ensures { result ≡ good_name (table rows.now names.now) m }

@@ -25,12 +25,7 @@ pub fn bad_alone(rows: &[u32], names: &[u8]) -> Option<usize>
     ensures { result ≡ pass (table rows.now names.now) (good_alone (table rows.now names.now)) }
 {
     let ascii = all_ascii(names);
-    for r in 0..row_count(rows) {
-        if !good_alone(rows, names, ascii, r) {
-            return Some(r);
-        }
-    }
-    None
+    (0..row_count(rows)).find(|r| !good_alone(rows, names, ascii, *r))
 }
 
 // By the kinds of the rows it points to.

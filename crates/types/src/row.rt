@@ -138,6 +138,9 @@ impl Row {
 
     pub const MEMBER: u32 = 9;
 
+    // The kind of the row of an absent member, in a value table.
+    pub const ABSENT: u32 = 15;
+
     // Marks, field 1.
     pub const BASE64: u32 = 1;
 

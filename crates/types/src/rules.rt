@@ -14,11 +14,9 @@ pub fn good_pointers(rows: &[u32], r: usize) -> bool
 {
     let row = Row::at(rows, r);
     match Row::carries(row.kind).layout {
-        Layout::Bare => true,
+        Layout::Bare | Layout::Unknown => true,
         Layout::Holds(_) => owns_members(rows, r),
-        Layout::Lists => Row::at(rows, wide(row.first)).is_type(),
-        Layout::Names => Row::at(rows, wide(row.first)).is_type(),
-        Layout::Unknown => true,
+        Layout::Lists | Layout::Names => Row::at(rows, wide(row.first)).is_type(),
     }
 }
 

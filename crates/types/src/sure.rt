@@ -9,8 +9,8 @@ use crate::row::{Row, row_count, row_in, wide};
 use crate::rules::good_unwrapped;
 use jer::Layout;
 
-// Any type row.
-const ANY: u32 = 4294967295;
+// The highest type row that the members of a SEQUENCE or CHOICE may have: any.
+const ANY: u32 = u32::MAX;
 
 // The row r is a type's.
 fn holds_type(rows: &[u32], r: usize) -> bool
@@ -45,7 +45,7 @@ fn byte(s: &[u8], i: usize) -> usize
     requires { i < length s.now }
     ensures { (result ≡ get_or s.now i 0) × (result < 256) }
 {
-    s[i] as usize
+    usize::from(s[i])
 }
 
 // A number that equal names share.
@@ -64,20 +64,15 @@ fn unlike(rows: &[u32], names: &[u8], first: usize, j: usize, name: &[u8]) -> bo
     requires { (first + j ≤ length rows.now / 8) × NamesInside (table rows.now names.now) first j }
     ensures { result ≡ true → Apart (table rows.now names.now) first j name.now }
 {
-    for i in 0..j {
-        if same_bytes(name_inside(rows, names, first + i), name) {
-            return false;
-        }
-    }
-    true
+    (0..j).all(|i| !same_bytes(name_inside(rows, names, first + i), name))
 }
 
 // Its sign is not marked, or no member before has the name.
-fn fresh(rows: &[u32], names: &[u8], first: usize, j: usize, name: &[u8], mark: u8) -> bool
+fn fresh(rows: &[u32], names: &[u8], first: usize, j: usize, name: &[u8], marked: bool) -> bool
     requires { (first + j ≤ length rows.now / 8) × NamesInside (table rows.now names.now) first j }
-    ensures { result ≡ true → (mark ≡ 0 → ⊥) → Apart (table rows.now names.now) first j name.now }
+    ensures { result ≡ true → marked ≡ true → Apart (table rows.now names.now) first j name.now }
 {
-    if mark == 0 {
+    if !marked {
         return true;
     }
     unlike(rows, names, first, j, name)
@@ -92,7 +87,7 @@ fn sure_members(rows: &[u32], names: &[u8], r: usize, marks: u32, types: u32) ->
     let row = row_in(rows, r);
     let first = wide(row.first);
     let count = wide(row.members);
-    let mut seen = [0u8; 256];
+    let mut seen = [false; 256];
     for j in 0..count {
         let m = first + j;
         if !fits(rows, m, marks, types) {
@@ -103,7 +98,7 @@ fn sure_members(rows: &[u32], names: &[u8], r: usize, marks: u32, types: u32) ->
         if !fresh(rows, names, first, j, name, seen[s]) {
             return false;
         }
-        seen[s] = 1;
+        seen[s] = true;
     }
     true
 }
@@ -145,11 +140,9 @@ fn sure_links(rows: &[u32], names: &[u8], r: usize) -> bool
 {
     let row = row_in(rows, r);
     match Row::carries(row.kind).layout {
-        Layout::Bare => true,
+        Layout::Bare | Layout::Unknown => true,
         Layout::Holds(_) => sure_holder(rows, names, r),
-        Layout::Lists => holds_type(rows, wide(row.first)),
-        Layout::Names => holds_type(rows, wide(row.first)),
-        Layout::Unknown => true,
+        Layout::Lists | Layout::Names => holds_type(rows, wide(row.first)),
     }
 }
 
@@ -158,10 +151,5 @@ pub fn sure(rows: &[u32], names: &[u8]) -> bool
     requires { Alone (table rows.now names.now) }
     ensures { result ≡ true → ((r : ℕ) → r < length rows.now / 8 → SureLinks (table rows.now names.now) r) }
 {
-    for r in 0..row_count(rows) {
-        if !sure_links(rows, names, r) {
-            return false;
-        }
-    }
-    true
+    (0..row_count(rows)).all(|r| sure_links(rows, names, r))
 }

@@ -12,6 +12,7 @@ pub fn token_of(rows: &[u32], r: usize) -> Option<Token>
     Row::at(rows, r).begins()
 }
 
+// Named so that contracts can cite the definition.
 pub fn same_token(a: Option<Token>, b: Option<Token>) -> bool
     ensures { result ≡ same_token a b }
 {

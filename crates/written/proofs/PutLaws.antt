@@ -2,7 +2,7 @@
 use mathlib.Core.Path.{◌≡◌, refl, sym, ap, ◌∙◌}
 use mathlib.Core.List.{List, [], ◌∷◌, ◌++◌, append_assoc, append-nil}
 use mathlib.Core.Bool.{Bool, true, false}
-use Prim.Native.Nat.{ℕ, min, zero, suc, ◌+◌, ◌-◌, ◌*◌, ◌<◌, ◌≤◌}
+use Prim.Native.Nat.{ℕ, zero, suc, ◌+◌, ◌-◌, ◌*◌, ◌<◌, ◌≤◌}
 use native.Mathlib.Omega.{arith}
 use native.Mathlib.Numerals.{add-one}
 use native.Mathlib.Nat.{add-zero, add_comm}
@@ -20,15 +20,6 @@ use Rattle.slices.proofs.PartLaws.{sets_append}
 use Rattle.written.specs.Text.{Puts, spelled, comma, nulls, name_text, lead}
 use Rattle.written.specs.declared.put.Form.{Form}
 use Rattle.written.specs.declared.put.Form.TheVariants.{Escaped, Hexadecimal, Base64}
-
--- the sum that stays at the greatest is an amount
-pub amount_min : (n : ℕ) → min n 18446744073709551615 ≡ amount n
-unfolding amount
-amount_min n = go (leb n 18446744073709551615) refl
-  where
-    go : (c : Bool) → leb n 18446744073709551615 ≡ c → min n 18446744073709551615 ≡ elim c as (λ x. ℕ) [ true ↦ n | false ↦ 18446744073709551615 ]
-    go true e = omega (arith, leb-true n 18446744073709551615 e)
-    go false e = omega (arith, leb-false n 18446744073709551615 e)
 
 -- ---- pieces
 

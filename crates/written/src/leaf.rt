@@ -6,10 +6,11 @@ ghost use Rattle.written.specs.Rows.{value_row};
 ghost use Rattle.jer.specs.Write.{quotes};
 ghost use Rattle.written.specs.Text.{Puts, spelled, form_of, WritesLeaf, type_table};
 
-use crate::put::{Form, add, put_bool, put_integer, put_null, put_string};
+use crate::put::{Form, put_bool, put_integer, put_null, put_string};
 use crate::rows::ValueRow;
 use crate::tables::Tables;
 use crate::taken::{Took, Wrong, ended};
+use octets::amount::add;
 use slices::part;
 use types::bytes::utf8;
 use types::row::{Row, count_of, wide};
@@ -25,7 +26,7 @@ fn form_of(types: &[u32], row: usize) -> Form
     Form::Hexadecimal
 }
 
-// Where a string's text ends, and whether its bytes are such as its type has.
+// Where a string's text ends, and whether its bytes are such as its type has: a flag and no Option, since the end is promised of bad ones too.
 #[derive(Clone, Copy)]
 struct Content {
     end: usize,

@@ -9,17 +9,10 @@ ghost use Rattle.written.specs.Text.{Puts, PutsWhole, Leads, spelled, comma, nul
 
 use crate::literal::{ANY, ASCII, Literal};
 use crate::tables::Tables;
+use octets::amount::add;
 use octets::{encode, escape, integer};
 use slices::{part, put};
 use types::row::{Row, wide};
-
-// The place b bytes after a.
-#[tactic(auto, using(crate::proofs::PutLaws::amount_min))]
-pub fn add(a: usize, b: usize) -> usize
-    ensures { result ≡ amount (a + b) }
-{
-    a.saturating_add(b)
-}
 
 pub fn put_byte(text: &mut [u8], k: usize, b: u8) -> usize
     ensures { Puts (b ∷ []) k text.old text.new result }
@@ -112,10 +105,10 @@ pub fn put_integer(text: &mut [u8], k: usize, low: u32, high: u32) -> usize
         let n = integer::put_integer(text, k, low, high);
         return add(k, n);
     }
-    add(k, integer::integer_len(low, high) as usize)
+    add(k, integer::integer_len(low, high))
 }
 
-// How the bytes of a string are spelled.
+// How the bytes of a string are spelled. An enum and no trait: the type table says which, as the program runs.
 #[derive(Clone, Copy)]
 pub enum Form {
     // As they are, escaped where they must be.
@@ -129,9 +122,9 @@ fn spelled_len(form: Form, s: &[u8]) -> usize
     ensures { result ≡ amount (length (spelled form s.now)) }
 {
     match form {
-        Form::Escaped => escape::escapes_len(s) as usize,
-        Form::Hexadecimal => encode::hex_len(s) as usize,
-        Form::Base64 => encode::base64_len(s) as usize,
+        Form::Escaped => escape::escapes_len(s),
+        Form::Hexadecimal => encode::hex_len(s),
+        Form::Base64 => encode::base64_len(s),
     }
 }
 
@@ -182,14 +175,14 @@ pub fn put_string(text: &mut [u8], k: usize, form: Form, s: &[u8]) -> usize
     put_byte(text, end, 0x22)
 }
 
-// Where a string of characters ends, and whether they are known to be ASCII.
+// Where a string of characters ends, and whether they are known to be ASCII: no Option, since it ends somewhere in any case.
 #[derive(Clone, Copy)]
 pub struct Chars {
     pub end: usize,
     pub ascii: bool,
 }
 
-// Strings of characters: bytes that stand for themselves are put as they are.
+// Strings of characters: bytes that stand for themselves are put as they are. `least` is a mark, so that one comparison tests a byte.
 impl Literal {
     // The bytes of s, for which there is room, up to the first with less than the least mark. Returns how many they are.
     fn put_literal(&self, least: u8, text: &mut [u8], k: usize, s: &[u8]) -> usize
@@ -279,7 +272,7 @@ impl Tables<'_> {
     }
 }
 
-// The brackets of an ARRAY or an object.
+// The brackets of an ARRAY or an object. `array` is a bool through the walk, and no type: whichever it is, members are taken by one loop.
 #[derive(Clone, Copy)]
 pub struct Pair {
     pub opening: u8,

@@ -9,13 +9,21 @@ ghost use Rattle.written.specs.Rows.{value_row, Finds, absent_next, null_next};
 use crate::tables::Tables;
 use types::row::{Row, kind_of, may_be_absent, member_row, name_in, row_in, type_at};
 
-#[derive(Clone, Copy)]
+#[derive(Clone, Copy, PartialEq)]
 pub struct ValueRow {
     pub kind: u32,
     pub a: u32,
     pub b: u32,
     pub size: u32,
 }
+
+// Document 01's row of an absent member.
+const ABSENT: ValueRow = ValueRow {
+    kind: Row::ABSENT,
+    a: 0,
+    b: 0,
+    size: 1,
+};
 
 // A row, if the table has a whole one there.
 #[tactic(auto, using(crate::proofs::RowLaws::rows_past, crate::proofs::RowLaws::rows_at))]
@@ -35,12 +43,12 @@ pub fn row_at(values: &[u32], q: usize) -> Option<ValueRow>
 }
 
 impl ValueRow {
-    // The row of an absent member.
+    // It is the row of an absent member.
     #[tactic(auto, unfolding(jer::specs::Judge::is_absent))]
     pub fn is_absent(self) -> bool
         ensures { result ≡ is_absent (value_row self) }
     {
-        (self.kind == 15) & ((self.a == 0) & ((self.b == 0) & (self.size == 1)))
+        self == ABSENT
     }
 }
 
@@ -52,7 +60,7 @@ impl<'a> Tables<'a> {
     {
         match row_at(self.values, q) {
             Some(w) => {
-                if w.kind != 15 {
+                if w.kind != Row::ABSENT {
                     return false;
                 }
                 may_be_absent(self.types, r, i) & w.is_absent()

@@ -14,4 +14,4 @@ pub returns : goal.returns
 unfolding judged_end
 returns c =
     let l = c.loop-at in
-    c.refused-2.ensures ∙ ends c.args.s.now l.at l.state l.invariant l.auto.at-end c.loop-at-test.false false (sym c.if-whole.false ∙ c.whole.ensures)
+    ends c.args.s.now l.at l.state l.invariant l.auto.at-end c.loop-at-test.false false (sym c.if-whole.false ∙ c.whole.ensures)

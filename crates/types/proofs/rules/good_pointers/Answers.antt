@@ -1,3 +1,4 @@
+use mathlib.Core.Logic.{inl, inr}
 use Rattle.jer.specs.Table.{table}
 use Rattle.types.proofs.RowLaws.{layout-told}
 use Rattle.types.proofs.RuleLaws.{pointers-bare, pointers-members, pointers-element, pointers-member, pointers-unknown}
@@ -8,7 +9,8 @@ returns-in-Bare c =
     λ ns. let a = c.args in
     let t = table a.rows.now ns in
     let e = c.at-row.ensures ns in
-    pointers-bare t a.r e (layout-told t a.r e c.carries.ensures) c.in-Bare.is
+    let l = layout-told t a.r e c.carries.ensures in
+    elim c.in-Bare.is [ inl k ↦ pointers-bare t a.r e l k | inr k ↦ pointers-unknown t a.r e l k ]
 
 pub returns-in-Holds : goal.returns-in-Holds
 returns-in-Holds c =
@@ -22,18 +24,6 @@ returns-in-Lists c =
     λ ns. let a = c.args in
     let t = table a.rows.now ns in
     let e = c.at-row.ensures ns in
-    pointers-element t a.r e (layout-told t a.r e c.carries.ensures) c.in-Lists.is c.wide.ensures.0 (c.is_type.ensures _ _ (c.at.ensures ns))
-
-pub returns-in-Names : goal.returns-in-Names
-returns-in-Names c =
-    λ ns. let a = c.args in
-    let t = table a.rows.now ns in
-    let e = c.at-row.ensures ns in
-    pointers-member t a.r e (layout-told t a.r e c.carries.ensures) c.in-Names.is c.wide-in-Names.ensures.0 (c.is_type-in-Names.ensures _ _ (c.at-in-Names.ensures ns))
-
-pub returns-in-Unknown : goal.returns-in-Unknown
-returns-in-Unknown c =
-    λ ns. let a = c.args in
-    let t = table a.rows.now ns in
-    let e = c.at-row.ensures ns in
-    pointers-unknown t a.r e (layout-told t a.r e c.carries.ensures) c.in-Unknown.is
+    let l = layout-told t a.r e c.carries.ensures in
+    let g = c.is_type.ensures _ _ (c.at.ensures ns) in
+    elim c.in-Lists.is [ inl k ↦ pointers-element t a.r e l k c.wide.ensures.0 g | inr k ↦ pointers-member t a.r e l k c.wide.ensures.0 g ]

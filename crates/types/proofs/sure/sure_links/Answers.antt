@@ -1,3 +1,4 @@
+use mathlib.Core.Logic.{inl, inr}
 use Rattle.jer.specs.Table.{table}
 use Rattle.types.proofs.RowLaws.{layout-told}
 use Rattle.types.proofs.SureLaws.{lists_room, names-room}
@@ -11,16 +12,8 @@ holds_type-requires c =
     let t = table a.rows.now ns in
     let e = c.row_in-row.ensures ns in
     let l = layout-told t a.r e c.carries.ensures in
-    lists_room t a.r e (c.requires.1 a.r c.requires.0) l c.in-Lists.is c.wide.ensures.0
-
-pub holds_type-requires-in-Names : goal.holds_type-requires-in-Names
-holds_type-requires-in-Names c =
-    let a = c.args in
-    let ns = a.names.now in
-    let t = table a.rows.now ns in
-    let e = c.row_in-row.ensures ns in
-    let l = layout-told t a.r e c.carries.ensures in
-    names-room t a.r e (c.requires.1 a.r c.requires.0) l c.in-Names.is c.wide-in-Names.ensures.0
+    let g = c.requires.1 a.r c.requires.0 in
+    elim c.in-Lists.is [ inl k ↦ lists_room t a.r e g l k c.wide.ensures.0 | inr k ↦ names-room t a.r e g l k c.wide.ensures.0 ]
 
 pub returns-in-Bare : goal.returns-in-Bare
 returns-in-Bare c =
@@ -29,7 +22,7 @@ returns-in-Bare c =
     let t = table a.rows.now ns in
     let e = c.row_in-row.ensures ns in
     let l = layout-told t a.r e c.carries.ensures in
-    λ q. links-bare t a.r e l c.in-Bare.is
+    λ q. elim c.in-Bare.is [ inl k ↦ links-bare t a.r e l k | inr k ↦ links-unknown t a.r e l k ]
 
 pub returns-in-Holds : goal.returns-in-Holds
 returns-in-Holds c = c.sure_holder.ensures
@@ -41,22 +34,5 @@ returns-in-Lists c =
     let t = table a.rows.now ns in
     let e = c.row_in-row.ensures ns in
     let l = layout-told t a.r e c.carries.ensures in
-    λ q. links-element t a.r e l c.wide.ensures.0 (c.holds_type.ensures ns) c.in-Lists.is q
-
-pub returns-in-Names : goal.returns-in-Names
-returns-in-Names c =
-    let a = c.args in
-    let ns = a.names.now in
-    let t = table a.rows.now ns in
-    let e = c.row_in-row.ensures ns in
-    let l = layout-told t a.r e c.carries.ensures in
-    λ q. links-member t a.r e l c.wide-in-Names.ensures.0 (c.holds_type-in-Names.ensures ns) c.in-Names.is q
-
-pub returns-in-Unknown : goal.returns-in-Unknown
-returns-in-Unknown c =
-    let a = c.args in
-    let ns = a.names.now in
-    let t = table a.rows.now ns in
-    let e = c.row_in-row.ensures ns in
-    let l = layout-told t a.r e c.carries.ensures in
-    λ q. links-unknown t a.r e l c.in-Unknown.is
+    λ q. elim c.in-Lists.is
+    [ inl k ↦ links-element t a.r e l c.wide.ensures.0 (c.holds_type.ensures ns) k q | inr k ↦ links-member t a.r e l c.wide.ensures.0 (c.holds_type.ensures ns) k q ]
