@@ -30,11 +30,11 @@ token_for (jstr p s) = tok.String
 token_for (jarr p is) = tok.Array
 token_for (jobj p ms) = tok.Object
 
-abbrev token_rows : List (Row Token)
+abbrev pub token_rows : List (Row Token)
 token_rows =
     on 0x22 0x22 (λ b. tok.String) ∷ on 0x5B 0x5B (λ b. tok.Array) ∷ on 0x66 0x66 (λ b. tok.Boolean) ∷ on 0x6E 0x6E (λ b. tok.Null) ∷ on 0x74 0x74 (λ b. tok.Boolean) ∷ on 0x7B 0x7B (λ b. tok.Object) ∷ []
 
-byte_token : {j : Json} {b : ℕ} → FirstByte j b → pick b token_rows tok.Number ≡ token_for j
+pub byte_token : {j : Json} {b : ℕ} → FirstByte j b → pick b token_rows tok.Number ≡ token_for j
 unfolding pick
 byte_token of_null = refl
 byte_token of_true = refl
@@ -56,7 +56,7 @@ token-at k = byte_token (stands_byte k)
 digit-not-null : {b : ℕ} → In 0x30 0x39 b → eqb b 0x6E ≡ false
 digit-not-null {b} h = ne_eqb b 0x6E (λ e. omega arith)
 
-null_byte : {j : Json} {b : ℕ} → FirstByte j b → eqb b 0x6E ≡ null? j
+pub null_byte : {j : Json} {b : ℕ} → FirstByte j b → eqb b 0x6E ≡ null? j
 unfolding null?
 null_byte of_null = refl
 null_byte of_true = refl

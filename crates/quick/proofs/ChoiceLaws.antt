@@ -24,6 +24,7 @@ use Rattle.jer.specs.Sane.{Sane}
 use Rattle.tokens.specs.Places.{byte_at}
 use Rattle.tokens.proofs.TieFirst.{FirstByte, of_null, of_true, of_false, of_minus, of_digit, of_real_minus, of_real_digit, of_string, of_array, of_object, first_byte}
 use Rattle.places.specs.ByPlaces.{token_at}
+use Rattle.places.proofs.MeaningFirst.{token_for, byte_token}
 use Rattle.places.proofs.MeaningNames.{alternative-found}
 use Rattle.quick.specs.declared.Got.{Got}
 use Rattle.quick.specs.declared.name.Name as declared-name
@@ -85,33 +86,6 @@ choice-here {t} {s} {z} {y} {x} {d} {r} {p} {j} {o} {at} {c} {m} {b} {q} {k} {nm
     (ap (λ (n : List ℕ). position t r n) (sym (ap (λ (a : Entry). a.name) mh.entry)) ∙ nt.found ∙ known) (sym (ap (λ (a : Entry). a.means (type_at t r k)) mh.entry) ∙ st.reads))
 
 -- ---- UNWRAPPED
-
--- the token of a tree
-abbrev token_for : Json → Token
-token_for (jnull p) = tok.Null
-token_for (jbool p b) = tok.Boolean
-token_for (jint p m n) = tok.Number
-token_for (jreal p) = tok.Number
-token_for (jstr p s) = tok.String
-token_for (jarr p is) = tok.Array
-token_for (jobj p ms) = tok.Object
-
-abbrev token_rows : List (Row Token)
-token_rows =
-    on 0x22 0x22 (λ b. tok.String) ∷ on 0x5B 0x5B (λ b. tok.Array) ∷ on 0x66 0x66 (λ b. tok.Boolean) ∷ on 0x6E 0x6E (λ b. tok.Null) ∷ on 0x74 0x74 (λ b. tok.Boolean) ∷ on 0x7B 0x7B (λ b. tok.Object) ∷ []
-
-byte_token : {j : Json} {b : ℕ} → FirstByte j b → pick b token_rows tok.Number ≡ token_for j
-unfolding pick
-byte_token of_null = refl
-byte_token of_true = refl
-byte_token of_false = refl
-byte_token of_minus = refl
-byte_token (of_digit {b = b} h) = pick-none b token_rows tok.Number (omega arith)
-byte_token of_real_minus = refl
-byte_token (of_real_digit {b = b} h) = pick-none b token_rows tok.Number (omega arith)
-byte_token of_string = refl
-byte_token of_array = refl
-byte_token of_object = refl
 
 token-at : (s : List ℕ) (d p q : ℕ) (j : Json) → TreeAt s d p q j → token_at s p ≡ token_for j
 unfolding token_at

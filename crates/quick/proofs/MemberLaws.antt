@@ -17,25 +17,10 @@ use Rattle.jer.specs.Read.{null?}
 use Rattle.tokens.specs.Places.{byte_at}
 use Rattle.tokens.proofs.TieFirst.{FirstByte, of_null, of_true, of_false, of_minus, of_digit, of_real_minus, of_real_digit, of_string, of_array, of_object, first_byte}
 use Rattle.places.specs.ByPlaces.{bit_of, with_bit}
+use Rattle.places.proofs.MeaningFirst.{null_byte}
 use Rattle.quick.specs.Stood.{TreeAt}
 
 -- ---- null
-
-digit-not-null : {b : ℕ} → In 0x30 0x39 b → eqb b 0x6E ≡ false
-digit-not-null {b} h = ne_eqb b 0x6E (λ e. omega arith)
-
-null_byte : {j : Json} {b : ℕ} → FirstByte j b → eqb b 0x6E ≡ null? j
-unfolding null?
-null_byte of_null = refl
-null_byte of_true = refl
-null_byte of_false = refl
-null_byte of_minus = refl
-null_byte (of_digit h) = digit-not-null h
-null_byte of_real_minus = refl
-null_byte (of_real_digit h) = digit-not-null h
-null_byte of_string = refl
-null_byte of_array = refl
-null_byte of_object = refl
 
 -- the first byte tells whether a value is null
 pub null-at : (s : List ℕ) (d p q : ℕ) (j : Json) → TreeAt s d p q j → eqb (byte_at s p) 0x6E ≡ null? j

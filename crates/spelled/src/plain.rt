@@ -22,7 +22,9 @@ pub struct Flags {
 }
 
 impl Flags {
-    pub fn new() -> Flags {
+    pub fn new() -> Flags
+        ensures { IsFlags result.entries }
+    {
         Flags { entries: FLAGS }
     }
 

@@ -14,7 +14,9 @@ pub struct Tables {
 }
 
 impl Tables {
-    pub fn new() -> Tables {
+    pub fn new() -> Tables
+        ensures { IsClasses result.classes × IsActs result.acts }
+    {
         Tables {
             classes: classes::table(),
             acts: acts::table(),

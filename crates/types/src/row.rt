@@ -20,7 +20,7 @@ pub struct Row {
     pub root: u32,
 }
 
-// Field i of row r, or 0 past the end.
+// Field i of row r, or 0 past the end: a number in any case, as the definition gives one.
 fn field(rows: &[u32], r: usize, i: usize) -> u32
     ensures { (ns : List ℕ) → result ≡ field (table rows.now ns) r i }
 {

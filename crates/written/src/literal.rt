@@ -26,7 +26,9 @@ pub struct Literal {
 }
 
 impl Literal {
-    pub fn new() -> Literal {
+    pub fn new() -> Literal
+        ensures { IsLiteral result.marks }
+    {
         Literal { marks: MARKS }
     }
 
