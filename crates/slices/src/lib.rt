@@ -4,6 +4,7 @@
 ghost use Rattle.std.specs.Prelude.{◌≡◌, ◌+◌, ◌^◌, ◌<◌, ◌≤◌, length, get_or, take, drop, set, IfSome};
 ghost use Rattle.std.proofs.lemmas.List.Edits.{sets};
 ghost use Rattle.jer.specs.Octets.{hex_value};
+ghost use Rattle.slices.specs.Digit.{digit_of};
 
 // The byte at a place, or 256 past the end: a number, which the definitions by places compare. An Option would be taken apart at each test.
 pub fn byte_at(s: &[u8], p: usize) -> u32
@@ -54,5 +55,16 @@ pub fn hex_value(b: u8) -> Option<u8>
         0x41..=0x46 => Some(b - 0x37),
         0x61..=0x66 => Some(b - 0x57),
         _ => None,
+    }
+}
+
+// The value of the hexadecimal digit that a number is, as `byte_at` gives one; 16 for any other number, the one past the end too.
+#[tactic(auto, unfolding(crate::specs::Digit::digit_of, jer::specs::Octets::hex_value, json_text::specs::Bytes::pick))]
+pub fn digit(b: u32) -> u32
+    ensures { (result ≡ digit_of b) × (result ≤ 16) }
+{
+    match u8::try_from(b) {
+        Ok(b) => hex_value(b).map_or(16, u32::from),
+        Err(_) => 16,
     }
 }
