@@ -4,6 +4,7 @@
 ghost use Rattle.std.specs.Prelude.{◌≤◌};
 ghost use Rattle.jer.specs.CallClauses.{WriteCall};
 ghost use Rattle.jer.specs.Table.{table};
+ghost use Rattle.written.specs.Tables.{GoodTable};
 ghost use Rattle.writing.specs.Call.{WritesText};
 
 use jer::{Limit, Refusal, Which};
@@ -40,6 +41,7 @@ const FEW: usize = 512;
 
 // With a good type table: the text is made in room of our own, on the stack, so that a refusal leaves `text` as it was.
 fn write_value(tables: &Tables<'_>, text: &mut [u8]) -> Result<usize, Refusal>
+    requires good { GoodTable tables.now.types.now tables.now.names.now }
     ensures { WritesText tables.now text result }
 {
     if tables.values.len() <= FEW {
@@ -49,7 +51,8 @@ fn write_value(tables: &Tables<'_>, text: &mut [u8]) -> Result<usize, Refusal>
 }
 
 fn through_room<const N: usize>(tables: &Tables<'_>, text: &mut [u8]) -> Result<usize, Refusal>
-    requires { N ≤ 65536 }
+    requires good { GoodTable tables.now.types.now tables.now.names.now }
+    requires n_bound { N ≤ 65536 }
     ensures { WritesText tables.now text result }
 {
     let mut room = [0u8; N];
@@ -58,6 +61,7 @@ fn through_room<const N: usize>(tables: &Tables<'_>, text: &mut [u8]) -> Result<
 
 // Made in `room` and copied; a text that is too long for it is made once more, in its place.
 fn through(tables: &Tables<'_>, text: &mut [u8], room: &mut [u8]) -> Result<usize, Refusal>
+    requires good { GoodTable tables.now.types.now tables.now.names.now }
     ensures { WritesText tables.now text result }
 {
     let took = value(tables, room, 0, 0, 0, 0, json_text::BRACKETS)?;

@@ -93,6 +93,7 @@ impl<'a> Tables<'a> {
     // Row r of a type table of whole rows, with one test for all its fields.
     #[tactic(auto, using(crate::proofs::RowLaws::row_past))]
     pub fn type_row(&self, r: usize) -> Row
+        requires { length self.now.types.now % 8 ≡ 0 }
         ensures { (ns : List ℕ) → result ≡ row_of (table self.now.types.now ns) r }
     {
         if self.types.len() / 8 <= r {

@@ -1,5 +1,5 @@
 // Where a value begins: of an UNWRAPPED choice, with its alternative.
-ghost use Rattle.std.specs.Prelude.{◌≡◌, List, ℕ};
+ghost use Rattle.std.specs.Prelude.{◌≡◌, List, ℕ, ◌%◌, length};
 ghost use Rattle.jer.specs.Judge.{rows_in};
 ghost use Rattle.jer.specs.Table.{table};
 ghost use Rattle.written.specs.Start.{Starts, closed_as};
@@ -22,6 +22,7 @@ pub struct Start {
 impl Tables<'_> {
     // Of a value of the type at `row`, whose rows begin at `slot`; the row of an UNWRAPPED choice is wrong if it is not there, or not right but for its size.
     pub fn start_of(&self, row: usize, slot: usize) -> Result<Start, Wrong>
+        requires { length self.now.types.now % 8 ≡ 0 }
         ensures { (ns : List ℕ) → Starts (table self.now.types.now ns) (rows_in self.now.values.now) row slot result }
     {
         let own = self.type_row(row);

@@ -1,6 +1,5 @@
 // What a writing reads: a type table with its names, a value table with its pool, and the table of literal bytes.
-ghost use Rattle.written.specs.Tables.{GoodTable};
-
+// The tables may be any: a call that needs a whole or a good type table asks for it.
 use crate::literal::Literal;
 
 #[derive(Drop)]
@@ -10,5 +9,4 @@ pub struct Tables<'a> {
     pub values: &'a [u32],
     pub pool: &'a [u8],
     pub literal: Literal,
-    ghost good: { GoodTable types.now names.now },
 }

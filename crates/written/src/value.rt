@@ -3,6 +3,7 @@ ghost use Rattle.std.specs.Prelude.{◌≡◌, false, [], ◌<◌, length};
 ghost use Rattle.jer.specs.Table.{is_unwrapped};
 ghost use Rattle.jer.specs.Judge.{take_sequence, take_list, take_choice};
 ghost use Rattle.written.specs.Rows.{value_row};
+ghost use Rattle.written.specs.Tables.{GoodTable};
 ghost use Rattle.written.specs.Text.{PlainRow, BracketRow, WritesValue, Measures, WritesParts, type_table};
 
 use crate::leaf::leaf;
@@ -24,6 +25,7 @@ pub fn value(
     place: usize,
     depth: u32,
 ) -> Result<Took, Wrong>
+    requires good { GoodTable tables.now.types.now tables.now.names.now }
     ensures { WritesValue depth tables.now row slot offset place text result }
 {
     let start = tables.start_of(row, slot)?;
@@ -45,7 +47,8 @@ fn plain(
     place: usize,
     depth: u32,
 ) -> Result<Took, Wrong>
-    requires { PlainRow (type_table tables.now) due row }
+    requires good { GoodTable tables.now.types.now tables.now.names.now }
+    requires plain_row { PlainRow (type_table tables.now) due row }
     ensures { WritesValue depth tables.now row slot offset place text result }
 {
     let Some(w) = row_at(tables.values, slot) else {
@@ -73,7 +76,8 @@ fn bracket(
     place: usize,
     depth: u32,
 ) -> Result<Took, Wrong>
-    requires { BracketRow (type_table tables.now) tables.now.values.now w row slot }
+    requires good { GoodTable tables.now.types.now tables.now.names.now }
+    requires bracket_row { BracketRow (type_table tables.now) tables.now.values.now w row slot }
     ensures { WritesValue depth tables.now row slot offset place text result }
 {
     let kind = w.kind;
@@ -111,7 +115,8 @@ fn list(
     place: usize,
     depth: u32,
 ) -> Result<Took, Wrong>
-    requires { slot < length tables.now.values.now }
+    requires good { GoodTable tables.now.types.now tables.now.names.now }
+    requires slot_in { slot < length tables.now.values.now }
     ensures { WritesParts take_list depth tables.now row (value_row w) slot offset place text result }
 {
     let e = element_of(tables.types, row);
@@ -140,7 +145,8 @@ fn sequence(
     place: usize,
     depth: u32,
 ) -> Result<Took, Wrong>
-    requires { slot < length tables.now.values.now }
+    requires good { GoodTable tables.now.types.now tables.now.names.now }
+    requires slot_in { slot < length tables.now.values.now }
     ensures { WritesParts take_sequence depth tables.now row (value_row w) slot offset place text result }
 {
     let own = tables.type_row(row);
@@ -187,6 +193,7 @@ fn leaf_or_value(
     place: usize,
     depth: u32,
 ) -> Result<Took, Wrong>
+    requires good { GoodTable tables.now.types.now tables.now.names.now }
     ensures { WritesValue depth tables.now row slot offset place text result }
 {
     let own = tables.type_row(row);
@@ -212,6 +219,7 @@ pub fn judged(
     offset: usize,
     depth: u32,
 ) -> Result<Took, Wrong>
+    requires good { GoodTable tables.now.types.now tables.now.names.now }
     ensures { Measures depth tables.now row slot offset result }
 {
     let mut one = [0u8; 1];
@@ -230,7 +238,9 @@ fn choice(
     place: usize,
     depth: u32,
 ) -> Result<Took, Wrong>
-    requires { (slot < length tables.now.values.now) × (is_unwrapped (type_table tables.now) row ≡ false) }
+    requires good { GoodTable tables.now.types.now tables.now.names.now }
+    requires slot_in { slot < length tables.now.values.now }
+    requires plain_row { is_unwrapped (type_table tables.now) row ≡ false }
     ensures { WritesParts take_choice depth tables.now row (value_row w) slot offset place text result }
 {
     let p = put_byte(text, place, 0x7B);

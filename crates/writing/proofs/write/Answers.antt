@@ -4,8 +4,8 @@ use Rattle.jer.specs.Table.{table}
 use Rattle.writing.proofs.CallLaws.{answers_as, refuses, table-good, table-bad}
 use Rattle.writing.proofs.write.Goals as goal
 
-pub invariant_of-tables : goal.invariant_of-tables
-invariant_of-tables c =
+pub write_value-requires : goal.write_value-requires
+write_value-requires c =
     let a = c.args in
     let g = table-good {t = table a.types.now a.names.now} {ns = a.values.now} {pool = a.pool.now} (sym c.in_ok-check.was ∙ c.check.ensures) in
     record { good = g.table }

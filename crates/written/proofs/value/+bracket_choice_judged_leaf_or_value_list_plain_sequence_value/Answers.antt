@@ -23,7 +23,7 @@ bracket-returns-then-depth-eq0 t c =
     let a = c.args in
     let t = type_table a.tables.now in
     let w = a.w in
-    let found = c.requires in
+    let found = c.requires.bracket_row in
     gives-wrong (plain-deep a.depth t a.tables.now.pool.now a.row w.kind w.a w.b w.size a.slot a.offset found.4 found.0 found.3 c.if-depth-eq0.true)
 
 pub bracket-returns-then-w-ne0 : goal.bracket-returns-then-w-ne0
@@ -31,7 +31,7 @@ bracket-returns-then-w-ne0 t c =
     let a = c.args in
     let t = type_table a.tables.now in
     let w = a.w in
-    let found = c.requires in
+    let found = c.requires.bracket_row in
     gives-wrong (plain-b a.depth t a.tables.now.pool.now a.row w.kind w.a w.b w.size a.slot a.offset found.4 found.0 found.3 c.if-w-ne0.true)
 
 pub bracket-returns-then-kind-eq-SEQUENCE : goal.bracket-returns-then-kind-eq-SEQUENCE
@@ -39,7 +39,7 @@ bracket-returns-then-kind-eq-SEQUENCE t c =
     let a = c.args in
     let t = type_table a.tables.now in
     let w = a.w in
-    let found = c.requires in
+    let found = c.requires.bracket_row in
     writes_as (plain_seq a.depth t a.tables.now.pool.now a.row w.kind w.a w.b w.size a.slot a.offset found.4 found.0 c.if-depth-eq0.false found.2 c.if-w-ne0.false c.if-kind-eq-SEQUENCE.true) c.sequence.ensures
 
 pub bracket-returns-then-kind-eq-SEQUENCE_OF : goal.bracket-returns-then-kind-eq-SEQUENCE_OF
@@ -47,7 +47,7 @@ bracket-returns-then-kind-eq-SEQUENCE_OF t c =
     let a = c.args in
     let t = type_table a.tables.now in
     let w = a.w in
-    let found = c.requires in
+    let found = c.requires.bracket_row in
     writes_as (plain-list a.depth t a.tables.now.pool.now a.row w.kind w.a w.b w.size a.slot a.offset found.4 found.0 c.if-depth-eq0.false found.2 c.if-w-ne0.false c.if-kind-eq-SEQUENCE_OF.true) c.list.ensures
 
 pub bracket-returns-then-kind-ne-CHOICE : goal.bracket-returns-then-kind-ne-CHOICE
@@ -55,7 +55,7 @@ bracket-returns-then-kind-ne-CHOICE t c =
     let a = c.args in
     let t = type_table a.tables.now in
     let w = a.w in
-    let found = c.requires in
+    let found = c.requires.bracket_row in
     gives-wrong (plain-kind a.depth t a.tables.now.pool.now a.row w.kind w.a w.b w.size a.slot a.offset found.4 found.0 found.3 c.if-kind-eq-SEQUENCE.false c.if-kind-eq-SEQUENCE_OF.false c.if-kind-ne-CHOICE.true)
 
 pub bracket-returns-then-count_of-w : goal.bracket-returns-then-count_of-w
@@ -63,7 +63,7 @@ bracket-returns-then-count_of-w t c =
     let a = c.args in
     let t = type_table a.tables.now in
     let w = a.w in
-    let found = c.requires in
+    let found = c.requires.bracket_row in
     gives-wrong (plain-position a.depth t a.tables.now.pool.now a.row w.kind w.a w.b w.size a.slot a.offset found.4 found.0 found.3 c.if-kind-eq-SEQUENCE.false c.if-kind-eq-SEQUENCE_OF.false (omega (arith, c.count_of.ensures a.tables.now.names.now, c.if-count_of-w.true)))
 
 pub bracket-returns : goal.bracket-returns
@@ -71,7 +71,7 @@ bracket-returns t c =
     let a = c.args in
     let t = type_table a.tables.now in
     let w = a.w in
-    let found = c.requires in
+    let found = c.requires.bracket_row in
     writes_as (plain-choice a.depth t a.tables.now.pool.now a.row w.kind w.a w.b w.size a.slot a.offset found.4 found.0 c.if-depth-eq0.false found.2 c.if-w-ne0.false c.if-kind-ne-CHOICE.false (omega (arith, c.count_of.ensures a.tables.now.names.now, c.if-count_of-w.false))) c.choice.ensures
 
 pub choice-returns-in_err-took : goal.choice-returns-in_err-took
@@ -86,7 +86,7 @@ choice-returns t c =
     let a = c.args in
     let rows = rows_in a.tables.now.values.now in
     let v = value-got rows (c.type_at-e.ensures a.tables.now.names.now) (a.slot + 1) c.value.ensures c.in_ok-took.was in
-    writes-is c.ended.ensures (choice-ends _ _ _ rows _ a.slot _ (value_row a.w) c.requires.1 c.put_byte-p.ensures c.name_at.ensures c.put_name-start.ensures v c.put_byte-end.ensures)
+    writes-is c.ended.ensures (choice-ends _ _ _ rows _ a.slot _ (value_row a.w) c.requires.plain_row c.put_byte-p.ensures c.name_at.ensures c.put_name-start.ensures v c.put_byte-end.ensures)
 
 pub judged-returns : goal.judged-returns
 judged-returns t c = writes-none c.value.ensures
@@ -157,8 +157,8 @@ plain-returns-then-kind-due t c =
     let t = type_table a.tables.now in
     let w = c.in-Some.w in
     let found = rw c.in-Some.is at c.row_at.ensures in
-    let kind = c.requires.0 in
-    gives-wrong (plain_other a.depth t a.tables.now.pool.now a.row w.kind w.a w.b w.size a.slot a.offset c.requires.1 found.0 (λ e. c.if-kind-due.true (e ∙ sym kind)))
+    let kind = c.requires.plain_row.0 in
+    gives-wrong (plain_other a.depth t a.tables.now.pool.now a.row w.kind w.a w.b w.size a.slot a.offset c.requires.plain_row.1 found.0 (λ e. c.if-kind-due.true (e ∙ sym kind)))
 
 pub plain-returns-then-kind-lt-SEQUENCE : goal.plain-returns-then-kind-lt-SEQUENCE
 plain-returns-then-kind-lt-SEQUENCE t c =
@@ -166,7 +166,7 @@ plain-returns-then-kind-lt-SEQUENCE t c =
     let t = type_table a.tables.now in
     let w = c.in-Some.w in
     let found = rw c.in-Some.is at c.row_at.ensures in
-    writes_as (row-text a.depth t a.tables.now.pool.now a.row w.kind w.a w.b w.size a.slot a.offset c.requires.1 found.0) (c.leaf.ensures _ _)
+    writes_as (row-text a.depth t a.tables.now.pool.now a.row w.kind w.a w.b w.size a.slot a.offset c.requires.plain_row.1 found.0) (c.leaf.ensures _ _)
 
 pub sequence-loop-i-init : goal.sequence-loop-i-init
 sequence-loop-i-init t c =
@@ -216,12 +216,12 @@ sequence-loop-i-preserved t c =
       | sequence-else-absent_at+then-null_in+in_ok-null w ↦
           let null = null_is t (drop c.loop-i.took.next rows) c.is_array-array.result type (w.null_in.ensures a.tables.now.names.now) w.if-null_in.true in
           let v = value-got rows type c.loop-i.took.next w.judged.ensures w.in_ok-null.was in
-          rw (w.text-is, w.present-is, w.kept-is, w.took-is) (inv.0, inv.1, inv.2, members-null inv.3 inside (sym asked ∙ w.if-absent_at.false) c.args.tables.now.good.wrapped v null)
+          rw (w.text-is, w.present-is, w.kept-is, w.took-is) (inv.0, inv.1, inv.2, members-null inv.3 inside (sym asked ∙ w.if-absent_at.false) c.requires.good.wrapped v null)
       | sequence-else-absent_at+else-null_in+in_ok-took w ↦
           let null = null_is t (drop c.loop-i.took.next rows) c.is_array-array.result type (w.null_in.ensures a.tables.now.names.now) w.if-null_in.false in
           let v = value-got rows type c.loop-i.took.next w.leaf_or_value.ensures w.in_ok-took.was in
           rw (w.text-is, w.present-is, w.kept-is, w.took-is, w.kept_after-kept.ensures)
-          (inv.0, inv.1, w.leaf_or_value.auto.text ∙ w.put_lead-s.auto.text ∙ inv.2, members_part inv.3 inside (sym asked ∙ w.if-absent_at.false) c.args.tables.now.good.wrapped v null (w.put_lead-s.ensures a.tables.now.types.now a.row member))
+          (inv.0, inv.1, w.leaf_or_value.auto.text ∙ w.put_lead-s.auto.text ∙ inv.2, members_part inv.3 inside (sym asked ∙ w.if-absent_at.false) c.requires.good.wrapped v null (w.put_lead-s.ensures a.tables.now.types.now a.row member))
     ]
 
 pub sequence-returns : goal.sequence-returns
@@ -243,7 +243,7 @@ value-returns-in_err-took t c =
     let rows = rows_in a.tables.now.values.now in
     let s = c.in_ok-start in
     let p = err_from_is_err_and c.from_residual-in_err-took.result c.from_residual-in_err-took.ensures.1 in
-    rw (p.1, p.2) (gives-wrong (start-fails a.depth t a.tables.now.pool.now rows a.row a.slot a.offset (s.ensures a.tables.now.names.now) c.args.tables.now.good.wrapped (value-wrong rows refl s.start.slot c.plain.ensures c.in_err-took.was)))
+    rw (p.1, p.2) (gives-wrong (start-fails a.depth t a.tables.now.pool.now rows a.row a.slot a.offset (s.ensures a.tables.now.names.now) c.requires.good.wrapped (value-wrong rows refl s.start.slot c.plain.ensures c.in_err-took.was)))
 
 pub value-returns : goal.value-returns
 value-returns t c =
@@ -251,4 +251,4 @@ value-returns t c =
     let t = type_table a.tables.now in
     let rows = rows_in a.tables.now.values.now in
     let s = c.in_ok-start in
-    start-ends a.depth t a.tables.now.pool.now rows a.row a.slot a.offset (s.ensures a.tables.now.names.now) c.args.tables.now.good.wrapped (value-got rows refl s.start.slot c.plain.ensures c.in_ok-took.was) c.closed.ensures
+    start-ends a.depth t a.tables.now.pool.now rows a.row a.slot a.offset (s.ensures a.tables.now.names.now) c.requires.good.wrapped (value-got rows refl s.start.slot c.plain.ensures c.in_ok-took.was) c.closed.ensures
