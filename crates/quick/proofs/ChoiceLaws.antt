@@ -128,7 +128,7 @@ module _ (t : Table) (s : List ℕ) (r p k : ℕ) (sane : Sane t) (u : is_unwrap
   picked-plain = sane.plain r k u picked-inside
 
   pub picked-given : {z : List ℕ} {j m : ℕ} → Given t z r p j → m ≡ type_at t r k → j + 3 ≤ length z → Given t z m p (j + 3)
-  picked-given g em l = record { typed = rw em (sane.member r k g.typed picked-inside); room = g.room; here = g.here; start = omega (arith, g.room) }
+  picked-given g em l = record { sane = sane; typed = rw em (sane.member r k g.typed picked-inside); room = g.room; here = g.here; start = omega (arith, g.room) }
 
   pub picked-here : {z y x : List ℕ} {d j m : ℕ} {g h : Got} → m ≡ type_at t r k → Walked t s z y d m p (j + 3) (Some g) → x ≡ headed y j k (g.rows + 1) g.tape
       → Headed g.rows g.pool g.tape g.next h → Walked t s z x d r p j (Some h)

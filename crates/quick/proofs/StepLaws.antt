@@ -11,7 +11,6 @@ use Rattle.json_text.specs.Tree.{Json, jnull}
 use Rattle.json_text.specs.Grammar.{Value}
 use Rattle.jer.specs.Table.{Table, count_of, type_at, extensible, may_miss}
 use Rattle.jer.specs.Read.{null_absent, null?}
-use Rattle.jer.specs.Sane.{Sane}
 use Rattle.tokens.specs.Places.{byte_at}
 use Rattle.places.specs.ByPlaces.{bit_of, with_bit}
 use Rattle.quick.specs.declared.Got.{Got}
@@ -35,9 +34,9 @@ unfolding null?
 no-null p = refl
 
 -- what a value of the member at k is given
-pub member-given : {t : Table} (s : List ℕ) {z : List ℕ} {r p j at k m : ℕ} → Sane t → length s ≤ 65536 → Given t z r p j → k < count_of t r → m ≡ type_at t r k → at ≤ length s → Given t z m at j
-member-given s {r = r} {k = k} sane short g l e a =
-    record { typed = rw e (sane.member r k g.typed l); room = g.room; here = omega (arith, short); start = g.start }
+pub member-given : {t : Table} (s : List ℕ) {z : List ℕ} {r p j at k m : ℕ} → length s ≤ 65536 → Given t z r p j → k < count_of t r → m ≡ type_at t r k → at ≤ length s → Given t z m at j
+member-given s {r = r} {k = k} short g l e a =
+    record { sane = g.sane; typed = rw e (g.sane.member r k g.typed l); room = g.room; here = omega (arith, short); start = g.start }
 
 member-at : {t : Table} {s : List ℕ} {r p at : ℕ} {nm : declared-name.Name} (nt : NameTaken t s r p nm) → Spaces s nm.next at → (d q : ℕ) (tree : Json) → TreeAt s d at q tree → MemberAt s d p q nt.name tree
 member-at {at = at} {nm = nm} nt sp d q tree k = record { colon = nm.next; named = nt.stood; from = at; gap = sp; value = k }

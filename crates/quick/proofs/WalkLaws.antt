@@ -161,7 +161,7 @@ shut-here a w c f e h i k l = record { complete = f; tape = rw (← e, ← h, �
 
 pub given_part : {t : Table} (s : List ℕ) {z y : List ℕ} {r p j e at end : ℕ} → length s ≤ 65536 → Given t z r p j → length y ≡ length z → is_type t e ≡ true → at ≤ length s → end ≤ length y → Given t y e at end
 given_part s short g k ty a b =
-    record { typed = ty; room = omega (arith, g.room); here = omega (arith, short); start = omega (arith, g.room) }
+    record { sane = g.sane; typed = ty; room = omega (arith, g.room); here = omega (arith, short); start = omega (arith, g.room) }
 
 pub walked_from : {t : Table} {s a z x : List ℕ} {d r p j : ℕ} {o : Option Got} → Alike a z 0 j → Walked t s z x d r p j o → Walked t s a x d r p j o
 walked_from {a = a} {z = z} {x = x} {j = j} f k = record { kept = alike_then a z x 0 j f k.kept; taken = k.taken }

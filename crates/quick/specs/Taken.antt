@@ -9,6 +9,7 @@ use Rattle.jer.specs.Answer.{ok, bind}
 use Rattle.jer.specs.Read.{read, read_whole, null?, null_absent}
 use Rattle.jer.specs.Calls.{good_text}
 use Rattle.jer.specs.Rows.{leaf_pool, rows_of, pool_of}
+use Rattle.jer.specs.Sane.{Sane}
 use Rattle.places.specs.ByPlaces.{bit_of, with_bit}
 use Rattle.quick.specs.declared.Got.{Got}
 use Rattle.quick.specs.declared.bare.Words as declared-leaf
@@ -18,8 +19,9 @@ use Rattle.spelled.specs.Leaves.{StringAt}
 use Rattle.quick.specs.Stood.{Spaces, TreeAt, Stood, NameAt}
 use Rattle.quick.specs.Tape.{Alike, headed, Words, Stands}
 
--- a type's row, a tape within the size, and a place in the text and in the tape
+-- a good table and a type's row, a tape within the size, and a place in the text and in the tape
 pub record Given (t : Table) (z : List ℕ) (row place top : ℕ) : Type 0 where
+  pub sane : Sane t
   pub typed : is_type t row ≡ true
   pub room : length z ≤ 1048576
   pub here : place ≤ 65536

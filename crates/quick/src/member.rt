@@ -6,25 +6,24 @@ ghost use Rattle.tokens.specs.Places.{byte_at};
 ghost use Rattle.places.specs.ByPlaces.{bit_of};
 ghost use Rattle.quick.specs.Taken.{Complete};
 
-use crate::source::Source;
 use scan::met::bit;
 use scan::parts::{null_absent, null_at};
 use types::row::{count_of, may_miss};
 
 // The value at the place is null, for the absence of the member at k of an object.
 #[tactic(auto, unfolding(places::specs::ByPlaces::is_null_at))]
-pub fn absent_at(source: &Source, row: usize, k: u32, place: usize) -> bool
-    ensures { (ns : List ℕ) → result ≡ (eqb (byte_at source.now.s.now place) 0x6E && null_absent (table source.now.types.now ns) row k) }
+pub fn absent_at(types: &[u32], s: &[u8], row: usize, k: u32, place: usize) -> bool
+    ensures { (ns : List ℕ) → result ≡ (eqb (byte_at s.now place) 0x6E && null_absent (table types.now ns) row k) }
 {
-    null_at(source.s, place) && null_absent(source.types, row, k)
+    null_at(s, place) && null_absent(types, row, k)
 }
 
 // The element at the place is null, for the absence of the member at k of an ARRAY: of one that may be missing, whatever its type makes of null.
 #[tactic(auto, unfolding(places::specs::ByPlaces::is_null_at))]
-pub fn missing_at(source: &Source, row: usize, k: u32, place: usize) -> bool
-    ensures { (ns : List ℕ) → result ≡ (eqb (byte_at source.now.s.now place) 0x6E && may_miss (table source.now.types.now ns) row k) }
+pub fn missing_at(types: &[u32], s: &[u8], row: usize, k: u32, place: usize) -> bool
+    ensures { (ns : List ℕ) → result ≡ (eqb (byte_at s.now place) 0x6E && may_miss (table types.now ns) row k) }
 {
-    null_at(source.s, place) && may_miss(source.types, row, k)
+    null_at(s, place) && may_miss(types, row, k)
 }
 
 // The member at k was met, or may be missing.

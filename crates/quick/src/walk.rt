@@ -297,7 +297,7 @@ fn member(
     if bit(met, k) {
         return None;
     }
-    if absent_at(source, row, k, at) {
+    if absent_at(source.types, source.s, row, k, at) {
         return Some(Step {
             next: literal(source.s, at, b"null")?,
             tape: end,
@@ -460,7 +460,7 @@ fn element(
             due: 0,
         });
     }
-    if missing_at(source, row, k, place) {
+    if missing_at(source.types, source.s, row, k, place) {
         return Some(Step {
             next: literal(source.s, place, b"null")?,
             tape: end,

@@ -9,7 +9,7 @@ pub returns-then-tape-top : goal.returns-then-tape-top
 returns-then-tape-top c = λ d. not-here refl
 
 pub leaf-requires : goal.leaf-requires
-leaf-requires c = (c.requires.here, λ i j. c.args.source.now.sane.differ c.args.row i j c.requires.typed)
+leaf-requires c = (c.requires.here, λ i j. c.requires.sane.differ c.args.row i j c.requires.typed)
 
 pub returns-in_err-w : goal.returns-in_err-w
 returns-in_err-w c = λ d. not-here c.from_residual.ensures

@@ -2,8 +2,11 @@ use mathlib.Core.Logic.{inl, inr}
 use mathlib.Core.Path.{ap}
 use Rattle.std.specs.Prelude.{Err}
 use native.Mathlib.Omega.{arith}
-use Rattle.quick.proofs.CallLaws.{few-rows, few_bytes_lem, whole_noted, whole-stored}
+use Rattle.quick.proofs.CallLaws.{sane-table, few-rows, few_bytes_lem, whole_noted, whole-stored}
 use Rattle.quick.proofs.read.over.Goals as goal
+
+pub take-requires : goal.take-requires
+take-requires c = (sane-table _ c.requires.0, c.requires.1)
 
 pub overflow_mul-counts : goal.overflow_mul-counts
 overflow_mul-counts c = let whole = c.in_ok-g.ensures in let rows = c.args.rows.now in let pool = c.args.pool.now in omega (arith, whole.words, c.take.auto.tape, c.requires.1)

@@ -41,7 +41,7 @@ array-shut-requires-then-b-eq93 t c =
     let row = c.args.row in
     let given = c.requires.given in
     let reached = c.in_ok-g.ensures.came in
-    (shuts_any c.args.source.now.types.now names row _ _ (shuts_behind (arraying_behind c.loop-g.invariant reached c.element.auto.tape c.element.ensures.alike c.space-c.ensures.stretch) c.args.source.now.sane given.typed (omega (arith, reached.words, reached.inside, c.element.auto.tape, c.loop-g.invariant.same, c.clear.auto.tape, c.loop-g.invariant.words, given.room))), omega (arith, c.element.auto.tape, c.loop-g.invariant.start, c.loop-g.invariant.inside), omega (arith, reached.inside, c.element.auto.tape, c.loop-g.invariant.same, c.clear.auto.tape, given.room))
+    (shuts_any c.args.source.now.types.now names row _ _ (shuts_behind (arraying_behind c.loop-g.invariant reached c.element.auto.tape c.element.ensures.alike c.space-c.ensures.stretch) given.sane given.typed (omega (arith, reached.words, reached.inside, c.element.auto.tape, c.loop-g.invariant.same, c.clear.auto.tape, c.loop-g.invariant.words, given.room))), omega (arith, c.element.auto.tape, c.loop-g.invariant.start, c.loop-g.invariant.inside), omega (arith, reached.inside, c.element.auto.tape, c.loop-g.invariant.same, c.clear.auto.tape, given.room))
 
 pub array-returns-then-b-eq93 : goal.array-returns-then-b-eq93
 array-returns-then-b-eq93 t c =
@@ -64,7 +64,7 @@ choice-value-requires t c =
     let s = c.args.source.now.s.now in
     let row = c.args.row in
     let given = c.requires.given in
-    (omega arith, given-at s c.args.source.now.short given (c.args.source.now.sane.member row _ given.typed (name-inside c.in_ok-name.ensures c.in_ok-k.was)) (c.type_at.ensures names) (within-at s c.space-at.ensures.within c.in_ok-name.ensures.placed) (omega (arith, c.requires.top_in_bounds.0)))
+    (omega arith, given-at s c.args.source.now.short given (given.sane.member row _ given.typed (name-inside c.in_ok-name.ensures c.in_ok-k.was)) (c.type_at.ensures names) (within-at s c.space-at.ensures.within c.in_ok-name.ensures.placed) (omega (arith, c.requires.top_in_bounds.0)))
 
 pub choice-returns : goal.choice-returns
 choice-returns t c =
@@ -131,21 +131,21 @@ member-bit-requires t c =
     let row = c.args.row in
     let given = c.requires.given in
     let known = name-inside c.in_ok-name.ensures c.in-Some.is in
-    omega (arith, known, c.args.source.now.sane.few row given.typed)
+    omega (arith, known, given.sane.few row given.typed)
 
 pub member-overflow_add-result : goal.member-overflow_add-result
 member-overflow_add-result t c =
     let row = c.args.row in
     let given = c.requires.given in
     let known = name-inside c.in_ok-name.ensures c.in-Some.is in
-    omega (arith, known, c.args.source.now.sane.few row given.typed)
+    omega (arith, known, given.sane.few row given.typed)
 
 pub member-overflow_add-result-2 : goal.member-overflow_add-result-2
 member-overflow_add-result-2 t c =
     let row = c.args.row in
     let given = c.requires.given in
     let known = name-inside c.in_ok-name.ensures c.in-Some.is in
-    omega (arith, known, c.args.source.now.sane.few row given.typed)
+    omega (arith, known, given.sane.few row given.typed)
 
 pub member-with-requires : goal.member-with-requires
 member-with-requires t c =
@@ -153,7 +153,7 @@ member-with-requires t c =
     let row = c.args.row in
     let given = c.requires.given in
     let known = name-inside c.in_ok-name.ensures c.in-Some.is in
-    omega (arith, known, c.args.source.now.sane.few row given.typed)
+    omega (arith, known, given.sane.few row given.typed)
 
 pub member-returns-then-absent_at : goal.member-returns-then-absent_at
 member-returns-then-absent_at t c =
@@ -169,7 +169,7 @@ member-value-requires t c =
     let given = c.requires.given in
     let known = name-inside c.in_ok-name.ensures c.in-Some.is in
     let named = c.in_ok-name.ensures in
-    (omega arith, member-given s c.args.source.now.sane c.args.source.now.short given known (c.type_at-m.ensures names) (within-at s c.space-at.ensures.within named.placed))
+    (omega arith, member-given s c.args.source.now.short given known (c.type_at-m.ensures names) (within-at s c.space-at.ensures.within named.placed))
 
 pub member-bounds-tape-top : goal.member-bounds-tape-top
 member-bounds-tape-top t c =
@@ -183,7 +183,7 @@ member-with-requires-2 t c =
     let row = c.args.row in
     let given = c.requires.given in
     let known = name-inside c.in_ok-name.ensures c.in-Some.is in
-    omega (arith, known, c.args.source.now.sane.few row given.typed)
+    omega (arith, known, given.sane.few row given.typed)
 
 pub member-with-requires-3 : goal.member-with-requires-3
 member-with-requires-3 t c =
@@ -191,7 +191,7 @@ member-with-requires-3 t c =
     let row = c.args.row in
     let given = c.requires.given in
     let known = name-inside c.in_ok-name.ensures c.in-Some.is in
-    omega (arith, known, c.args.source.now.sane.few row given.typed)
+    omega (arith, known, given.sane.few row given.typed)
 
 pub member-returns : goal.member-returns
 member-returns t c =
@@ -226,7 +226,7 @@ object-shut-requires-then-b-eq125 t c =
     let row = c.args.row in
     let given = c.requires.given in
     let stepped = c.in_ok-g.ensures.stepped in
-    (shuts_any c.args.source.now.types.now names row _ _ (shuts_after (objecting_after c.loop-g.invariant c.args.source.now.sane given.typed stepped c.member.auto.tape c.member.ensures.alike c.space-c.ensures.stretch) c.args.source.now.sane given.typed (omega (arith, stepped.words, stepped.inside, c.member.auto.tape, c.loop-g.invariant.same, c.clear.auto.tape, c.loop-g.invariant.words, given.room))), omega (arith, c.member.auto.tape, c.loop-g.invariant.start, c.loop-g.invariant.inside), omega (arith, stepped.inside, c.member.auto.tape, c.loop-g.invariant.same, c.clear.auto.tape, given.room))
+    (shuts_any c.args.source.now.types.now names row _ _ (shuts_after (objecting_after c.loop-g.invariant given.sane given.typed stepped c.member.auto.tape c.member.ensures.alike c.space-c.ensures.stretch) given.sane given.typed (omega (arith, stepped.words, stepped.inside, c.member.auto.tape, c.loop-g.invariant.same, c.clear.auto.tape, c.loop-g.invariant.words, given.room))), omega (arith, c.member.auto.tape, c.loop-g.invariant.start, c.loop-g.invariant.inside), omega (arith, stepped.inside, c.member.auto.tape, c.loop-g.invariant.same, c.clear.auto.tape, given.room))
 
 pub object-returns-then-b-eq125 : goal.object-returns-then-b-eq125
 object-returns-then-b-eq125 t c =
@@ -236,14 +236,14 @@ object-returns-then-b-eq125 t c =
     let step = c.in_ok-g.ensures.stepped in
     let before = alike_part 0 top c.clear.ensures.alike (omega arith) (omega arith) in
     walked_from before (walked_if _ (alike_then _ _ _ 0 top (alike_then _ _ _ 0 top c.loop-g.invariant.kept (alike_part 0 top c.member.ensures.alike (omega arith) (omega arith))) c.shut-then-b-eq125.ensures.alike)
-    (λ g e. objecting_last c.loop-g.invariant c.args.source.now.sane given.typed step c.member.auto.tape c.member.ensures.alike c.space-c.ensures.stretch c.requires.row_value.0 c.requires.row_value.1 c.byte_at.ensures.value c.if-byte_at-ne123.false c.byte_at-b.ensures.value c.if-b-eq125.true c.space-c.ensures.within.0 ((rw e at c.shut-then-b-eq125.ensures.shut) names)))
+    (λ g e. objecting_last c.loop-g.invariant given.sane given.typed step c.member.auto.tape c.member.ensures.alike c.space-c.ensures.stretch c.requires.row_value.0 c.requires.row_value.1 c.byte_at.ensures.value c.if-byte_at-ne123.false c.byte_at-b.ensures.value c.if-b-eq125.true c.space-c.ensures.within.0 ((rw e at c.shut-then-b-eq125.ensures.shut) names)))
 
 pub object-loop-g-preserved : goal.object-loop-g-preserved
 object-loop-g-preserved t c =
     let s = c.args.source.now.s.now in
     let given = c.requires.given in
     let stepped = c.in_ok-g.ensures.stepped in
-    objecting_more c.loop-g.invariant c.args.source.now.sane given.typed stepped c.member.auto.tape c.member.ensures.alike c.space-c.ensures.stretch c.byte_at-b.ensures.value c.if-b-ne44.false c.space-c.ensures.within.0 c.space-at-in-loop-g.ensures.stretch c.space-at-in-loop-g.ensures.within.0 (within-at c.args.source.now.s.now c.space-at-in-loop-g.ensures.within (omega (arith, mark-inside s c.space-c.result c.byte_at-b.result 0x2C c.byte_at-b.ensures.value c.if-b-ne44.false (omega arith))))
+    objecting_more c.loop-g.invariant given.sane given.typed stepped c.member.auto.tape c.member.ensures.alike c.space-c.ensures.stretch c.byte_at-b.ensures.value c.if-b-ne44.false c.space-c.ensures.within.0 c.space-at-in-loop-g.ensures.stretch c.space-at-in-loop-g.ensures.within.0 (within-at c.args.source.now.s.now c.space-at-in-loop-g.ensures.within (omega (arith, mark-inside s c.space-c.result c.byte_at-b.result 0x2C c.byte_at-b.ensures.value c.if-b-ne44.false (omega arith))))
 
 pub picked-plain-requires : goal.picked-plain-requires
 picked-plain-requires t c =
@@ -254,7 +254,7 @@ picked-plain-requires t c =
     let place = c.args.place in
     let given = c.requires.given in
     let pick = sym c.in_ok-k.was ∙ c.alternative.ensures names ∙ ap (alternative t c.args.row) c.token_at.ensures in
-    (omega arith, (picked-given t s row place c.in_ok-k.k c.args.source.now.sane c.requires.row_value pick given (c.type_at.ensures names) (omega (arith, c.if-tape-top.false)), rw (c.type_at.ensures names) (picked-plain t s row place c.in_ok-k.k c.args.source.now.sane c.requires.row_value pick)))
+    (omega arith, (picked-given t s row place c.in_ok-k.k given.sane c.requires.row_value pick given (c.type_at.ensures names) (omega (arith, c.if-tape-top.false)), rw (c.type_at.ensures names) (picked-plain t s row place c.in_ok-k.k given.sane c.requires.row_value pick)))
 
 pub picked-returns : goal.picked-returns
 picked-returns t c =
@@ -265,7 +265,7 @@ picked-returns t c =
     let place = c.args.place in
     let given = c.requires.given in
     let pick = sym c.in_ok-k.was ∙ c.alternative.ensures names ∙ ap (alternative t c.args.row) c.token_at.ensures in
-    picked-here t s row place c.in_ok-k.k c.args.source.now.sane c.requires.row_value pick (c.type_at.ensures names) c.in_ok-g.ensures c.head.ensures.tape_after c.head.ensures.headed
+    picked-here t s row place c.in_ok-k.k given.sane c.requires.row_value pick (c.type_at.ensures names) c.in_ok-g.ensures c.head.ensures.tape_after c.head.ensures.headed
 
 pub plain-returns-then-kind_of-lt-SEQUENCE : goal.plain-returns-then-kind_of-lt-SEQUENCE
 plain-returns-then-kind_of-lt-SEQUENCE t c = c.note.ensures c.args.depth
