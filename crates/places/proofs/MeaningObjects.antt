@@ -11,7 +11,6 @@ use lib.Dec.{eqb}
 use lib.ListN.{length, get_or, set, length-set}
 use lib.Seq.{get_or-set_same, get_or-set_other}
 use Rattle.json_text.specs.Tree.{Json, Members, mcons}
-use Rattle.jer.specs.declared.Refusal.{Refusal}
 use Rattle.jer.specs.Table.{Table, is_type, extensible, count_of, type_at, name_at, may_miss, position}
 use Rattle.jer.specs.Value.{v_seq}
 use Rattle.jer.specs.Answer.{Res, ok, no, bind}
@@ -19,7 +18,7 @@ use Rattle.jer.specs.Read.{Entry, null?, read, entries, lookup, names_good, null
 use Rattle.jer.specs.Sane.{Sane}
 use Rattle.tokens.specs.Strings.{denoted}
 use Rattle.tokens.specs.Skip.{past_value}
-use Rattle.places.specs.ByPlaces.{ending, Reader, is_null_at, Follows, Part, follows_at, after_part, bit_of, with_bit, value_place, Scanned, scanned, scan_at, member_found, member_then, members_at, no_places, after_scan, object_at}
+use Rattle.places.specs.ByPlaces.{ending, Reader, is_null_at, Follows, Part, follows_at, after_part, bit_of, with_bit, value_place, Scanned, scanned, Stopped, scan_at, member_found, member_then, members_at, no_places, after_scan, object_at}
 use Rattle.places.proofs.MeaningBits.{no-bit, bit-set, bit_kept}
 use Rattle.places.proofs.MeaningNames.{position-found, names-differ, lookup-met, lookup-other}
 use Rattle.places.proofs.MeaningStands.{Stands, stands-passed, Membered, no_member, member, member_count, InObject}
@@ -57,8 +56,8 @@ unfolding no_places lookup
 tied_none t s value r = record { long = refl; each = λ i h. rw (no-bit i) unmet }
 
 -- a scan that ends at q and the names judged alike
-data Judged (t : Table) (s : List ℕ) (value : Reader) (r q : ℕ) : Result Scanned Refusal → Res (List Entry) → Type 0 where
-  refused : {z : Refusal} → Judged t s value r q (Err z) (no z)
+data Judged (t : Table) (s : List ℕ) (value : Reader) (r q : ℕ) : Result Scanned Stopped → Res (List Entry) → Type 0 where
+  refused : {x : Stopped} → Judged t s value r q (Err x) (no x.why)
   taken : {m : ℕ} {places : List ℕ} {es : List Entry} → Tied t s value r m places es → Judged t s value r q (Ok (scanned q m places)) (ok es)
 
 module _ (t : Table) (s : List ℕ) (value : Reader) (r : ℕ) (c : Sane t) (h : is_type t r ≡ true) where
@@ -149,6 +148,6 @@ module _ (t : Table) (s : List ℕ) (value : Reader) (r : ℕ) (c : Sane t) (h :
     unfolding object_at read_object after_scan bind ending
     object-means p q k = go' (scan_means k.membered (length s) k.few (tied_none t s value r))
       where
-        go' : {x : Result Scanned Refusal} {y : Res (List Entry)} → Judged t s value r q x y → after_scan value t s r p x ≡ ending q (bind y (λ es. bind (read_members t r p es 0 (count_of t r)) (λ ps. ok (v_seq ps))))
+        go' : {x : Result Scanned Stopped} {y : Res (List Entry)} → Judged t s value r q x y → after_scan value t s r p x ≡ ending q (bind y (λ es. bind (read_members t r p es 0 (count_of t r)) (λ ps. ok (v_seq ps))))
         go' refused = refl
         go' (taken m) = rw (members_mean p 0 (count_of t r) (omega arith) m)

@@ -22,6 +22,7 @@ use Rattle.tokens.specs.Numbers.{integer_at}
 pub use Rattle.places.specs.declared.Follows.{Follows}
 pub use Rattle.places.specs.declared.Follows.TheVariants.{Part, Shut}
 pub use Rattle.places.specs.declared.Scanned.{Scanned}
+pub use Rattle.places.specs.declared.Stopped.{Stopped}
 pub use Rattle.places.specs.declared.Member.{Member}
 use Rattle.places.specs.declared.Member.TheVariants as member
 pub use Rattle.places.specs.declared.Element.{Element}
@@ -156,18 +157,22 @@ value_place s q = past_space s (past_space s (string_end s (q + 1)) + 1)
 abbrev pub scanned : ℕ → ℕ → List ℕ → Scanned
 scanned next met places = record { next = next; met = met; places = places }
 
+-- why a name is refused, the members met before it, and where their values stand
+abbrev pub stopped : Refusal → ℕ → List ℕ → Stopped
+stopped why met places = record { why = why; met = met; places = places }
+
 -- the names from here on in text order, at most n of them
-unfoldable pub scan_at : ℕ → Table → List ℕ → ℕ → ℕ → Follows → ℕ → List ℕ → Result Scanned Refusal
+unfoldable pub scan_at : ℕ → Table → List ℕ → ℕ → ℕ → Follows → ℕ → List ℕ → Result Scanned Stopped
 scan_at d t s r zero f met places = Ok (scanned (follows_at f) met places)
 scan_at d t s r (suc n) (Shut q) met places = Ok (scanned q met places)
 scan_at d t s r (suc n) (Part q) met places =
     elim (position t r (denoted s (q + 1))) [
       | None ↦ elim (extensible t r) [
         | true ↦ scan_at d t s r n (after_part s (past_value d s (value_place s q))) met places
-        | false ↦ Err (AtByte UnknownName q)
+        | false ↦ Err (stopped (AtByte UnknownName q) met places)
       ]
       | Some i ↦ elim (bit_of met i) [
-        | true ↦ Err (AtByte RepeatedName q)
+        | true ↦ Err (stopped (AtByte RepeatedName q) met places)
         | false ↦ scan_at d t s r n (after_part s (past_value d s (value_place s q))) (with_bit met i) (set places i (value_place s q))
       ]
     ]
@@ -191,8 +196,8 @@ members_at value t s r o met places i (suc n) = member_then value t r o i (membe
 unfoldable pub no_places : List ℕ
 no_places = replicate 64 0
 
-unfoldable pub after_scan : Reader → Table → List ℕ → ℕ → ℕ → Result Scanned Refusal → Res (Got Val)
-after_scan value t s r o (Err e) = no e
+unfoldable pub after_scan : Reader → Table → List ℕ → ℕ → ℕ → Result Scanned Stopped → Res (Got Val)
+after_scan value t s r o (Err x) = no x.why
 after_scan value t s r o (Ok x) = ending x.next (bind (members_at value t s r o x.met x.places 0 (count_of t r)) (λ ps. ok (v_seq ps)))
 
 unfoldable pub object_at : Reader → ℕ → Table → List ℕ → Reader

@@ -3,6 +3,10 @@
 // What the code and the definitions answer alike is declared here, once.
 #![tactic(auto)]
 
+ghost use Rattle.std.specs.Prelude.{◌≡◌};
+
+use jer::Refusal;
+
 // What follows the opening bracket, or a part of a bracket. No Result: neither is a failure.
 #[derive(Clone, Copy)]
 pub enum Follows {
@@ -19,6 +23,22 @@ pub struct Scanned {
     pub next: usize,
     pub met: u64,
     pub places: [u32; 64],
+}
+
+// An object's names up to the first that is refused: why it is, the members met before it and, of each, where its value stands.
+#[derive(Clone, Copy)]
+pub struct Stopped {
+    pub why: Refusal,
+    pub met: u64,
+    pub places: [u32; 64],
+}
+
+impl From<Stopped> for Refusal {
+    ghost from_gives = { λ x e. e ≡ x.why };
+
+    fn from(x: Stopped) -> Refusal {
+        x.why
+    }
 }
 
 // A member of an object. No Option: null and no name are both no value, and are taken otherwise where the member must be there.

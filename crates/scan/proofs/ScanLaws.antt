@@ -7,7 +7,6 @@ use Prim.Native.Nat.{ℕ, zero, suc, ◌+◌, ◌-◌, ◌<◌, ◌≤◌}
 use native.Mathlib.Omega.{arith}
 use lib.ListN.{length, set}
 use Rattle.jer.specs.declared.Cause.TheVariants.{UnknownName, RepeatedName}
-use Rattle.jer.specs.declared.Refusal.{Refusal}
 use Rattle.jer.specs.declared.Refusal.TheVariants.{AtByte}
 use Rattle.jer.specs.Table.{Table, extensible, position}
 use Rattle.tokens.specs.Strings.{denoted}
@@ -15,7 +14,8 @@ use Rattle.tokens.specs.Skip.{past_value}
 use Rattle.places.specs.declared.Follows.{Follows}
 use Rattle.places.specs.declared.Follows.TheVariants.{Part, Shut}
 use Rattle.places.specs.declared.Scanned.{Scanned}
-use Rattle.places.specs.ByPlaces.{follows_at, after_part, first_part, bit_of, with_bit, value_place, scanned, scan_at, no_places}
+use Rattle.places.specs.declared.Stopped.{Stopped}
+use Rattle.places.specs.ByPlaces.{follows_at, after_part, first_part, bit_of, with_bit, value_place, scanned, stopped, scan_at, no_places}
 use Rattle.scan.proofs.WithinLaws.{value-onward}
 use Rattle.scan.proofs.PartLaws.{first-inside, after-inside}
 use Rattle.scan.proofs.NameLaws.{place-ahead}
@@ -50,13 +50,13 @@ module _ (d : ℕ) (s : List ℕ) (q : ℕ) where
 
 module _ (d : ℕ) (t : Table) (s : List ℕ) (r : ℕ) where
   -- the scan from here on is the whole
-  pub record Loop (X : Result Scanned Refusal) (f : Follows) (met : ℕ) (places : List ℕ) : Type 0 where
+  pub record Loop (X : Result Scanned Stopped) (f : Follows) (met : ℕ) (places : List ℕ) : Type 0 where
     pub k : ℕ
     pub enough : Enough s k f
     pub inv : scan_at d t s r k f met places ≡ X
 
   -- and from the name at q on
-  pub record Turn (X : Result Scanned Refusal) (q met : ℕ) (places : List ℕ) : Type 0 where
+  pub record Turn (X : Result Scanned Stopped) (q met : ℕ) (places : List ℕ) : Type 0 where
     pub k : ℕ
     pub within : q ≤ length s
     pub enough : length s ≤ k + q
@@ -66,7 +66,7 @@ module _ (d : ℕ) (t : Table) (s : List ℕ) (r : ℕ) where
   loop_start c p (Part q) l e = record { k = length s; enough = omega (arith, first-inside s c p q l (sym e)); inv = rw e }
   loop_start c p (Shut q) l e = record { k = length s; enough = tt; inv = rw e }
 
-  module _ {X : Result Scanned Refusal} {f : Follows} {met : ℕ} {places : List ℕ} (w : Loop X f met places) where
+  module _ {X : Result Scanned Stopped} {f : Follows} {met : ℕ} {places : List ℕ} (w : Loop X f met places) where
     pub loop_shut : {q : ℕ} → f ≡ Shut q → Ok (scanned q met places) ≡ X
     unfolding scan_at follows_at
     loop_shut {q} e = go w.k (rw e at w.inv)
@@ -82,12 +82,12 @@ module _ (d : ℕ) (t : Table) (s : List ℕ) (r : ℕ) where
         go zero h i = absurd (omega arith)
         go (suc k) h i = record { k = k; within = h.0; enough = omega arith; inv = i }
 
-  module _ {X : Result Scanned Refusal} {q met : ℕ} {places : List ℕ} (w : Turn X q met places) where
-    pub turn-unknown : position t r (denoted s (q + 1)) ≡ None → extensible t r ≡ false → Err (AtByte UnknownName q) ≡ X
+  module _ {X : Result Scanned Stopped} {q met : ℕ} {places : List ℕ} (w : Turn X q met places) where
+    pub turn-unknown : position t r (denoted s (q + 1)) ≡ None → extensible t r ≡ false → Err (stopped (AtByte UnknownName q) met places) ≡ X
     unfolding scan_at
     turn-unknown e x = rw x at (rw (e, scan_at) at w.inv)
 
-    pub turn_repeated : {i : ℕ} → position t r (denoted s (q + 1)) ≡ Some i → bit_of met i ≡ true → Err (AtByte RepeatedName q) ≡ X
+    pub turn_repeated : {i : ℕ} → position t r (denoted s (q + 1)) ≡ Some i → bit_of met i ≡ true → Err (stopped (AtByte RepeatedName q) met places) ≡ X
     unfolding scan_at
     turn_repeated e x = rw x at (rw (e, scan_at) at w.inv)
 

@@ -14,7 +14,7 @@ use jer::{Cause, Refusal};
 use met::{bit, with};
 use names::{position, value_place};
 use parts::{after_part, first_part};
-use places::{Follows, Scanned};
+use places::{Follows, Scanned, Stopped};
 use tokens::skip::skip_value;
 use types::row::{Row, wide};
 
@@ -26,7 +26,7 @@ pub fn scan(
     row: usize,
     p: usize,
     depth: u32,
-) -> Result<Scanned, Refusal>
+) -> Result<Scanned, Stopped>
     requires { (length s.now ≤ 65536) × (p < length s.now) × (count_of (table types.now names.now) row ≤ 64) }
     ensures { result ≡ scan_at depth (table types.now names.now) s.now row (length s.now) (first_part s.now 0x7D p) 0 no_places }
 {
@@ -50,13 +50,15 @@ pub fn scan(
                 match position(types, names, s, row, q) {
                     None => {
                         if !extensible {
-                            return Err(Refusal::AtByte(Cause::UnknownName, q));
+                            let why = Refusal::AtByte(Cause::UnknownName, q);
+                            return Err(Stopped { why, met, places });
                         }
                         next = after;
                     }
                     Some(i) => {
                         if bit(met, i) {
-                            return Err(Refusal::AtByte(Cause::RepeatedName, q));
+                            let why = Refusal::AtByte(Cause::RepeatedName, q);
+                            return Err(Stopped { why, met, places });
                         }
                         met = with(met, i);
                         places[wide(i)] = value as u32;

@@ -27,11 +27,12 @@ use Rattle.tokens.proofs.PlaceLaws.{inside}
 use Rattle.places.specs.declared.Follows.{Follows}
 use Rattle.places.specs.declared.Follows.TheVariants.{Part, Shut}
 use Rattle.places.specs.declared.Scanned.{Scanned}
+use Rattle.places.specs.declared.Stopped.{Stopped}
 use Rattle.places.specs.declared.Member.{Member}
 use Rattle.places.specs.declared.Member.TheVariants as member
 use Rattle.places.specs.declared.Element.{Element}
 use Rattle.places.specs.declared.Element.TheVariants as element
-use Rattle.places.specs.ByPlaces.{Got, got, ending, Reader, follows_at, after_part, is_null_at, got_absent, got_present, surplus_at, no_more, element_found, element_then, elements_at, bit_of, with_bit, value_place, scan_at, member_found, member_then, no_places, object_at, first_part, members_at, after_scan}
+use Rattle.places.specs.ByPlaces.{Got, got, ending, Reader, follows_at, after_part, is_null_at, got_absent, got_present, surplus_at, no_more, element_found, element_then, elements_at, bit_of, with_bit, value_place, stopped, scan_at, member_found, member_then, no_places, object_at, first_part, members_at, after_scan}
 use Rattle.scan.proofs.WithinLaws.{run-within, value-within}
 use Rattle.scan.proofs.NameLaws.{place-within}
 use Rattle.leaf.specs.Step.{Step, Stepped}
@@ -252,7 +253,7 @@ surplus-near d t s r b q (Part y) l h n e =
     (λ x k. absurd (let z : ◌≡◌ {A = ℕ} 0 1 = cc in omega arith)) (sym e)
 
 -- where a scan ends
-abbrev pub Ends : ℕ → Result Scanned Refusal → Type 0
+abbrev pub Ends : ℕ → Result Scanned Stopped → Type 0
 Ends b (Ok x) = x.next ≤ b
 Ends b (Err e) = Unit {0}
 
@@ -268,9 +269,9 @@ scan_near d t s r b l h (suc n) (Part y) met places w = go (λ u us. scan_near d
         let v = value-within s 65539 (omega arith) d (value_place s y) (omega (arith, place-within s y 65537 (omega arith) (omega arith))) in
         near-after s (past_value d s (value_place s y)) b (after_part s (past_value d s (value_place s y))) l (omega arith) (omega arith) refl
 
-    go : ((u : ℕ) (us : List ℕ) → Ends b (scan_at d t s r n (after_part s (past_value d s (value_place s y))) u us)) → (c : Option ℕ) → Ends b (elim c as (λ z. Result Scanned Refusal) [
-      | None ↦ elim (extensible t r) as (λ z. Result Scanned Refusal) [ true ↦ scan_at d t s r n (after_part s (past_value d s (value_place s y))) met places | false ↦ Err (AtByte UnknownName y) ]
-      | Some i ↦ elim (bit_of met i) as (λ z. Result Scanned Refusal) [ true ↦ Err (AtByte RepeatedName y) | false ↦ scan_at d t s r n (after_part s (past_value d s (value_place s y))) (with_bit met i) (set places i (value_place s y)) ]
+    go : ((u : ℕ) (us : List ℕ) → Ends b (scan_at d t s r n (after_part s (past_value d s (value_place s y))) u us)) → (c : Option ℕ) → Ends b (elim c as (λ z. Result Scanned Stopped) [
+      | None ↦ elim (extensible t r) as (λ z. Result Scanned Stopped) [ true ↦ scan_at d t s r n (after_part s (past_value d s (value_place s y))) met places | false ↦ Err (stopped (AtByte UnknownName y) met places) ]
+      | Some i ↦ elim (bit_of met i) as (λ z. Result Scanned Stopped) [ true ↦ Err (stopped (AtByte RepeatedName y) met places) | false ↦ scan_at d t s r n (after_part s (past_value d s (value_place s y))) (with_bit met i) (set places i (value_place s y)) ]
     ])
     go ih None = branch (Ends b) (extensible t r) (λ z. ih met places) (λ z. tt)
     go ih (Some i) = branch (Ends b) (bit_of met i) (λ z. tt) (λ z. ih (with_bit met i) (set places i (value_place s y)))
@@ -300,11 +301,11 @@ there-place t s r k b p {q} e = go b e
 -- ---- an object, by its scan
 
 module _ (value : Reader) (d : ℕ) (t : Table) (s : List ℕ) (r p : ℕ) where
-  pub object-scanned : {x : Result Scanned Refusal} → x ≡ scan_at d t s r (length s) (first_part s 0x7D p) 0 no_places → after_scan value t s r p x ≡ object_at value d t s r p
+  pub object-scanned : {x : Result Scanned Stopped} → x ≡ scan_at d t s r (length s) (first_part s 0x7D p) 0 no_places → after_scan value t s r p x ≡ object_at value d t s r p
   unfolding object_at
   object-scanned e = ap (after_scan value t s r p) e
 
-  pub object_stopped : {y : Refusal} → Err y ≡ scan_at d t s r (length s) (first_part s 0x7D p) 0 no_places → no y ≡ object_at value d t s r p
+  pub object_stopped : {x : Stopped} → Err x ≡ scan_at d t s r (length s) (first_part s 0x7D p) 0 no_places → no x.why ≡ object_at value d t s r p
   unfolding object_at after_scan
   object_stopped e = rw (← e, after_scan)
 

@@ -257,7 +257,7 @@ pub object-returns-in_err-found : goal.object-returns-in_err-found
 object-returns-in_err-found t c =
     let s = c.args.s.now in
     let tab = table c.args.types.now c.args.names.now in
-    let out : c.from_residual.result ≡ Err c.in_err-found.field-0.0 = search rules in
+    let out : c.from_residual.result ≡ Err c.in_err-found.field-0.0.why = search rules in
     reads-no out (over_no tab c.args.row (object_stopped (λ q u. read_at (c.args.depth - 1) tab s q u) (c.args.depth - 1) tab s c.args.row c.args.place (sym c.in_err-found.was ∙ c.scan.ensures)))
 
 pub object-returns : goal.object-returns
