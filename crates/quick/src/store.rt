@@ -17,12 +17,14 @@ pub fn put_row(rows: &mut [u32], slot: usize, kind: u32, a: u32, b: u32, size: u
     rows[k..k + 4].copy_from_slice(&[kind, a, b, size]);
 }
 
-// The bytes of x.
+// The bytes of x. A loop, as `written::put::copy`: with `copy_from_slice` the library for C would need `memmove` from outside.
 fn copy_all(pool: &mut [u8], offset: usize, x: &[u8])
     requires { offset + length x.now ≤ length pool.old }
     ensures { pool.new ≡ sets pool.old offset x.now }
 {
-    pool[offset..offset + x.len()].copy_from_slice(x);
+    for (j, b) in x.iter().enumerate() {
+        pool[offset + j] = *b;
+    }
 }
 
 // The bytes of a string whose quotation mark stands at the place a, and whose length is b, or more by 2^31 if something in it is escaped.

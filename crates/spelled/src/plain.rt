@@ -17,8 +17,8 @@ const FLAGS: [u8; 256] = *b"\
 // The table, made once and lent for a whole text: a constant array is made anew wherever it is read.
 #[derive(Drop)]
 pub struct Flags {
-    entries: [u8; 256],
-    ghost right: { IsFlags entries },
+    pub entries: [u8; 256],
+    pub ghost right: { IsFlags entries },
 }
 
 impl Flags {

@@ -21,8 +21,8 @@ pub const ANY: u8 = 0x2D;
 // The table, made once for a whole value: a constant array is made anew wherever it is read.
 #[derive(Drop)]
 pub struct Literal {
-    marks: [u8; 256],
-    ghost right: { IsLiteral marks },
+    pub marks: [u8; 256],
+    pub ghost right: { IsLiteral marks },
 }
 
 impl Literal {
