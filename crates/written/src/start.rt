@@ -4,7 +4,7 @@ ghost use Rattle.jer.specs.Judge.{rows_in};
 ghost use Rattle.jer.specs.Table.{table};
 ghost use Rattle.written.specs.Start.{Starts, closed_as};
 
-use crate::rows::row_at;
+use crate::rows::{row_at, type_row};
 use crate::tables::Tables;
 use crate::taken::{Took, Wrong, ended};
 use types::row::{Row, kind_of, type_at};
@@ -25,7 +25,7 @@ impl Tables<'_> {
         requires { length self.now.types.now % 8 ≡ 0 }
         ensures { (ns : List ℕ) → Starts (table self.now.types.now ns) (rows_in self.now.values.now) row slot result }
     {
-        let own = self.type_row(row);
+        let own = type_row(self.types, row);
         let kind = own.kind;
         if !own.is_unwrapped() {
             return Ok(Start {

@@ -8,7 +8,7 @@ ghost use Rattle.written.specs.Text.{PlainRow, BracketRow, WritesValue, Measures
 
 use crate::leaf::leaf;
 use crate::put::{brackets, kept_after, put_byte, put_comma};
-use crate::rows::{ValueRow, row_at};
+use crate::rows::{ValueRow, absent_at, row_at, type_row};
 use crate::start::closed;
 use crate::tables::Tables;
 use crate::taken::{Took, Wrong, ended};
@@ -149,7 +149,9 @@ fn sequence(
     requires slot_in { slot < length tables.now.values.now }
     ensures { WritesParts take_sequence depth tables.now row (value_row w) slot offset place text result }
 {
-    let own = tables.type_row(row);
+    let types = tables.types;
+    let values = tables.values;
+    let own = type_row(types, row);
     let array = own.is_array();
     let brackets = brackets(array);
     let count = own.members;
@@ -162,9 +164,9 @@ fn sequence(
         end: put_byte(text, place, brackets.opening),
     };
     for i in 0..count {
-        let member = tables.type_row(first + wide(i));
+        let member = type_row(types, first + wide(i));
         let e = wide(member.first);
-        if tables.absent_at(row, i, took.next) {
+        if absent_at(types, values, row, i, took.next) {
             took.next += 1;
         } else if tables.null_in(array, e, took.next) {
             let null = judged(tables, e, took.next, took.used, depth)?;
@@ -196,7 +198,7 @@ fn leaf_or_value(
     requires good { GoodTable tables.now.types.now tables.now.names.now }
     ensures { WritesValue depth tables.now row slot offset place text result }
 {
-    let own = tables.type_row(row);
+    let own = type_row(tables.types, row);
     let kind = own.kind;
     if Row::SEQUENCE <= kind {
         return value(tables, text, row, slot, offset, place, depth);
