@@ -11,10 +11,11 @@ use std::marker::Model;
 pub struct Outline {
     // A row of the table in `acts.rt`.
     mode: u8,
+    // The open brackets: NONE, and for each of them twice the number before and its kind. They stand between the other two fields for
+    // speed: LLVM packs two small ones side by side into one number, and takes them out again, at every byte.
+    brackets: u64,
     // Is the string that is being read a name?
     name: bool,
-    // The open brackets: NONE, and for each of them twice the number before and its kind.
-    brackets: u64,
 }
 
 impl Model for Outline {

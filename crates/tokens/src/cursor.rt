@@ -19,22 +19,24 @@ pub enum Class {
     Digit,
 }
 
+// Here and in the two tests below `||` stands in place of `matches!`, for speed: LLVM makes one test by a bit mask of such a chain, and
+// a comparison for each byte of the other, which took a sixth more instructions to read a text of long numbers.
 fn is_space(b: u8) -> bool
     ensures { result ≡ is_space b }
 {
-    matches!(b, 0x20 | 0x09 | 0x0A | 0x0D)
+    b == 0x20 || (b == 0x09 || (b == 0x0A || b == 0x0D))
 }
 
 fn is_between(b: u8) -> bool
     ensures { result ≡ is_between b }
 {
-    is_space(b) || matches!(b, 0x2C | 0x3A)
+    is_space(b) || (b == 0x2C || b == 0x3A)
 }
 
 fn is_end(b: u8) -> bool
     ensures { result ≡ is_end b }
 {
-    is_space(b) || matches!(b, 0x2C | 0x5D | 0x7D)
+    is_space(b) || (b == 0x2C || (b == 0x5D || b == 0x7D))
 }
 
 fn is_digit(b: u8) -> bool

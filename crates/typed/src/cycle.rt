@@ -64,7 +64,7 @@ pub fn value(
     }
 }
 
-// A type that is not UNWRAPPED, by the token at the place.
+// A type that is not UNWRAPPED, by the token at the place. The row is read in the two arms that need it, for speed: a leaf reads its own.
 #[cycle(array_choice_each_member_list_object_plain_value)]
 fn plain(
     types: &[u32],
@@ -83,12 +83,12 @@ fn plain(
     requires token_value { token ≡ token_at s.now place }
     ensures { ReadsAs (counted by_token) types names s row place slot offset depth result rows pool }
 {
-    let w = Row::at(types, row);
     match token {
         Token::Array => {
             if depth == 0 {
                 return refused(Cause::TooDeep, place);
             }
+            let w = Row::at(types, row);
             if w.kind == Row::SEQUENCE_OF {
                 return list(types, names, s, rows, pool, row, place, slot, offset, depth);
             }
@@ -101,6 +101,7 @@ fn plain(
             if depth == 0 {
                 return refused(Cause::TooDeep, place);
             }
+            let w = Row::at(types, row);
             if w.kind == Row::CHOICE {
                 return choice(types, names, s, rows, pool, row, place, slot, offset, depth);
             }

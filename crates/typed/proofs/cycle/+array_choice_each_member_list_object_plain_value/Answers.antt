@@ -326,34 +326,34 @@ plain-returns-then-depth-eq0-2 t c =
     reads-no c.refused-then-depth-eq0-2.ensures (over_no tab c.args.row (plain-deep tab s c.args.row c.args.place c.args.depth (inr (sym c.requires.token_value ∙ c.in-Object.is)) c.if-depth-eq0-2.true))
 
 pub plain-choice-requires : goal.plain-choice-requires
-plain-choice-requires t c = (omega arith, (c.requires.given, (bracket_inside c.args.s.now c.args.place c.requires.token_value (inr c.in-Object.is), positive c.args.depth c.if-depth-eq0-2.false, sym (kind-of _ c.args.row (c.at-w.ensures c.args.names.now)) ∙ c.if-w-eq-CHOICE.true)))
+plain-choice-requires t c = (omega arith, (c.requires.given, (bracket_inside c.args.s.now c.args.place c.requires.token_value (inr c.in-Object.is), positive c.args.depth c.if-depth-eq0-2.false, sym (kind-of _ c.args.row (c.at-w-in-Object.ensures c.args.names.now)) ∙ c.if-w-eq-CHOICE.true)))
 
 pub plain-returns-then-w-eq-CHOICE : goal.plain-returns-then-w-eq-CHOICE
 plain-returns-then-w-eq-CHOICE t c =
     let names = c.args.names.now in
     let tab = table c.args.types.now names in
     let s = c.args.s.now in
-    along (ap (λ (x : Res (Got Val)). bind x (within tab c.args.row)) (plain-choice tab s c.args.row c.args.place c.args.depth c.if-depth-eq0-2.false (sym c.requires.token_value ∙ c.in-Object.is) (sym (kind-of _ c.args.row (c.at-w.ensures names)) ∙ c.if-w-eq-CHOICE.true))) c.choice.ensures
+    along (ap (λ (x : Res (Got Val)). bind x (within tab c.args.row)) (plain-choice tab s c.args.row c.args.place c.args.depth c.if-depth-eq0-2.false (sym c.requires.token_value ∙ c.in-Object.is) (sym (kind-of _ c.args.row (c.at-w-in-Object.ensures names)) ∙ c.if-w-eq-CHOICE.true))) c.choice.ensures
 
 pub plain-object-requires : goal.plain-object-requires
 plain-object-requires t c =
     let names = c.args.names.now in
     let tab = table c.args.types.now names in
-    (omega arith, (c.requires.given, (bracket_inside c.args.s.now c.args.place c.requires.token_value (inr c.in-Object.is), positive c.args.depth c.if-depth-eq0-2.false, object-kind tab c.args.row (sequence-is tab c.args.row (c.at-w.ensures names) (c.is_array-in-Object.ensures _ _ (c.at-w.ensures names)) ∙ c.if-w-is_array.true))))
+    (omega arith, (c.requires.given, (bracket_inside c.args.s.now c.args.place c.requires.token_value (inr c.in-Object.is), positive c.args.depth c.if-depth-eq0-2.false, object-kind tab c.args.row (sequence-is tab c.args.row (c.at-w-in-Object.ensures names) (c.is_array-in-Object.ensures _ _ (c.at-w-in-Object.ensures names)) ∙ c.if-w-is_array.true))))
 
 pub plain-returns-then-w-is_array : goal.plain-returns-then-w-is_array
 plain-returns-then-w-is_array t c =
     let names = c.args.names.now in
     let tab = table c.args.types.now names in
     let s = c.args.s.now in
-    along (ap (λ (x : Res (Got Val)). bind x (within tab c.args.row)) (plain-object tab s c.args.row c.args.place c.args.depth c.if-depth-eq0-2.false (sym c.requires.token_value ∙ c.in-Object.is) (λ h. c.if-w-eq-CHOICE.false (sym (sym (kind-of _ c.args.row (c.at-w.ensures names))) ∙ h)) (sequence-is tab c.args.row (c.at-w.ensures names) (c.is_array-in-Object.ensures _ _ (c.at-w.ensures names)) ∙ c.if-w-is_array.true))) c.object.ensures
+    along (ap (λ (x : Res (Got Val)). bind x (within tab c.args.row)) (plain-object tab s c.args.row c.args.place c.args.depth c.if-depth-eq0-2.false (sym c.requires.token_value ∙ c.in-Object.is) (λ h. c.if-w-eq-CHOICE.false (sym (sym (kind-of _ c.args.row (c.at-w-in-Object.ensures names))) ∙ h)) (sequence-is tab c.args.row (c.at-w-in-Object.ensures names) (c.is_array-in-Object.ensures _ _ (c.at-w-in-Object.ensures names)) ∙ c.if-w-is_array.true))) c.object.ensures
 
 pub plain-returns-else-w-is_array : goal.plain-returns-else-w-is_array
 plain-returns-else-w-is_array t c =
     let names = c.args.names.now in
     let tab = table c.args.types.now names in
     let s = c.args.s.now in
-    reads-no c.refused-in-Object.ensures (over_no tab c.args.row (plain-no-object tab s c.args.row c.args.place c.args.depth c.if-depth-eq0-2.false (sym c.requires.token_value ∙ c.in-Object.is) (λ h. c.if-w-eq-CHOICE.false (sym (sym (kind-of _ c.args.row (c.at-w.ensures names))) ∙ h)) (sequence-is tab c.args.row (c.at-w.ensures names) (c.is_array-in-Object.ensures _ _ (c.at-w.ensures names)) ∙ c.if-w-is_array.false)))
+    reads-no c.refused-in-Object.ensures (over_no tab c.args.row (plain-no-object tab s c.args.row c.args.place c.args.depth c.if-depth-eq0-2.false (sym c.requires.token_value ∙ c.in-Object.is) (λ h. c.if-w-eq-CHOICE.false (sym (sym (kind-of _ c.args.row (c.at-w-in-Object.ensures names))) ∙ h)) (sequence-is tab c.args.row (c.at-w-in-Object.ensures names) (c.is_array-in-Object.ensures _ _ (c.at-w-in-Object.ensures names)) ∙ c.if-w-is_array.false)))
 
 pub value-returns-then-not-is_unwrapped : goal.value-returns-then-not-is_unwrapped
 value-returns-then-not-is_unwrapped t c =
