@@ -1,6 +1,6 @@
 // Typed reading by places of the text, as definitions in the shape of the code, with the proof that on a JSON text they are the
-// meaning of its tree. Code stands in the crates above; its contracts cite `specs/ByPlaces.antt`, and public ones the meaning alone.
-// What the code and the definitions answer alike is declared here, once.
+// meaning of its tree. The readers stand in the crates above; their contracts cite `specs/ByPlaces.antt`, and public ones the meaning
+// alone. What the code and the definitions answer alike is declared here, once, with the refusal that a stopped scan becomes.
 #![tactic(auto)]
 
 ghost use Rattle.std.specs.Prelude.{◌≡◌};

@@ -10,7 +10,7 @@ use scan::met::bit;
 use scan::parts::{null_absent, null_at};
 use types::row::{count_of, may_miss};
 
-// The value at the place is null, for the absence of the member at k of an object.
+// The value at the place is null, for the absence of the member at k of an object. Over slices, as the next: neither needs what `Source` holds.
 #[tactic(auto, unfolding(places::specs::ByPlaces::is_null_at))]
 pub fn absent_at(types: &[u32], s: &[u8], row: usize, k: u32, place: usize) -> bool
     ensures { (ns : List ℕ) → result ≡ (eqb (byte_at s.now place) 0x6E && null_absent (table types.now ns) row k) }

